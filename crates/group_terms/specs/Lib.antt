@@ -1,0 +1,5 @@
+pub mod Changes
+pub mod Lends
+pub mod Logs
+pub mod Names
+pub mod Positions

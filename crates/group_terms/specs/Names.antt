@@ -1,0 +1,42 @@
+-- Names of members: what a script may call one, and when two are the same.
+use Rattle.std.specs.Prelude.{◌≡◌, ℕ, ◌-◌, ◌≤◌, ◌==◌, ◌&&◌, ◌||◌, nat_le, Bool, true, List, ◌++◌, length, take, replicate, Option, Some, None, if◌then◌else◌}
+use Rattle.std.specs.List.{list_all}
+use Rattle.std.specs.Str.{bytes_eq}
+use Rattle.std.proofs.Common.{sym}
+use Rattle.std.proofs.lemmas.List.{length-take-le}
+
+-- a name is the octets of its text
+abbrev pub Name : Type 0
+Name = List ℕ
+
+-- a letter from a to z, a digit, or _
+abbrev pub is_name_octet : ℕ → Bool
+is_name_octet c = (nat_le 97 c && nat_le c 122) || ((nat_le 48 c && nat_le c 57) || c == 95)
+
+-- 1 to 32 such octets
+abbrev pub is_name : List ℕ → Bool
+is_name text = nat_le 1 (length text) && (nat_le (length text) 32 && list_all is_name_octet text)
+
+-- the name that a text is, where it is one
+abbrev pub name_of : List ℕ → Option Name
+name_of text = if is_name text then Some text else None
+
+abbrev pub same_name : Name → Name → Bool
+same_name = bytes_eq
+
+-- a name at the front of a field of 32 octets, with zeros behind it
+abbrev pub padded : Name → List ℕ
+padded text = text ++ replicate (32 - length text) 0
+
+-- a field of 32 octets has a name of this size at its front, and zeros behind it
+pub record HoldsName (field : List ℕ) (size : ℕ) : Type 0 where
+  pub fits : size ≤ 32
+  pub whole : length field ≡ 32
+  pub name : is_name (take size field) ≡ true
+  pub zeros : field ≡ take size field ++ replicate (32 - size) 0
+
+-- such a field is that of the name in it
+pub padded-take : (field : List ℕ) (size : ℕ) → HoldsName field size → padded (take size field) ≡ field
+padded-take field size h =
+    let enough : size ≤ length field = rw h.whole h.fits in
+    rw (length-take-le size field enough) (sym h.zeros)

@@ -1,0 +1,43 @@
+use crate::{Batch, Change, List, Log, MOST_CHANGES, MemberName};
+use std::test::Fail;
+
+#[test]
+fn lists_and_logs_take_what_there_is_memory_for(rt: HostRuntime) -> Result<(), Fail> {
+    let alloc = rt.alloc();
+    let mut list = List::with_room(alloc, 2)?;
+    list.push(7u8)?;
+    list.extend(&[8, 9])?;
+    for octet in list.as_mut_slice() {
+        *octet = octet.wrapping_add(1);
+    }
+    assert_eq!(rt; list.as_slice(), [8, 9, 10].as_slice());
+    assert_eq!(rt; list.pop(), Some(10));
+    list.truncate(1);
+    assert_eq!(rt; (list.len(), list.is_empty()), (1, false));
+
+    let mut log = Log::of(list);
+    log.reserve(2)?;
+    log.add(3);
+    log.add(4);
+    assert_eq!(rt; log.items(), [8, 3, 4].as_slice());
+    let mut list = List::from_vec(log.into_list().into_vec());
+    list.clear();
+    assert!(rt; list.is_empty());
+    assert!(rt; List::<u8>::new(alloc).pop().is_none());
+    assert_eq!(rt; List::copy_of(alloc, b"abc")?.as_slice(), b"abc".as_slice());
+    Ok(())
+}
+
+#[test]
+fn a_batch_has_its_changes_in_order(rt: HostRuntime) -> Result<(), Fail> {
+    let member = MemberName::read(b"a_1").ok_or("a name")?;
+    let changes = [Change::Out { member }, Change::default()];
+    let mut batch = Batch::new();
+    batch.push(changes[0]);
+    batch.push(changes[1]);
+    assert_eq!(rt; batch.changes(), changes.as_slice());
+    assert_eq!(rt; changes[0].member().text(), b"a_1".as_slice());
+    assert_eq!(rt; changes[1].member().text(), b"_".as_slice());
+    assert!(rt; MemberName::read(b"A").is_none());
+    Ok(())
+}
