@@ -1,2 +1,3 @@
 pub mod BelowLemmas
+pub mod MarkLemmas
 pub mod NameLemmas

@@ -1,5 +1,5 @@
 -- Behind the text stand the zeros that it does not cover.
-use Rattle.std.proofs.Common.{◌++◌, ℕ, length, ap}
+use Rattle.std.proofs.Common.{◌++◌, length, ap}
 use Rattle.std.proofs.lemmas.List.{drop-replicate}
 use Rattle.group_terms.proofs.names.field_of.Goals as goal
 

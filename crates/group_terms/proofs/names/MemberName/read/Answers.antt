@@ -1,7 +1,7 @@
 -- A text that passes the test is read back from its field.
-use Rattle.std.proofs.Common.{◌≡◌, Option, Some, None, cond, true, ap, ◌∙◌, sym}
+use Rattle.std.proofs.Common.{◌≡◌, Some, None, true, sym}
 use Rattle.std.proofs.lemmas.Bool.{cond-true}
-use Rattle.group_terms.specs.Names.{Name, is_name, padded, HoldsName}
+use Rattle.group_terms.specs.Names.{is_name}
 use Rattle.group_terms.proofs.NameLemmas.{HoldsName-padded, take-padded}
 use Rattle.group_terms.proofs.names.MemberName.read.Goals as goal
 

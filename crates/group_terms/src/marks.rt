@@ -1,0 +1,31 @@
+ghost use Rattle.std.specs.Prelude.{◌≡◌, ◌≤◌, ◌^◌, ◌+◌, ◌++◌, false, length, map, replicate, IfOk};
+ghost use Rattle.std.specs.List.{range_with_len};
+ghost use Rattle.group_terms.specs.Positions.{some_leaf_below};
+
+use crate::{List, NoMemory};
+use std::alloc::Global;
+
+/// For each number up to that of the last leaf, whether a marked leaf stands at this position or below it.
+///
+/// `leaves` has a mark for each leaf of a tree of this depth, by rising leaf.
+pub fn marks_above(alloc: Global, depth: u8, leaves: &[bool]) -> Result<List<bool>, NoMemory>
+    requires depth { depth ≤ 15 }
+    requires leaves { length leaves.now ≡ 2 ^ depth }
+    ensures { IfOk result (λ marks. marks ≡ map (some_leaf_below depth leaves.now) (range_with_len 0 (2 ^ (depth + 1)))) }
+{
+    let mut marks = vec![in alloc; false; leaves.len()]?;
+    marks.extend_from_slice(leaves)?;
+    mark_inner(depth, leaves, &mut marks);
+    Ok(List::from_vec(marks))
+}
+
+/// Marks each inner position that has a marked child, from the lowest up.
+fn mark_inner(depth: u8, leaves: &[bool], marks: &mut [bool])
+    requires leaves { length leaves.now ≡ 2 ^ depth }
+    requires below { marks.old ≡ replicate (2 ^ depth) false ++ leaves.now }
+    ensures { marks.new ≡ map (some_leaf_below depth leaves.now) (range_with_len 0 (2 ^ (depth + 1))) }
+{
+    for v in (1..leaves.len()).rev() {
+        marks[v] = marks[2 * v] | marks[2 * v + 1];
+    }
+}
