@@ -1,10 +1,7 @@
 -- Positions of a binary key tree (RFC 2627 section 5.4). The root is 1, and the children of i are 2i and 2i + 1;
 -- the leaves of a tree of depth d are 2^d to 2^(d + 1) - 1.
-use Rattle.std.specs.Prelude.{◌≡◌, ℕ, zero, suc, ◌+◌, ◌/◌, ◌^◌, ◌<◌, ◌≤◌, ◌==◌, ◌&&◌, ◌||◌, Bool, List}
+use Rattle.std.specs.Prelude.{◌≡◌, ℕ, zero, suc, ◌/◌, ◌^◌, ◌==◌, ◌&&◌, ◌||◌, Bool, List}
 use Rattle.std.specs.List.{list_any, enumerate_from}
-
-abbrev pub IsLeaf : ℕ → ℕ → Type 0
-IsLeaf depth x = (2 ^ depth ≤ x) × (x < 2 ^ (depth + 1))
 
 -- x halved so many times, each time rounded down: the position so many steps nearer the root
 abbrev pub halved : ℕ → ℕ → ℕ

@@ -7,7 +7,7 @@ pub enum KeyName {
     Node { id: LkhId, made: u32 },
     /// The key of the group's traffic in the epoch `made`.
     Traffic { made: u32 },
-    /// The key that a member's phase 1 with the server made (RFC 6407 section 3).
+    /// The key that a member's phase 1 with the server made (RFC 6407 section 2).
     Phase { member: MemberName },
 }
 

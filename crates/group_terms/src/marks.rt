@@ -11,7 +11,8 @@ use std::alloc::Global;
 pub fn marks_above(alloc: Global, depth: u8, leaves: &[bool]) -> Result<List<bool>, NoMemory>
     requires depth { depth ≤ 15 }
     requires leaves { length leaves.now ≡ 2 ^ depth }
-    ensures { IfOk result (λ marks. marks ≡ map (some_leaf_below depth leaves.now) (range_with_len 0 (2 ^ (depth + 1)))) }
+    ensures marks { IfOk result (λ marks. marks ≡ map (some_leaf_below depth leaves.now) (range_with_len 0 (2 ^ (depth + 1)))) }
+    ensures len { IfOk result (λ marks. length marks ≡ 2 ^ (depth + 1)) }
 {
     let mut marks = vec![in alloc; false; leaves.len()]?;
     marks.extend_from_slice(leaves)?;

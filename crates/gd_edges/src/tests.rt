@@ -1,0 +1,100 @@
+use crate::{Failed, Sink, Source, StdSink, StdSource, TextSink, TextSource};
+use group_terms::List;
+use std::io;
+use std::io::{ErrorKind, Read, Write};
+use std::test::Fail;
+
+#[test]
+fn a_text_comes_in_pieces_and_fails_at_the_calls_listed(rt: HostRuntime) -> Result<(), Fail> {
+    let alloc = rt.alloc();
+    let fails = List::copy_of(alloc, &[2, 9])?;
+    let mut source = TextSource::new(List::copy_of(alloc, b"abcde")?, fails);
+    let mut room = [b'-'; 3];
+    for (answer, got, rest) in [
+        (Ok(3), "abc", "de"),
+        (Err(Failed), "abc", "de"),
+        (Ok(2), "dec", ""),
+        (Ok(0), "dec", ""),
+    ] {
+        assert_eq!(rt; source.take(&mut room), answer, "before {rest:?}");
+        assert_eq!(rt; room.as_slice(), got.as_bytes());
+        assert_eq!(rt; source.rest(), rest.as_bytes());
+    }
+    Ok(())
+}
+
+#[test]
+fn a_sink_in_memory_takes_whole_pieces_and_fails_at_the_calls_listed(
+    rt: HostRuntime,
+) -> Result<(), Fail> {
+    let alloc = rt.alloc();
+    let mut sink = TextSink::new(alloc, List::copy_of(alloc, &[2])?);
+    for (answer, written) in [(Ok(2), "xy"), (Err(Failed), "xy"), (Ok(2), "xyxy")] {
+        assert_eq!(rt; sink.put(b"xy"), answer, "at {written:?}");
+        assert_eq!(rt; sink.octets(), written.as_bytes());
+    }
+    Ok(())
+}
+
+#[test]
+fn a_reader_of_std_is_a_source(rt: HostRuntime) {
+    let mut source = StdSource::new(b"abc".as_slice());
+    let mut room = [b'-'; 2];
+    for (answer, got) in [(2, "ab"), (1, "cb"), (0, "cb")] {
+        assert_eq!(rt; source.take(&mut room), Ok(answer));
+        assert_eq!(rt; room.as_slice(), got.as_bytes());
+    }
+    assert_eq!(rt;
+        StdSource::new(Trouble::AtOnce).take(&mut room),
+        Err(Failed)
+    );
+}
+
+#[test]
+fn a_writer_of_std_is_a_sink(rt: HostRuntime) {
+    let mut written = Vec::new(rt.alloc());
+    {
+        let mut sink = StdSink::new(&mut written);
+        assert_eq!(rt; sink.put(b"ab"), Ok(2));
+        assert_eq!(rt; sink.put(b"c"), Ok(1));
+    }
+    assert_eq!(rt; written.as_slice(), b"abc".as_slice());
+    for trouble in [Trouble::AtOnce, Trouble::TakesNothing, Trouble::AtFlush] {
+        assert_eq!(rt;
+            StdSink::new(trouble).put(b"ab"),
+            Err(Failed),
+            "{trouble:?}"
+        );
+    }
+}
+
+/// What goes wrong at a reader or writer.
+#[derive(Clone, Copy, Debug)]
+enum Trouble {
+    AtOnce,
+    TakesNothing,
+    AtFlush,
+}
+
+impl Read for Trouble {
+    fn read(&mut self, _buf: &mut [u8]) -> io::Result<usize> {
+        Err(io::Error::new(ErrorKind::BrokenPipe, "no reader"))
+    }
+}
+
+impl Write for Trouble {
+    fn write(&mut self, buf: &[u8]) -> io::Result<usize> {
+        match self {
+            Trouble::AtOnce => Err(io::Error::new(ErrorKind::BrokenPipe, "no writer")),
+            Trouble::TakesNothing => Ok(0),
+            Trouble::AtFlush => Ok(buf.len()),
+        }
+    }
+
+    fn flush(&mut self) -> io::Result<()> {
+        match self {
+            Trouble::AtFlush => Err(io::Error::new(ErrorKind::BrokenPipe, "no flush")),
+            _ => Ok(()),
+        }
+    }
+}

@@ -1,0 +1,10 @@
+pub mod Fresh
+pub mod Groups
+pub mod Histories
+pub mod Legal
+pub mod Places
+pub mod Rows
+pub mod Stayed
+pub mod Trees
+pub mod Unchanged
+pub mod Wraps

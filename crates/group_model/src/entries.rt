@@ -1,0 +1,128 @@
+use crate::{KeyName, List, LkhId, MemberName, Octets, Wrap};
+
+/// One event of a history: what was asked of the key server, what the outside did meanwhile, and what was answered.
+#[derive(Debug, Drop)]
+pub struct Entry {
+    pub asked: Asked,
+    pub outside: Outside,
+    pub answer: Answer,
+}
+
+/// What is asked of the key server.
+#[derive(Debug, Drop)]
+pub enum Asked {
+    /// To make a group with a tree of this depth.
+    Create { depth: u8 },
+    /// To let a name in with the next batch.
+    Join { member: MemberName },
+    /// To take a member out with the next batch.
+    Leave { member: MemberName },
+    /// To close the batch: the pending changes make the next epoch.
+    Batch,
+}
+
+/// What the outside did during a request.
+#[derive(Clone, Copy, Debug, PartialEq, Eq)]
+pub struct Outside {
+    /// A call on the disk failed.
+    pub disk_failed: bool,
+    /// The epoch at which an opening stands; `None` for any other request.
+    pub found: Option<u32>,
+    /// The place of the server's draws before the request.
+    pub place: u64,
+}
+
+/// What is answered.
+#[derive(Debug, Drop)]
+pub enum Answer {
+    Done,
+    /// The change is pending.
+    Queued,
+    Batched {
+        output: Output,
+    },
+    /// The group stands; the pair of pushes of its last batch was sent again, where there is one.
+    Opened {
+        group: GroupSeen,
+        resent: Option<PushPair>,
+    },
+    /// The request changes nothing.
+    Nothing,
+    Refused {
+        why: Refusal,
+    },
+}
+
+/// Why the key server refuses a request.
+#[derive(Clone, Copy, Debug, PartialEq, Eq)]
+pub enum Refusal {
+    /// The name is not a member of the present epoch.
+    NotMember,
+    /// A change of this member is pending.
+    AlreadyPending,
+    /// The members that are not leaving and the pending joins have taken all `held` leaves.
+    TreeFull { held: u32 },
+    /// There was no memory.
+    NoMemory,
+}
+
+/// What a batch puts out.
+#[derive(Debug, Drop)]
+pub struct Output {
+    /// The epoch that it made.
+    pub epoch: u32,
+    /// The number of the last push.
+    pub sequence: u32,
+    /// How many members there are.
+    pub members: u32,
+    /// The encryptions between tree keys and then that of the traffic key, where somebody stayed; else none.
+    pub wraps: List<Wrap>,
+    pub pushes: Option<PushPair>,
+    /// One reply to each member that came in.
+    pub replies: List<SentReply>,
+}
+
+/// The two pushes of a batch (RFC 6407 section 4): the new tree keys, and under them the new traffic key.
+#[derive(Debug, Drop)]
+pub struct PushPair {
+    /// The sequence number of the membership push; the traffic push has the next.
+    pub first: u32,
+    pub membership: Octets,
+    pub traffic: Octets,
+    /// What the two encrypt.
+    pub wraps: List<Wrap>,
+}
+
+/// A reply as it was sent: what it says by key names, and its datagram.
+#[derive(Debug, Drop)]
+pub struct SentReply {
+    pub says: SymReply,
+    pub datagram: Octets,
+}
+
+/// What a reply to a member says (RFC 6407 section 3.2): the keys on its way to the root, and the traffic key.
+#[derive(Debug, Drop)]
+pub struct SymReply {
+    pub member: MemberName,
+    /// The epoch whose keys these are.
+    pub keyed_epoch: u32,
+    pub sequence: u32,
+    pub names: List<KeyName>,
+}
+
+/// A group as somebody sees it who asks.
+#[derive(Debug, Drop)]
+pub struct GroupSeen {
+    pub depth: u8,
+    pub epoch: u32,
+    pub sequence: u32,
+    /// Its members, by rising leaf.
+    pub members: List<Standing>,
+}
+
+/// A member and its leaf.
+#[derive(Clone, Copy, Debug, PartialEq, Eq)]
+pub struct Standing {
+    pub leaf: LkhId,
+    pub member: MemberName,
+}

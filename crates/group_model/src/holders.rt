@@ -1,0 +1,169 @@
+//! The leaves of a tree and who has them, as a slice by rising leaf.
+ghost use Rattle.std.specs.Prelude.{◌≡◌, ◌≤◌, ◌^◌, ◌&&◌, length, is_some, is_none, IfOk, None, if◌then◌else◌};
+ghost use Rattle.std.specs.List.{position, fold, list_any};
+ghost use Rattle.group_model.specs.Places.{is_held_by, place_in, no_holders, member_count, vacated, placed, leavers, joiners, holders_after};
+ghost use Rattle.group_model.specs.Fresh.{is_same_holder, changed_leaves};
+ghost use Rattle.group_model.specs.Unchanged.{unchanged_holders};
+
+use crate::{Change, List, LkhId, MemberName, NoMemory};
+use std::alloc::Global;
+
+/// Who has a leaf, if anybody has it.
+pub(crate) type Holder = Option<MemberName>;
+
+pub(crate) fn nobody(alloc: Global, depth: u8) -> Result<List<Holder>, NoMemory>
+    requires { depth ≤ 9 }
+    ensures { IfOk result (λ holders. holders ≡ no_holders depth) }
+{
+    Ok(List::from_vec(vec![in alloc; None; 1 << depth]?))
+}
+
+pub(crate) fn is_held_by(holder: &Holder, member: &MemberName) -> bool
+    ensures { result ≡ is_held_by member.now holder.now }
+{
+    match holder {
+        Some(name) => member == name,
+        None => false,
+    }
+}
+
+/// The leaf that a member has.
+pub(crate) fn leaf_of(depth: u8, holders: &[Holder], member: &MemberName) -> Option<LkhId>
+    requires not_deep { depth ≤ 9 }
+    requires leaves { length holders.now ≡ 2 ^ depth }
+    ensures { result ≡ place_in depth holders.now member.now }
+{
+    match place_of(holders, member) {
+        Some(place) => LkhId::new((holders.len() + place) as u16),
+        None => None,
+    }
+}
+
+fn place_of(holders: &[Holder], member: &MemberName) -> Option<usize>
+    ensures { result ≡ position (is_held_by member.now) holders.now }
+{
+    holders.iter().position(|holder| is_held_by(holder, member))
+}
+
+pub(crate) fn count_members(holders: &[Holder]) -> usize
+    ensures count { result ≡ member_count holders.now }
+    ensures within { result ≤ length holders.now }
+{
+    holders.iter().filter(|holder| holder.is_some()).count()
+}
+
+/// Removes the members that the batch takes out, and then gives those that it lets in a leaf each.
+pub(crate) fn change(holders: &mut [Holder], batch: &[Change])
+    ensures { holders.new ≡ holders_after holders.old batch.now }
+{
+    vacate_all(holders, batch);
+    place_all(holders, batch);
+}
+
+fn vacate_all(holders: &mut [Holder], batch: &[Change])
+    ensures { holders.new ≡ fold vacated holders.old (leavers batch.now) }
+{
+    for change in batch {
+        if let Change::Out { member } = change {
+            vacate(holders, member);
+        }
+    }
+}
+
+fn place_all(holders: &mut [Holder], batch: &[Change])
+    ensures { holders.new ≡ fold placed holders.old (joiners batch.now) }
+{
+    for change in batch {
+        if let Change::In { member } = change {
+            place(holders, member);
+        }
+    }
+}
+
+fn vacate(holders: &mut [Holder], member: &MemberName)
+    ensures { holders.new ≡ vacated holders.old member.now }
+{
+    for holder in holders.iter_mut() {
+        *holder = unless_held_by(*holder, member);
+    }
+}
+
+fn unless_held_by(holder: Holder, member: &MemberName) -> Holder
+    ensures { result ≡ (if is_held_by member.now holder then None else holder) }
+{
+    if is_held_by(&holder, member) {
+        None
+    } else {
+        holder
+    }
+}
+
+fn place(holders: &mut [Holder], member: &MemberName)
+    ensures { holders.new ≡ placed holders.old member.now }
+{
+    if let Some(free) = lowest_free(holders) {
+        holders[free] = Some(*member);
+    }
+}
+
+fn lowest_free(holders: &[Holder]) -> Option<usize>
+    ensures { result ≡ position is_none holders.now }
+{
+    holders.iter().position(|holder| holder.is_none())
+}
+
+/// For each leaf, whether who has it changed.
+pub(crate) fn changed(
+    alloc: Global,
+    before: &[Holder],
+    after: &[Holder],
+) -> Result<List<bool>, NoMemory>
+    requires { length before.now ≡ length after.now }
+    ensures leaves { IfOk result (λ leaves. leaves ≡ changed_leaves before.now after.now) }
+    ensures len { IfOk result (λ leaves. length leaves ≡ length after.now) }
+{
+    let mut leaves = List::with_room(alloc, after.len())?;
+    for (i, holder) in after.iter().enumerate() {
+        leaves.push(!is_same(&before[i], holder))?;
+    }
+    Ok(leaves)
+}
+
+/// For each leaf, whether somebody has it who had it before.
+pub(crate) fn held_on(
+    alloc: Global,
+    before: &[Holder],
+    after: &[Holder],
+) -> Result<List<bool>, NoMemory>
+    requires { length before.now ≡ length after.now }
+    ensures leaves { IfOk result (λ leaves. leaves ≡ unchanged_holders before.now after.now) }
+    ensures len { IfOk result (λ leaves. length leaves ≡ length after.now) }
+{
+    let mut leaves = List::with_room(alloc, after.len())?;
+    for (i, holder) in after.iter().enumerate() {
+        leaves.push(is_held_on(&before[i], holder))?;
+    }
+    Ok(leaves)
+}
+
+fn is_held_on(before: &Holder, after: &Holder) -> bool
+    ensures { result ≡ (is_some after.now && is_same_holder before.now after.now) }
+{
+    after.is_some() && is_same(before, after)
+}
+
+fn is_same(before: &Holder, after: &Holder) -> bool
+    ensures { result ≡ is_same_holder before.now after.now }
+{
+    match after {
+        Some(holder) => is_held_by(before, holder),
+        None => before.is_none(),
+    }
+}
+
+/// Whether a leaf is marked.
+pub(crate) fn any(leaves: &[bool]) -> bool
+    ensures { result ≡ list_any (λ passes. passes) leaves.now }
+{
+    leaves.iter().any(|passes| *passes)
+}

@@ -1,0 +1,19 @@
+//! A group as a plain list of batches: who has which leaf, which key is new when, and what is encrypted under what; and the
+//! entries of which a history of the key server is made.
+#![tactic(auto)]
+
+pub use entries::{
+    Answer, Asked, Entry, GroupSeen, Output, Outside, PushPair, Refusal, SentReply, Standing,
+    SymReply,
+};
+pub use group_terms::{
+    Batch, Change, KeyName, List, LkhId, Log, MOST_CHANGES, MemberName, NoMemory, Octets, Wrap,
+};
+pub use history::History;
+pub use laws::{members_never_share_a_leaf, places_stay_while_members_stay};
+
+mod entries;
+mod history;
+mod holders;
+mod laws;
+mod trees;
