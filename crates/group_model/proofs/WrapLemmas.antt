@@ -23,7 +23,7 @@ use Rattle.group_model.proofs.EpochLemmas.{holders_at-append, holders_at-all, ho
 use Rattle.group_model.proofs.StayedLemmas.{kept-unchanged}
 
 -- functions that agree below n make one list of the numbers below n
-map-range_agree : {X : Type 0} (f g : ℕ → X) (n : ℕ) (d : X) → ((v : ℕ) → v < n → f v ≡ g v) → map f (range_with_len 0 n) ≡ map g (range_with_len 0 n)
+pub map-range_agree : {X : Type 0} (f g : ℕ → X) (n : ℕ) (d : X) → ((v : ℕ) → v < n → f v ≡ g v) → map f (range_with_len 0 n) ≡ map g (range_with_len 0 n)
 map-range_agree f g n d agree =
     fill_by_all g (map f (range_with_len 0 n)) n d (length-map-range_with_len f 0 n) (λ k low. get_or-map-range_with_len f 0 n k k d low (omega arith) ∙ agree k low)
 

@@ -1,5 +1,5 @@
 -- The encryptions that a batch sends, by key names (Wong, Gouda and Lam, group-oriented rekeying; RFC 6407 section 5.6.3).
-use Rattle.std.specs.Prelude.{ℕ, zero, suc, ◌+◌, ◌-◌, ◌*◌, ◌^◌, List, [], ◌∷◌, ◌++◌, map, if◌then◌else◌}
+use Rattle.std.specs.Prelude.{ℕ, zero, suc, ◌+◌, ◌-◌, ◌*◌, ◌^◌, Bool, true, false, List, [], ◌∷◌, ◌++◌, map, if◌then◌else◌}
 use Rattle.std.specs.List.{filter, flat_map}
 use Rattle.group_terms.specs.Positions.{some_leaf_below}
 use Rattle.group_terms.specs.declared.changes.Change.{Change}
@@ -30,3 +30,8 @@ module _ (depth : ℕ) (batches : List (List Change)) (epoch : ℕ) where
   -- and last the traffic key under the root; none where nobody stayed
   unfoldable pub wraps_at : List Wrap
   wraps_at = if stayed_at depth batches epoch then node_wraps ++ record { by = Node 1 epoch; gives = Traffic epoch } ∷ [] else []
+
+-- whether nothing is encrypted
+abbrev pub is_nil : List Wrap → Bool
+is_nil [] = true
+is_nil (wrap ∷ wraps) = false

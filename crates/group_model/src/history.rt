@@ -1,6 +1,6 @@
 //! A tree's batches as a plain list, with what they make of the tree.
-ghost use Rattle.std.specs.Prelude.{◌≡◌, ◌+◌, ◌≤◌, ◌<◌, [], ◌∷◌, ◌++◌, length, MatchOption, IfSome, IfOk, OnOk, OnErr};
-ghost use Rattle.group_model.specs.Places.{Fits, IsValid, holders_of, holders_at, place_in, member_count};
+ghost use Rattle.std.specs.Prelude.{◌≡◌, ◌+◌, ◌-◌, ◌^◌, ◌≤◌, ◌<◌, [], ◌∷◌, ◌++◌, length, take, MatchOption, IfSome, IfOk, OnOk, OnErr};
+ghost use Rattle.group_model.specs.Places.{Fits, IsValid, holders_of, holders_at, place_in, is_member, member_count};
 ghost use Rattle.group_model.specs.Fresh.{last_change};
 ghost use Rattle.group_model.specs.Wraps.{wraps_at};
 
@@ -60,6 +60,14 @@ impl History {
         self.depth
     }
 
+    /// How many leaves the tree has.
+    pub fn leaves(&self) -> usize
+        ensures leaves { result ≡ 2 ^ self.now.depth }
+        ensures few { result ≤ 512 }
+    {
+        1 << self.depth
+    }
+
     /// The present epoch: the number of batches.
     pub fn epoch(&self) -> u32
         ensures { result ≡ length self.now.batches }
@@ -81,6 +89,15 @@ impl History {
         Ok(())
     }
 
+    /// Takes the last batch off again.
+    pub fn undo(&mut self)
+        requires { 0 < length self.old.batches }
+        ensures depth { self.new.depth ≡ self.old.depth }
+        ensures batches { self.new.batches ≡ take (length self.old.batches - 1) self.old.batches }
+    {
+        self.rows.truncate(self.rows.len() - 1);
+    }
+
     /// The leaf that a member has at an epoch; `None` exactly where nobody of this name is a member then (RFC 2627
     /// section 5.4).
     pub fn place(&self, epoch: u32, member: &MemberName) -> Option<LkhId>
@@ -90,6 +107,17 @@ impl History {
         match self.tree(epoch) {
             Some(tree) => holders::leaf_of(self.depth(), tree.holders.as_slice(), member),
             None => None,
+        }
+    }
+
+    /// Whether somebody of this name is a member at an epoch.
+    pub fn is_member(&self, epoch: u32, member: &MemberName) -> bool
+        requires { epoch ≤ length self.now.batches }
+        ensures { result ≡ is_member (holders_at self.now.depth self.now.batches epoch) member.now }
+    {
+        match self.tree(epoch) {
+            Some(tree) => holders::has_member(tree.holders.as_slice(), member),
+            None => false,
         }
     }
 

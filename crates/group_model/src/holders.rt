@@ -1,7 +1,7 @@
 //! The leaves of a tree and who has them, as a slice by rising leaf.
 ghost use Rattle.std.specs.Prelude.{◌≡◌, ◌≤◌, ◌^◌, ◌&&◌, length, is_some, is_none, IfOk, None, if◌then◌else◌};
 ghost use Rattle.std.specs.List.{position, fold, list_any};
-ghost use Rattle.group_model.specs.Places.{is_held_by, place_in, no_holders, member_count, vacated, placed, leavers, joiners, holders_after};
+ghost use Rattle.group_model.specs.Places.{is_held_by, place_in, no_holders, is_member, member_count, vacated, placed, leavers, joiners, holders_after};
 ghost use Rattle.group_model.specs.Fresh.{is_same_holder, changed_leaves};
 ghost use Rattle.group_model.specs.Unchanged.{unchanged_holders};
 
@@ -37,6 +37,12 @@ pub(crate) fn leaf_of(depth: u8, holders: &[Holder], member: &MemberName) -> Opt
         Some(place) => LkhId::new((holders.len() + place) as u16),
         None => None,
     }
+}
+
+pub(crate) fn has_member(holders: &[Holder], member: &MemberName) -> bool
+    ensures { result ≡ is_member holders.now member.now }
+{
+    holders.iter().any(|holder| is_held_by(holder, member))
 }
 
 fn place_of(holders: &[Holder], member: &MemberName) -> Option<usize>

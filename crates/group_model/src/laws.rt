@@ -1,9 +1,16 @@
 //! What the definitions mean, said of every list of batches.
-ghost use Rattle.std.specs.Prelude.{◌≡◌, ℕ, ◌+◌, ◌<◌, List, length, Some, true};
+ghost use Rattle.std.specs.Prelude.{◌≡◌, ℕ, ◌+◌, ◌^◌, ◌<◌, List, [], ◌∷◌, ◌++◌, length, Some, true, if◌then◌else◌};
 ghost use Rattle.group_terms.specs.Names.{Name};
 ghost use Rattle.group_terms.specs.declared.changes.Change.{Change};
-ghost use Rattle.group_model.specs.Places.{IsValid, holders_at, place_in};
-ghost use Rattle.group_model.specs.Stayed.{has_stayed};
+ghost use Rattle.group_model.specs.Places.{IsValid, holders_of, holders_at, place_in};
+ghost use Rattle.group_model.specs.Stayed.{has_stayed, sequence_at};
+ghost use Rattle.group_model.specs.Wraps.{wraps_at, is_nil};
+
+/// Each leaf of the tree has its place among the holders, at every epoch.
+pub fn each_leaf_has_its_place()
+    ensures { (depth : ℕ) (batches : List (List Change)) → length (holders_of depth batches) ≡ 2 ^ depth }
+{
+}
 
 /// Two members never have one leaf.
 pub fn members_never_share_a_leaf()
@@ -16,4 +23,11 @@ pub fn places_stay_while_members_stay()
     ensures { (depth epoch : ℕ) (batches : List (List Change)) (m : Name) → IsValid depth batches → epoch < length batches →
         has_stayed (holders_at depth batches epoch) (holders_at depth batches (epoch + 1)) m ≡ true →
         place_in depth (holders_at depth batches (epoch + 1)) m ≡ place_in depth (holders_at depth batches epoch) m }
+{}
+
+/// A batch that encrypts something uses the next two sequence numbers; any other one uses none.
+pub fn a_batch_that_wraps_uses_two_numbers()
+    ensures { (depth : ℕ) (batches : List (List Change)) (batch : List Change) →
+        sequence_at depth (batches ++ batch ∷ []) (length batches + 1)
+        ≡ sequence_at depth batches (length batches) + (if is_nil (wraps_at depth (batches ++ batch ∷ []) (length batches + 1)) then 0 else 2) }
 {}

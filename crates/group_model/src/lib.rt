@@ -10,7 +10,9 @@ pub use group_terms::{
     Batch, Change, KeyName, List, LkhId, Log, MOST_CHANGES, MemberName, NoMemory, Octets, Wrap,
 };
 pub use history::History;
-pub use laws::{members_never_share_a_leaf, places_stay_while_members_stay};
+pub use laws::{
+    a_batch_that_wraps_uses_two_numbers, each_leaf_has_its_place, members_never_share_a_leaf, places_stay_while_members_stay,
+};
 
 mod entries;
 mod history;

@@ -1,0 +1,4 @@
+pub mod FitLemmas
+pub mod KnownLemmas
+pub mod ScriptLemmas
+pub mod StandLemmas

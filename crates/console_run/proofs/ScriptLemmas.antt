@@ -1,0 +1,184 @@
+-- Lines, requests and entries, one after the other.
+use Rattle.std.proofs.Common.{◌≡◌, ℕ, zero, suc, ◌+◌, ◌-◌, ◌*◌, ◌<◌, ◌≤◌, Bool, true, false, cond, eqb, ◌&&◌, ◌||◌, List, [], ◌∷◌, ◌++◌, Option, Some, None, length, map, sym, refl, ap, ◌∙◌, subst, arith}
+use Rattle.std.specs.Prelude.{is_some}
+use Rattle.std.specs.List.{fold, flat_map, list_any, list_all}
+use Rattle.std.specs.Io.KnownBytes.{Appends}
+use Rattle.std.proofs.lemmas.Bool.{ne_eqb, and_from, le-leb, false≢true}
+use Rattle.std.proofs.lemmas.List.{append_assoc, append-nil, map-append, length-append}
+use Rattle.std.proofs.lemmas.List.Concat.{flat_map-append}
+use Rattle.std.proofs.lemmas.List.Folds.{list_any-append, list_all-append}
+use Rattle.std.proofs.lemmas.List.Sums.{fold-append}
+use Rattle.group_model.specs.declared.entries.Entry.{Entry}
+use Rattle.group_model.specs.declared.entries.Asked.{Asked}
+use Rattle.group_model.specs.declared.entries.Asked.TheVariants.{Create}
+use Rattle.group_model.specs.Groups.{Group, no_group, after_entry, group_after}
+use Rattle.group_model.specs.Legal.{IsStep, AreSteps, IsLegal, is_want, wants_memory}
+use Rattle.script_text.specs.Report.{entry_text, entries_text}
+use Rattle.console_run.specs.Scripts.{Cut, cut_more, cut_of, unfinished, script_lines, is_line, line_requests, requests_in, IsRunOf}
+use Rattle.console_run.specs.Standing.{IsAnswered, Answers}
+use Rattle.console_run.specs.Steps.{Tells, RunsLine, IsSoFar, GoesOn, Ends, IsFollowed}
+use Rattle.console_run.proofs.KnownLemmas.{Appends-none, Appends-then}
+
+-- steps go on from what the earlier ones made
+pub AreSteps-append : (group : Group) (entries more : List Entry) → AreSteps group entries → AreSteps (group_after group entries) more → AreSteps group (entries ++ more)
+AreSteps-append group [] more h k = k
+AreSteps-append group (entry ∷ entries) more h k = (h.0, AreSteps-append (after_entry group entry) entries more h.1 k)
+
+-- one entry answers one request
+pub Tells-one : (old new : List Entry) (was now : Option (List ℕ)) (request : Asked) (entry : Entry) → IsAnswered old new request entry → Appends was now (entry_text entry) → Tells old new was now (request ∷ []) (entry ∷ [])
+Tells-one old new was now request entry h told = record {
+  grown = h.appended;
+  told = subst (Appends was now) (sym (append-nil (entry_text entry))) told;
+  asked = ap (λ asked. asked ∷ []) h.asked;
+  steps = (h.step, tt);
+  granted = ap (λ want. want || false) h.granted;
+}
+
+pub Tells-none : (entries : List Entry) (known : Option (List ℕ)) → Tells entries entries known known [] []
+Tells-none entries known = record { grown = sym (append-nil entries); told = Appends-none known; asked = refl; steps = tt; granted = refl }
+
+-- a legal history goes on
+IsLegal-append : (requests next : List Asked) (entries more : List Entry) → IsLegal requests entries → map (λ (entry : Entry). entry.asked) more ≡ next → AreSteps (group_after no_group entries) more → IsLegal (requests ++ next) (entries ++ more)
+IsLegal-append requests next entries more h asked steps = record {
+  asked = map-append (λ (entry : Entry). entry.asked) entries more ∙ ap (λ rs. rs ++ map (λ (entry : Entry). entry.asked) more) h.asked ∙ ap (λ rs. requests ++ rs) asked;
+  steps = AreSteps-append no_group entries more h.steps steps;
+}
+
+wants-append : (entries more : List Entry) → wants_memory entries ≡ false → wants_memory more ≡ false → wants_memory (entries ++ more) ≡ false
+wants-append entries more h k = list_any-append (λ (entry : Entry). is_want entry.answer) entries more ∙ ap (λ b. b || wants_memory more) h ∙ k
+
+cut_of-more : (octets : List ℕ) (octet : ℕ) → cut_of (octets ++ octet ∷ []) ≡ cut_more (cut_of octets) octet
+cut_of-more octets octet = fold-append cut_more (record { lines = []; rest = [] }) octets (octet ∷ [])
+
+module _ (entries : List Entry) (line : List ℕ) (count : ℕ) (was now : Option (List ℕ)) where
+  -- an octet that ends no line is kept
+  pub GoesOn-octet : (octet : ℕ) → (octet ≡ 10 → ⊥) → GoesOn (octet ∷ []) entries entries line (line ++ octet ∷ []) count count was was []
+  GoesOn-octet octet other = record {
+    grown = sym (append-nil entries);
+    told = Appends-none was;
+    so_far = λ depth before h.
+        let cut : cut_of (before ++ octet ∷ []) ≡ record { lines = (cut_of before).lines; rest = (cut_of before).rest ++ octet ∷ [] } =
+        cut_of-more before octet ∙ ap (λ ends. cond ends (record { lines = (cut_of before).lines ++ (cut_of before).rest ∷ []; rest = [] }) (record { lines = (cut_of before).lines; rest = (cut_of before).rest ++ octet ∷ [] })) (ne_eqb octet 10 other) in
+        record {
+          rest = ap (λ (c : Cut). c.rest) cut ∙ ap (λ rest. rest ++ octet ∷ []) h.rest;
+          counted = ap (λ (c : Cut). length c.lines) cut ∙ h.counted;
+          grammar = ap (λ (c : Cut). list_all is_line c.lines) cut ∙ h.grammar;
+          legal = subst (λ (c : Cut). IsLegal (Create depth ∷ requests_in c.lines) entries) (sym cut) h.legal;
+          granted = h.granted;
+        };
+  }
+
+  -- octet 10 ends the line, which is run
+  pub GoesOn-line : (new more : List Entry) → RunsLine line entries new was now more → GoesOn (10 ∷ []) entries new line [] count (count + 1) was now more
+  GoesOn-line new more h = record {
+    grown = h.run.grown;
+    told = h.run.told;
+    so_far = λ depth before so_far.
+        let cut : cut_of (before ++ 10 ∷ []) ≡ record { lines = (cut_of before).lines ++ line ∷ []; rest = [] } =
+        cut_of-more before 10 ∙ ap (λ rest. record { lines = (cut_of before).lines ++ rest ∷ []; rest = [] }) so_far.rest in
+        let lines = (cut_of before).lines in
+        record {
+          rest = ap (λ (c : Cut). c.rest) cut;
+          counted = ap (λ (c : Cut). length c.lines) cut ∙ length-append lines (line ∷ []) ∙ ap (λ n. n + 1) so_far.counted;
+          grammar = ap (λ (c : Cut). list_all is_line c.lines) cut ∙ list_all-append is_line lines (line ∷ []) ∙ and_from _ _ so_far.grammar (and_from _ _ h.grammar refl);
+          legal = subst (λ (c : Cut). IsLegal (Create depth ∷ requests_in c.lines) new) (sym cut)
+              (subst (λ requests. IsLegal (Create depth ∷ requests) new) (sym (flat_map-append line_requests lines (line ∷ []) ∙ ap (λ requests. requests_in lines ++ requests) (append-nil (line_requests line))))
+              (subst (IsLegal (Create depth ∷ (requests_in lines ++ line_requests line))) (sym h.run.grown)
+              (IsLegal-append (Create depth ∷ requests_in lines) (line_requests line) entries more so_far.legal h.run.asked h.run.steps)));
+          granted = ap wants_memory h.run.grown ∙ wants-append entries more so_far.granted h.run.granted;
+        };
+  }
+
+  pub GoesOn-none : GoesOn [] entries entries line line count count was was []
+  GoesOn-none = record {
+    grown = sym (append-nil entries);
+    told = Appends-none was;
+    so_far = λ depth before h. subst (λ octets. IsSoFar depth octets entries line count) (sym (append-nil before)) h;
+  }
+
+-- one piece after another
+pub GoesOn-then : (a b : List ℕ) (first second third : List Entry) (line next last : List ℕ) (count counted at : ℕ) (was now then : Option (List ℕ)) (more others : List Entry) → GoesOn a first second line next count counted was now more → GoesOn b second third next last counted at now then others → GoesOn (a ++ b) first third line last count at was then (more ++ others)
+GoesOn-then a b first second third line next last count counted at was now then more others h k = record {
+  grown = k.grown ∙ ap (λ es. es ++ others) h.grown ∙ append_assoc first more others;
+  told = subst (Appends was then) (sym (flat_map-append entry_text more others)) (Appends-then was now then (entries_text more) (entries_text others) h.told k.told);
+  so_far = λ depth before so_far. subst (λ octets. IsSoFar depth octets third last at) (append_assoc before a b) (k.so_far depth (before ++ a) (h.so_far depth before so_far));
+}
+
+-- the same, as the code has it
+pub GoesOn-ended : (entries new : List Entry) (line text next : List ℕ) (count octet : ℕ) (was now : Option (List ℕ)) (more : List Entry) → octet ≡ 10 → text ≡ line → next ≡ [] → RunsLine text entries new was now more → GoesOn (octet ∷ []) entries new line next count (count + 1) was now more
+GoesOn-ended entries new line text next count octet was now more ends same cleared h =
+    subst (λ o. GoesOn (o ∷ []) entries new line next count (count + 1) was now more) (sym ends)
+    (subst (λ rest. GoesOn (10 ∷ []) entries new line rest count (count + 1) was now more) (sym cleared)
+    (GoesOn-line entries line count was now new more (subst (λ t. RunsLine t entries new was now more) same h)))
+
+pub GoesOn-kept : (entries : List Entry) (line next : List ℕ) (count octet : ℕ) (known : Option (List ℕ)) → (octet ≡ 10 → ⊥) → next ≡ line ++ octet ∷ [] → GoesOn (octet ∷ []) entries entries line next count count known known []
+GoesOn-kept entries line next count octet known other kept =
+    subst (λ rest. GoesOn (octet ∷ []) entries entries line rest count count known known []) (sym kept) (GoesOn-octet entries line count known known octet other)
+
+-- lines of the grammar, as many as there may be
+IsRunOf-lines : (depth : ℕ) (octets : List ℕ) (entries : List Entry) (line : List ℕ) (count : ℕ) → IsSoFar depth octets entries line count → count ≤ 16384 → IsRunOf depth (cut_of octets).lines entries
+IsRunOf-lines depth octets entries line count h few = record {
+  grammar = and_from _ _ (le-leb (length (cut_of octets).lines) 16384 (omega (arith, few, h.counted))) h.grammar;
+  legal = h.legal;
+  granted = h.granted;
+}
+
+unfinished-some : (line : List ℕ) → 0 < length line → unfinished line ≡ line ∷ []
+unfinished-some [] some = absurd (omega (arith, some))
+unfinished-some (octet ∷ octets) some = refl
+
+-- a script that ends with its last line
+pub Ends-none : (entries : List Entry) (line : List ℕ) (count : ℕ) (known : Option (List ℕ)) → line ≡ [] → count ≤ 16384 → Ends entries entries line count known known []
+Ends-none entries line count known none few = record {
+  grown = sym (append-nil entries);
+  told = Appends-none known;
+  run = λ depth before h.
+      let whole : script_lines before ≡ (cut_of before).lines = ap (λ rest. (cut_of before).lines ++ unfinished rest) (h.rest ∙ none) ∙ append-nil (cut_of before).lines in
+      subst (λ lines. IsRunOf depth lines entries) (sym whole) (IsRunOf-lines depth before entries line count h few);
+}
+
+-- a number that is not 0
+pub some_of : (n : ℕ) → false ≡ eqb n 0 → 0 < n
+some_of zero h = absurd (false≢true h)
+some_of (suc n) h = omega arith
+
+-- a script that ends in the middle of a line
+pub Ends-line : (entries new : List Entry) (line : List ℕ) (count : ℕ) (was now : Option (List ℕ)) (more : List Entry) → 0 < length line → count < 16384 → RunsLine line entries new was now more → Ends entries new line count was now more
+Ends-line entries new line count was now more some few h = record {
+  grown = h.run.grown;
+  told = h.run.told;
+  run = λ depth before so_far.
+      let goes = GoesOn-line entries line count was now new more h in
+      let whole : (cut_of (before ++ 10 ∷ [])).lines ≡ script_lines before =
+      ap (λ (c : Cut). c.lines) (cut_of-more before 10) ∙ ap (λ last. (cut_of before).lines ++ last) (ap (λ rest. rest ∷ []) so_far.rest ∙ sym (unfinished-some line some) ∙ ap unfinished (sym so_far.rest)) in
+      subst (λ lines. IsRunOf depth lines new) whole (IsRunOf-lines depth (before ++ 10 ∷ []) new [] (count + 1) (goes.so_far depth before so_far) (omega (arith, few)));
+}
+
+-- a group that was just made has run no line
+first_so_far : (depth : ℕ) (entries : List Entry) → Answers [] entries (Create depth) → IsSoFar depth [] entries [] 0
+first_so_far depth entries h = record {
+  rest = refl;
+  counted = refl;
+  grammar = refl;
+  legal = record {
+    asked = ap (map (λ (entry : Entry). entry.asked)) h.1.appended ∙ ap (λ asked. asked ∷ []) h.1.asked;
+    steps = subst (AreSteps no_group) (sym h.1.appended) (h.1.step, tt);
+  };
+  granted = ap wants_memory h.1.appended ∙ ap (λ want. want || false) h.1.granted;
+}
+
+-- the whole of a run: the entry of its making, its script and its last line
+pub IsFollowed-from : (depth : ℕ) (taken : List ℕ) (first second last : List Entry) (next : List ℕ) (counted : ℕ) (was told now end : Option (List ℕ)) (more others : List Entry) → Answers [] first (Create depth) → ((front : List Entry) (entry : Entry) → first ≡ front ++ entry ∷ [] → Appends was told (entry_text entry)) → GoesOn taken first second [] next 0 counted told now more → Ends second last next counted now end others → IsFollowed depth taken last was end
+IsFollowed-from depth taken first second last next counted was told now end more others made begun goes ends =
+    let entry = made.0 in
+    let opening : entries_text first ≡ entry_text entry = ap entries_text made.1.appended ∙ append-nil (entry_text entry) in
+    let all : entries_text last ≡ entry_text entry ++ (entries_text more ++ entries_text others) =
+    ap entries_text (ends.grown ∙ ap (λ es. es ++ others) goes.grown ∙ append_assoc first more others)
+    ∙ flat_map-append entry_text first (more ++ others) ∙ ap (λ text. text ++ entries_text (more ++ others)) opening
+    ∙ ap (λ text. entry_text entry ++ text) (flat_map-append entry_text more others) in
+    record {
+      told = subst (Appends was end) (sym all)
+          (Appends-then was told end (entry_text entry) (entries_text more ++ entries_text others) (begun [] entry made.1.appended)
+          (Appends-then told now end (entries_text more) (entries_text others) goes.told ends.told));
+      run = ends.run depth taken (goes.so_far depth [] (first_so_far depth first made));
+    }

@@ -1,0 +1,23 @@
+use Rattle.std.proofs.Common.{[], ◌++◌, sym, ◌∙◌, subst}
+use Rattle.std.specs.Io.KnownBytes.{Appends}
+use Rattle.script_text.specs.Report.{entries_text, end_text}
+use Rattle.console_run.specs.Clauses.{IsWholeOf}
+use Rattle.console_run.proofs.KnownLemmas.{Appends-then}
+use Rattle.console_run.proofs.consoles.run_script.Goals as goal
+
+pub returns-in-Ok-follow-clause-report : goal.returns-in-Ok-follow-clause-report
+returns-in-Ok-follow-clause-report g c = λ ok.
+    let written = g.K.Sink.written in
+    let entries = c.follow.new.self.group in
+    let was = written c.args.out.now in
+    let now = written c.end-in-Ok-follow.new.out in
+    let followed = c.in-Ok-follow.ensures.followed.3 c.args.depth c.in-Ok.ensures.group in
+    subst (λ history. Appends was now (entries_text history ++ end_text 0 0)) (sym (c.end-in-Ok-follow.ensures.history ∙ c.into_entries.ensures))
+    (Appends-then was (written c.follow.new.out) now (entries_text entries) (end_text 0 0) followed.told (c.end-in-Ok-follow.ensures.told ok))
+
+pub returns-in-Ok-follow-clause-whole : goal.returns-in-Ok-follow-clause-whole
+returns-in-Ok-follow-clause-whole g c = λ ok.
+    let left = g.S.Source.left in
+    let taken = c.in-Ok-follow.ensures.followed in
+    subst (IsWholeOf c.args.depth (left c.args.script.now) (left c.follow.new.script)) (sym (c.end-in-Ok-follow.ensures.history ∙ c.into_entries.ensures))
+    (record { taken = taken.0; source = taken.1; whole = taken.2; run = (taken.3 c.args.depth c.in-Ok.ensures.group).run })

@@ -1,0 +1,23 @@
+use Rattle.std.proofs.Common.{◌≡◌, ℕ, ◌+◌, ◌++◌, ◌∷◌, [], take, get_or, sym, subst, arith}
+use Rattle.std.proofs.lemmas.List.{take_more}
+use Rattle.console_run.specs.Steps.{GoesOn}
+use Rattle.console_run.proofs.ScriptLemmas.{GoesOn-then}
+use Rattle.console_run.proofs.runs.Run.take_piece.Goals as goal
+
+pub loop-octet-preserved : goal.loop-octet-preserved
+loop-octet-preserved g c =
+    let was = c.args.self.now in
+    let now = c.loop-octet.self in
+    let new = c.take_octet.new.self in
+    let written = g.K.Sink.written in
+    let place = c.loop-octet.octet-index in
+    let octet = get_or c.args.piece.now place 0 in
+    let before = c.loop-octet.invariant.goes in
+    let one = c.in_ok-take_octet.ensures.goes in
+    let both = GoesOn-then (take place c.args.piece.now) (octet ∷ []) was.group now.group new.group was.line.items now.line.items new.line.items was.count now.count new.count
+    (written c.args.out.now) (written c.loop-octet.out) (written c.take_octet.new.out) before.0 one.0 before.1 one.1 in
+    record {
+      ready = c.in_ok-take_octet.ensures.ready;
+      goes = (before.0 ++ one.0, subst (λ octets. GoesOn octets was.group new.group was.line.items new.line.items was.count new.count (written c.args.out.now) (written c.take_octet.new.out) (before.0 ++ one.0)) (sym (take_more c.args.piece.now place 0 c.loop-octet-test.true)) both);
+      nearer = omega (arith, c.in_ok-take_octet.ensures.nearer, c.loop-octet.invariant.nearer);
+    }

@@ -1,0 +1,59 @@
+-- What the parts of a run do.
+use Rattle.std.specs.Prelude.{◌≡◌, ℕ, ◌+◌, ◌-◌, ◌*◌, ◌<◌, ◌≤◌, true, false, List, [], ◌∷◌, ◌++◌, length, map, Option}
+use Rattle.std.specs.List.{list_all}
+use Rattle.std.specs.Io.KnownBytes.{Appends}
+use Rattle.group_model.specs.declared.entries.Entry.{Entry}
+use Rattle.group_model.specs.declared.entries.Asked.{Asked}
+use Rattle.group_model.specs.declared.entries.Asked.TheVariants.{Create}
+use Rattle.group_model.specs.Groups.{no_group, group_after}
+use Rattle.group_model.specs.Legal.{AreSteps, IsLegal, wants_memory}
+use Rattle.script_text.specs.Report.{entries_text}
+use Rattle.console_run.specs.Scripts.{cut_of, is_line, line_requests, requests_in, script_lines, IsRunOf}
+
+-- the history went on by these entries, which answer these requests, and they were reported
+pub record Tells (old new : List Entry) (was now : Option (List ℕ)) (requests : List Asked) (more : List Entry) : Type 0 where
+  pub grown : new ≡ old ++ more
+  pub told : Appends was now (entries_text more)
+  pub asked : map (λ (entry : Entry). entry.asked) more ≡ requests
+  pub steps : AreSteps (group_after no_group old) more
+  pub granted : wants_memory more ≡ false
+
+-- a line of the grammar was run
+pub record RunsLine (text : List ℕ) (old new : List Entry) (was now : Option (List ℕ)) (more : List Entry) : Type 0 where
+  pub grammar : is_line text ≡ true
+  pub run : Tells old new was now (line_requests text) more
+
+-- The octets so far: their lines were run, and what has come of the next is kept.
+pub record IsSoFar (depth : ℕ) (octets : List ℕ) (entries : List Entry) (line : List ℕ) (count : ℕ) : Type 0 where
+  pub rest : (cut_of octets).rest ≡ line
+  pub counted : length (cut_of octets).lines ≡ count
+  pub grammar : list_all is_line (cut_of octets).lines ≡ true
+  pub legal : IsLegal (Create depth ∷ requests_in (cut_of octets).lines) entries
+  pub granted : wants_memory entries ≡ false
+
+-- the run went on by these octets, and what happened was reported
+pub record GoesOn (octets : List ℕ) (old new : List Entry) (line next : List ℕ) (count counted : ℕ) (was now : Option (List ℕ)) (more : List Entry) : Type 0 where
+  pub grown : new ≡ old ++ more
+  pub told : Appends was now (entries_text more)
+  pub so_far : (depth : ℕ) (before : List ℕ) → IsSoFar depth before old line count → IsSoFar depth (before ++ octets) new next counted
+
+-- what the limits leave: octets of this line, and lines after it
+abbrev pub room_left : List ℕ → ℕ → ℕ
+room_left line count = (16384 - count) * 201 + (200 - length line)
+
+-- the run is within its limits
+pub record IsReady (entries : List Entry) (line : List ℕ) (count : ℕ) : Type 0 where
+  pub few : length entries ≤ count + 1
+  pub lines : count ≤ 16384
+  pub begun : 0 < length line → count < 16384
+
+-- a script of this text is run to its end
+pub record Ends (old new : List Entry) (line : List ℕ) (count : ℕ) (was now : Option (List ℕ)) (more : List Entry) : Type 0 where
+  pub grown : new ≡ old ++ more
+  pub told : Appends was now (entries_text more)
+  pub run : (depth : ℕ) (before : List ℕ) → IsSoFar depth before old line count → IsRunOf depth (script_lines before) new
+
+-- all that was taken was run on a new group of this depth, and its whole history reported
+pub record IsFollowed (depth : ℕ) (taken : List ℕ) (entries : List Entry) (was now : Option (List ℕ)) : Type 0 where
+  pub told : Appends was now (entries_text entries)
+  pub run : IsRunOf depth (script_lines taken) entries

@@ -1,0 +1,105 @@
+//! The console: words, a script, and a report.
+ghost use Rattle.std.specs.Prelude.{◌≡◌, ◌<◌, ◌≤◌, List, Some, map, string_bytes, IfSome};
+ghost use Rattle.std.specs.Io.KnownBytes.{Appends};
+ghost use Rattle.script_text.specs.Report.{end_text};
+ghost use Rattle.console_run.specs.Words.{depth_of};
+ghost use Rattle.console_run.specs.Clauses.{IsWholeRun, IsWholeOf, out_text};
+
+use crate::puts::put_lines;
+use crate::runs::Run;
+use crate::stops::Stop;
+use crate::words::read_words;
+use gd_edges::{Failed, Sink, Source};
+use group_model::{Entry, List, NoMemory};
+use script_text::end_line;
+use std::alloc::Global;
+
+/// What is left of a run: its status, the number of the line that ended it, and the history of its group.
+///
+/// The status is 0 where the whole script was run, 1 where the words are not of the form, 2 where a line is not, 3 where the
+/// source failed, 4 where the sink failed and 5 where there was no memory. The line is 0 but at status 2.
+#[derive(Debug, Drop)]
+pub struct Finished {
+    pub status: u8,
+    pub line: u32,
+    pub history: List<Entry>,
+}
+
+/// Runs a group from a script, and reports each entry of its history and then the status.
+///
+/// The words are `--new DEPTH` or `--new=DEPTH`, with a depth from 1 to 4. Words of another form touch neither the source nor
+/// a group. The script has lines of at most 200 octets, at most 16,384 of them; the lines before one of another form are run.
+/// Where no memory is left the run ends at once, and a batch that found none is in the history as refused. At status 3 the
+/// lines that came whole are run.
+pub fn console<S: Source, K: Sink>(
+    alloc: Global,
+    words: &[String],
+    script: &mut S,
+    out: &mut K,
+) -> Finished
+    ensures report { result.status ≡ 0 → Appends (K.written out.old) (K.written out.new) (out_text result.history 0 0) }
+    ensures history { result.status ≡ 0 → IsWholeRun (map string_bytes words.now) (S.left script.old) (S.left script.new) result.history }
+{
+    match read_words(words) {
+        Some(depth) => run_script(alloc, depth, script, out),
+        None => end(alloc, 1, 0, List::new(alloc), out),
+    }
+}
+
+/// Runs a script on a new group of this depth.
+fn run_script<S: Source, K: Sink>(alloc: Global, depth: u8, script: &mut S, out: &mut K) -> Finished
+    requires shallow { 1 ≤ depth }
+    requires not_deep { depth ≤ 4 }
+    ensures report { result.status ≡ 0 → Appends (K.written out.old) (K.written out.new) (out_text result.history 0 0) }
+    ensures whole { result.status ≡ 0 → IsWholeOf depth (S.left script.old) (S.left script.new) result.history }
+{
+    let mut run = match Run::begin(alloc, depth) {
+        Ok(run) => run,
+        Err(NoMemory) => return end(alloc, 5, 0, List::new(alloc), out),
+    };
+    match run.follow(alloc, script, out) {
+        Ok(()) => end(alloc, 0, 0, run.into_entries(), out),
+        Err(Stop::Line) => {
+            let line = run.line_number();
+            end(alloc, 2, line, run.into_entries(), out)
+        }
+        Err(Stop::Source) => end(alloc, 3, 0, run.into_entries(), out),
+        Err(Stop::Sink) => Finished {
+            status: 4,
+            line: 0,
+            history: run.into_entries(),
+        },
+        Err(Stop::Memory) => end(alloc, 5, 0, run.into_entries(), out),
+    }
+}
+
+/// Puts the last line of the report.
+fn end<K: Sink>(alloc: Global, status: u8, line: u32, history: List<Entry>, out: &mut K) -> Finished
+    ensures status { result.status ≡ 0 → status ≡ 0 }
+    ensures history { result.history ≡ history }
+    ensures told { result.status ≡ 0 → Appends (K.written out.old) (K.written out.new) (end_text status line) }
+{
+    let mut text = List::new(alloc);
+    match end_line(alloc, status, line, &mut text) {
+        Ok(()) => {}
+        Err(NoMemory) => {
+            return Finished {
+                status: 5,
+                line: 0,
+                history,
+            };
+        }
+    }
+    match put_lines(text.as_slice(), out) {
+        Ok(()) => Finished {
+            status,
+            line,
+            history,
+        },
+        Err(Failed) => Finished {
+            status: 4,
+            line: 0,
+            history,
+        },
+    }
+}

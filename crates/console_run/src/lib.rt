@@ -1,0 +1,14 @@
+//! The console: it reads words and a script, runs a group, and reports what happens, line by line.
+#![tactic(auto)]
+
+mod answers;
+mod batches;
+mod commands;
+mod consoles;
+mod groups;
+mod puts;
+mod runs;
+mod stops;
+mod words;
+
+pub use consoles::{Finished, console};

@@ -1,0 +1,59 @@
+//! Putting texts into a sink.
+ghost use Rattle.std.specs.Prelude.{◌≡◌, ◌<◌, ◌≤◌, length, OnOk};
+ghost use Rattle.std.specs.Io.KnownBytes.{Appends};
+ghost use Rattle.script_text.specs.Report.{entry_text};
+
+use crate::stops::Stop;
+use gd_edges::{Failed, Sink};
+use group_model::{Entry, List};
+use script_text::report_entry;
+use std::alloc::Global;
+
+/// Puts the report of an entry, line by line.
+pub(crate) fn tell<K: Sink>(alloc: Global, entry: &Entry, out: &mut K) -> Result<(), Stop>
+    ensures { OnOk result (Appends (K.written out.old) (K.written out.new) (entry_text entry.now)) }
+{
+    let mut text = List::new(alloc);
+    report_entry(alloc, entry, &mut text)?;
+    match put_lines(text.as_slice(), out) {
+        Ok(()) => Ok(()),
+        Err(Failed) => Err(Stop::Sink),
+    }
+}
+
+/// Puts each line of a text in one piece, and then what the sink did not take of it.
+pub(crate) fn put_lines<K: Sink>(text: &[u8], out: &mut K) -> Result<(), Failed>
+    ensures { OnOk result (Appends (K.written out.old) (K.written out.new) text.now) }
+{
+    let mut rest = text;
+    while !rest.is_empty() {
+        let (line, others) = rest.split_at(line_length(rest));
+        put_all(line, out)?;
+        rest = others;
+    }
+    Ok(())
+}
+
+/// How many octets the first line of a text has, with its line feed.
+fn line_length(text: &[u8]) -> usize
+    requires { 0 < length text.now }
+    ensures some { 0 < result }
+    ensures within { result ≤ length text.now }
+{
+    match text.iter().position(|octet| *octet == b'\n') {
+        Some(place) => place + 1,
+        None => text.len(),
+    }
+}
+
+fn put_all<K: Sink>(piece: &[u8], out: &mut K) -> Result<(), Failed>
+    ensures { OnOk result (Appends (K.written out.old) (K.written out.new) piece.now) }
+{
+    let mut rest = piece;
+    while !rest.is_empty() {
+        let n = out.put(rest)?;
+        let (_, others) = rest.split_at(n);
+        rest = others;
+    }
+    Ok(())
+}

@@ -1,0 +1,170 @@
+//! Following a script, octet by octet.
+ghost use Rattle.std.specs.Prelude.{◌≡◌, ◌+◌, ◌<◌, ◌≤◌, ℕ, List, [], ◌∷◌, ◌++◌, length, IfOk, OnOk};
+ghost use Rattle.std.specs.Io.KnownBytes.{Consumes};
+ghost use Rattle.group_model.specs.declared.entries.Entry.{Entry};
+ghost use Rattle.group_model.specs.declared.entries.Asked.TheVariants.{Create};
+ghost use Rattle.console_run.specs.Standing.{Answers};
+ghost use Rattle.console_run.specs.Steps.{IsReady, GoesOn, Ends, IsFollowed, room_left};
+ghost use Rattle.console_run.specs.Clauses.{TakesAll};
+
+use crate::commands::{run_line, tell_last};
+use crate::groups::Group;
+use crate::stops::Stop;
+use arrayvec::ArrayVec;
+use gd_edges::{Failed, Sink, Source};
+use group_model::{Entry, List, NoMemory};
+use std::alloc::Global;
+
+const MOST_LINE_OCTETS: usize = 200;
+
+const MOST_LINES: u32 = 16_384;
+
+/// How many octets the source is asked for at a time.
+const PIECE: usize = 4096;
+
+/// A run of a script: the group, what has come of the present line, and how many lines were run before it.
+#[derive(Debug, Drop)]
+pub(crate) struct Run {
+    pub(crate) group: Group,
+    line: ArrayVec<u8, MOST_LINE_OCTETS>,
+    count: u32,
+}
+
+impl Run {
+    /// A run before its script, with a new group.
+    pub(crate) fn begin(alloc: Global, depth: u8) -> Result<Self, NoMemory>
+        requires shallow { 1 ≤ depth }
+        requires not_deep { depth ≤ 4 }
+        ensures group { IfOk result (λ run. Answers [] run.group (Create depth)) }
+        ensures line { IfOk result (λ run. run.line.items ≡ []) }
+        ensures count { IfOk result (λ run. run.count ≡ 0) }
+    {
+        Ok(Run {
+            group: Group::create(alloc, depth)?,
+            line: ArrayVec::new(),
+            count: 0,
+        })
+    }
+
+    /// The number of the present line, from 1.
+    pub(crate) fn line_number(&self) -> u32
+        requires { self.now.count ≤ 16384 }
+    {
+        self.count + 1
+    }
+
+    /// Takes one octet. The line that it ends is run.
+    fn take_octet<K: Sink>(&mut self, alloc: Global, octet: u8, out: &mut K) -> Result<(), Stop>
+        requires ready { IsReady self.old.group self.old.line.items self.old.count }
+        ensures ready { OnOk result (IsReady self.new.group self.new.line.items self.new.count) }
+        ensures goes { OnOk result ((more : List Entry) × GoesOn (octet ∷ []) self.old.group self.new.group self.old.line.items self.new.line.items
+            self.old.count self.new.count (K.written out.old) (K.written out.new) more) }
+        ensures nearer { OnOk result (room_left self.new.line.items self.new.count < room_left self.old.line.items self.old.count) }
+        ensures count { self.new.count ≤ 16384 }
+    {
+        if self.count == MOST_LINES {
+            return Err(Stop::Line);
+        }
+        if octet == b'\n' {
+            run_line(alloc, self.line.as_slice(), &mut self.group, out)?;
+            self.line.clear();
+            self.count += 1;
+            return Ok(());
+        }
+        if self.line.is_full() {
+            return Err(Stop::Line);
+        }
+        self.line.push(octet);
+        Ok(())
+    }
+
+    /// Takes a piece of the script.
+    fn take_piece<K: Sink>(&mut self, alloc: Global, piece: &[u8], out: &mut K) -> Result<(), Stop>
+        requires ready { IsReady self.old.group self.old.line.items self.old.count }
+        ensures ready { OnOk result (IsReady self.new.group self.new.line.items self.new.count) }
+        ensures goes { OnOk result ((more : List Entry) × GoesOn piece.now self.old.group self.new.group self.old.line.items self.new.line.items
+            self.old.count self.new.count (K.written out.old) (K.written out.new) more) }
+        ensures nearer { OnOk result (room_left self.new.line.items self.new.count + length piece.now ≤ room_left self.old.line.items self.old.count) }
+        ensures count { self.new.count ≤ 16384 }
+    {
+        for octet in piece {
+            self.take_octet(alloc, *octet, out)?;
+        }
+        Ok(())
+    }
+
+    /// Takes all that the source has, in pieces of at most the buffer's length.
+    fn take_script<S: Source, K: Sink>(
+        &mut self,
+        alloc: Global,
+        script: &mut S,
+        buffer: &mut [u8],
+        out: &mut K,
+    ) -> Result<(), Stop>
+        requires buffer { 0 < length buffer.old }
+        requires ready { IsReady self.old.group self.old.line.items self.old.count }
+        ensures ready { OnOk result (IsReady self.new.group self.new.line.items self.new.count) }
+        ensures goes { OnOk result (((taken : List ℕ) × Consumes (S.left script.old) (S.left script.new) taken × TakesAll (S.left script.old) taken
+            × ((more : List Entry) × GoesOn taken self.old.group self.new.group self.old.line.items self.new.line.items
+            self.old.count self.new.count (K.written out.old) (K.written out.new) more))) }
+        ensures count { self.new.count ≤ 16384 }
+    {
+        'pieces: loop {
+            let n = match script.take(buffer) {
+                Ok(n) => n,
+                Err(Failed) => return Err(Stop::Source),
+            };
+            if n == 0 {
+                return Ok(());
+            }
+            let (piece, _) = buffer.split_at(n);
+            self.take_piece(alloc, piece, out)?;
+        }
+    }
+
+    /// Runs the last line, where the script ends in the middle of it.
+    fn finish<K: Sink>(&mut self, alloc: Global, out: &mut K) -> Result<(), Stop>
+        requires ready { IsReady self.old.group self.old.line.items self.old.count }
+        ensures ends { OnOk result ((more : List Entry) × Ends self.old.group self.new.group self.old.line.items self.old.count (K.written out.old) (K.written out.new) more) }
+        ensures count { self.new.count ≤ 16384 }
+    {
+        if self.line.is_empty() {
+            return Ok(());
+        }
+        run_line(alloc, self.line.as_slice(), &mut self.group, out)?;
+        Ok(())
+    }
+
+    /// Reports that the group was made, and runs the whole script on it.
+    pub(crate) fn follow<S: Source, K: Sink>(
+        &mut self,
+        alloc: Global,
+        script: &mut S,
+        out: &mut K,
+    ) -> Result<(), Stop>
+        requires line { self.old.line.items ≡ [] }
+        requires count { self.old.count ≡ 0 }
+        requires group { length self.old.group ≡ 1 }
+        ensures followed { OnOk result ((taken : List ℕ) × Consumes (S.left script.old) (S.left script.new) taken × TakesAll (S.left script.old) taken
+            × ((depth : ℕ) → Answers [] self.old.group (Create depth) → IsFollowed depth taken self.new.group (K.written out.old) (K.written out.new))) }
+        ensures count { self.new.count ≤ 16384 }
+    {
+        tell_last(alloc, &self.group, out)?;
+        let mut buffer = vec![in alloc; 0; PIECE].map_err(NoMemory::from)?;
+        self.take_script(alloc, script, &mut buffer, out)?;
+        self.finish(alloc, out)?;
+        Ok(())
+    }
+
+    /// The history of the group.
+    pub(crate) fn into_entries(self) -> List<Entry>
+        ensures { result ≡ self.group }
+    {
+        let Run {
+            group,
+            line: _,
+            count: _,
+        } = self;
+        group.into_entries()
+    }
+}

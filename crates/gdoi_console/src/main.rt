@@ -1,0 +1,27 @@
+//! Runs a whole group from a script: the words come from the command line, the script from standard input, and the report goes to standard output.
+#![tactic(auto)]
+
+use console_run::console;
+use gd_edges::{StdSink, StdSource};
+use std::alloc::AllocError;
+use std::env;
+use std::process::ExitCode;
+
+fn main(rt: HostRuntime) -> ExitCode {
+    match read_words(&rt) {
+        Ok(words) => {
+            let mut script = StdSource::new(rt.stdin());
+            let mut out = StdSink::new(rt.stdout());
+            ExitCode::from(console(rt.alloc(), &words, &mut script, &mut out).status)
+        }
+        Err(AllocError) => ExitCode::from(5),
+    }
+}
+
+/// The words after the program's name; none where the arguments cannot be had.
+fn read_words(rt: &HostRuntime) -> Result<Vec<String>, AllocError> {
+    match env::args(rt) {
+        Ok(args) => args.skip(1).collect(rt.alloc()),
+        Err(_) => Ok(Vec::new(rt.alloc())),
+    }
+}

@@ -1,0 +1,18 @@
+//! The script that a console reads, line by line, and the report that it writes, entry by entry.
+#![tactic(auto)]
+
+pub use ends::end_line;
+pub use lines::{Line, MOST_LINE_OCTETS, read_line};
+pub use reports::report_entry;
+pub use requests::request_of;
+
+mod ends;
+mod lines;
+mod numbers;
+mod refusals;
+mod reports;
+mod requests;
+#[cfg(test)]
+mod tests;
+mod words;
+mod wraps;

@@ -1,0 +1,78 @@
+ghost use Rattle.std.specs.Prelude.{◌≡◌};
+ghost use Rattle.script_text.specs.Words.{words_of};
+ghost use Rattle.script_text.specs.Lines.{line_of, command_of, command_with, lone_command};
+
+use crate::words::next_word;
+use group_model::MemberName;
+
+/// How many octets a line has at the most.
+pub const MOST_LINE_OCTETS: usize = 200;
+
+/// What a line of a script says.
+#[derive(Clone, Copy, Debug, PartialEq, Eq)]
+pub enum Line {
+    /// A comment, or a line without words.
+    Nothing,
+    /// A name asks to come in.
+    Join { member: MemberName },
+    /// A member asks to go out.
+    Leave { member: MemberName },
+    /// The pending changes are to make the next epoch.
+    Batch,
+}
+
+/// What a line says, without its end of line; `None` where it is none of the grammar.
+///
+/// Spaces alone part words, so that a tab or a carriage return is an octet of one. A line is `join NAME`, `leave NAME` or
+/// `batch`; or it has no word, or one that begins with `#` first, and says nothing.
+#[tactic(auto, unfolding(crate::specs::Lines::line_of))]
+pub fn read_line(text: &[u8]) -> Option<Line>
+    ensures { result ≡ line_of text.now }
+{
+    if text.len() > MOST_LINE_OCTETS {
+        return None;
+    }
+    let Some((command, behind)) = next_word(text) else {
+        return Some(Line::Nothing);
+    };
+    if command.starts_with(b"#") {
+        return Some(Line::Nothing);
+    }
+    read_command(command, behind)
+}
+
+fn read_command(command: &[u8], behind: &[u8]) -> Option<Line>
+    ensures { result ≡ command_of command.now (words_of behind.now) }
+{
+    let Some((first, behind)) = next_word(behind) else {
+        return read_lone_command(command);
+    };
+    match next_word(behind) {
+        None => read_command_with(command, first),
+        Some(_) => None,
+    }
+}
+
+fn read_lone_command(command: &[u8]) -> Option<Line>
+    ensures { result ≡ lone_command command.now }
+{
+    if command == b"batch".as_slice() {
+        Some(Line::Batch)
+    } else {
+        None
+    }
+}
+
+fn read_command_with(command: &[u8], name: &[u8]) -> Option<Line>
+    ensures { result ≡ command_with command.now name.now }
+{
+    if command == b"join".as_slice() {
+        let member = MemberName::read(name)?;
+        Some(Line::Join { member })
+    } else if command == b"leave".as_slice() {
+        let member = MemberName::read(name)?;
+        Some(Line::Leave { member })
+    } else {
+        None
+    }
+}

@@ -1,0 +1,131 @@
+use crate::{Line, end_line, read_line, report_entry, request_of};
+use group_model::{
+    Answer, Asked, Entry, GroupSeen, KeyName, List, LkhId, MemberName, Output, Outside, Refusal,
+    Wrap,
+};
+use std::alloc::Global;
+use std::test::Fail;
+
+#[test]
+fn lines_are_read_by_the_grammar(rt: HostRuntime) -> Result<(), Fail> {
+    let a = MemberName::read(b"a").ok_or("a name")?;
+    let longest = MemberName::read(b"abcdefghijklmnopqrstuvwxyz_56789").ok_or("a name")?;
+    let table = [
+        (b"".as_slice(), Some(Line::Nothing)),
+        (b"   ".as_slice(), Some(Line::Nothing)),
+        (b"#".as_slice(), Some(Line::Nothing)),
+        (b"  #join\ta \xff\x00\r".as_slice(), Some(Line::Nothing)),
+        (b"batch".as_slice(), Some(Line::Batch)),
+        (b"  batch  ".as_slice(), Some(Line::Batch)),
+        (b"join a".as_slice(), Some(Line::Join { member: a })),
+        (b" leave   a ".as_slice(), Some(Line::Leave { member: a })),
+        (
+            b"join abcdefghijklmnopqrstuvwxyz_56789".as_slice(),
+            Some(Line::Join { member: longest }),
+        ),
+        (b"join abcdefghijklmnopqrstuvwxyz_567890".as_slice(), None),
+        (b"join A".as_slice(), None),
+        (b"join #a".as_slice(), None),
+        (b"Join a".as_slice(), None),
+        (b"join".as_slice(), None),
+        (b"join a b".as_slice(), None),
+        (b"leave a #b".as_slice(), None),
+        (b"batch a".as_slice(), None),
+        (b"batches".as_slice(), None),
+        (b"join\ta".as_slice(), None),
+        (b"join a\t".as_slice(), None),
+        (b"batch\r".as_slice(), None),
+        (b"\r".as_slice(), None),
+    ];
+    for (text, says) in table {
+        assert_eq!(rt; read_line(text), says, "{text:?}");
+    }
+    let spaces = vec![in rt.alloc(); b' '; 201]?;
+    assert_eq!(rt; read_line(&spaces[..200]), Some(Line::Nothing));
+    assert_eq!(rt; read_line(&spaces[..201]), None);
+    Ok(())
+}
+
+fn entry_of(asked: Asked, answer: Answer) -> Entry {
+    Entry {
+        asked,
+        outside: Outside {
+            disk_failed: false,
+            found: None,
+            place: 0,
+        },
+        answer,
+    }
+}
+
+fn refused(asked: Asked, why: Refusal) -> Entry {
+    entry_of(asked, Answer::Refused { why })
+}
+
+fn opened(alloc: Global) -> Answer {
+    let group = GroupSeen {
+        depth: 2,
+        epoch: 0,
+        sequence: 0,
+        members: List::new(alloc),
+    };
+    Answer::Opened {
+        group,
+        resent: None,
+    }
+}
+
+fn node(number: u16, made: u32) -> Result<KeyName, Fail> {
+    let id = LkhId::new(number).ok_or("a position")?;
+    Ok(KeyName::Node { id, made })
+}
+
+fn batched(alloc: Global) -> Result<Answer, Fail> {
+    let (leaf, half, root) = (node(4, 1)?, node(2, 2)?, node(1, 2)?);
+    let traffic = KeyName::Traffic { made: 2 };
+    let mut wraps = List::new(alloc);
+    for (by, gives) in [(leaf, half), (half, root), (root, traffic)] {
+        wraps.push(Wrap { by, gives })?;
+    }
+    let output = Output {
+        epoch: 2,
+        sequence: 10,
+        members: 3,
+        wraps,
+        pushes: None,
+        replies: List::new(alloc),
+    };
+    Ok(Answer::Batched { output })
+}
+
+#[test]
+fn entries_are_reported_in_lines(rt: HostRuntime) -> Result<(), Fail> {
+    let alloc = rt.alloc();
+    let member = MemberName::read(b"b_1").ok_or("a name")?;
+    let joins = request_of(Line::Join { member }).ok_or("a request")?;
+    let entries = [
+        entry_of(Asked::Create { depth: 2 }, opened(alloc)),
+        refused(Asked::Create { depth: 2 }, Refusal::NoMemory),
+        entry_of(Asked::Create { depth: 2 }, Answer::Queued),
+        entry_of(joins, Answer::Queued),
+        entry_of(Asked::Join { member }, Answer::Nothing),
+        refused(Asked::Join { member }, Refusal::TreeFull { held: 4 }),
+        entry_of(Asked::Leave { member }, Answer::Done),
+        refused(Asked::Leave { member }, Refusal::AlreadyPending),
+        refused(Asked::Leave { member }, Refusal::NotMember),
+        entry_of(Asked::Batch, batched(alloc)?),
+        refused(Asked::Batch, Refusal::NoMemory),
+    ];
+    let mut out = List::new(alloc);
+    for entry in &entries {
+        report_entry(alloc, entry, &mut out)?;
+    }
+    end_line(alloc, 0, 7, &mut out)?;
+    end_line(alloc, 2, 7, &mut out)?;
+    let lines =
+        b"new depth 2\nnew refused no-memory\nb_1 queued\nb_1 nothing\nb_1 refused tree-full 4\nb_1 leaving\n\
+        b_1 refused already-pending\nb_1 refused not-member\nepoch 2 sequence 10 members 3\nwrap 4.1 2.2\nwrap 2.2 1.2\n\
+        wrap 1.2 traffic.2\nbatch refused no-memory\nend 0\nend 2 line 7\n";
+    assert_eq!(rt; out.as_slice(), lines.as_slice());
+    Ok(())
+}

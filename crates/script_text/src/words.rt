@@ -1,0 +1,31 @@
+ghost use Rattle.std.specs.Prelude.{◌≡◌, ◌≤◌, [], ◌∷◌, length, MatchOption};
+ghost use Rattle.std.specs.List.{prefix_len, position_or_len};
+ghost use Rattle.script_text.specs.Words.{is_space, words_of};
+
+/// The first word of a text and what stands behind it, or `None` where the text has no word.
+pub fn next_word(text: &[u8]) -> Option<(&[u8], &[u8])>
+    ensures { MatchOption result (words_of text.now ≡ [])
+        (λ found. words_of text.now ≡ found.0.now ∷ words_of found.1.now) }
+{
+    let (_, text) = text.split_at(spaces_before(text));
+    if text.is_empty() {
+        return None;
+    }
+    Some(text.split_at(octets_of_word(text)))
+}
+
+/// How many spaces a text begins with.
+fn spaces_before(text: &[u8]) -> usize
+    ensures value { result ≡ prefix_len is_space text.now }
+    ensures within { result ≤ length text.now }
+{
+    text.iter().take_while(|c| **c == b' ').count()
+}
+
+/// How many octets of a text stand before its first space.
+fn octets_of_word(text: &[u8]) -> usize
+    ensures value { result ≡ position_or_len is_space text.now }
+    ensures within { result ≤ length text.now }
+{
+    text.iter().take_while(|c| **c != b' ').count()
+}
