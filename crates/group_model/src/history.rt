@@ -1,5 +1,5 @@
 //! A tree's batches as a plain list, with what they make of the tree.
-ghost use Rattle.std.specs.Prelude.{◌≡◌, ◌+◌, ◌≤◌, ◌<◌, [], ◌∷◌, ◌++◌, length, MatchOption, IfSome, IfOk, OnOk, OnErr};
+ghost use Rattle.std.specs.Prelude.{◌≡◌, ◌+◌, ◌^◌, ◌≤◌, ◌<◌, [], ◌∷◌, ◌++◌, length, MatchOption, IfSome, IfOk, OnOk, OnErr};
 ghost use Rattle.group_model.specs.Places.{Fits, IsValid, holders_of, holders_at, place_in, member_count};
 ghost use Rattle.group_model.specs.Fresh.{last_change};
 ghost use Rattle.group_model.specs.Wraps.{wraps_at};
@@ -128,6 +128,14 @@ impl History {
             return Ok(List::new(alloc));
         };
         Ok(after.wraps(alloc, self.depth(), before, epoch)?)
+    }
+
+    /// How many leaves the tree has.
+    pub(crate) fn leaves(&self) -> usize
+        ensures leaves { result ≡ 2 ^ self.now.depth }
+        ensures few { result ≤ 512 }
+    {
+        1 << self.depth
     }
 
     /// The tree that the batch of an epoch left; `None` at epoch 0.

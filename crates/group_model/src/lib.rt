@@ -13,7 +13,10 @@ pub use history::History;
 pub use laws::{members_never_share_a_leaf, places_stay_while_members_stay};
 
 mod entries;
+mod fits;
 mod history;
 mod holders;
 mod laws;
+#[cfg(test)]
+mod tests;
 mod trees;
