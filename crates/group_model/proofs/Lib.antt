@@ -1,4 +1,5 @@
 pub mod EpochLemmas
+pub mod FitLemmas
 pub mod HolderLemmas
 pub mod PlaceLemmas
 pub mod SequenceLemmas

@@ -5,6 +5,7 @@ pub mod Legal
 pub mod Places
 pub mod Rows
 pub mod Stayed
+pub mod Suits
 pub mod Trees
 pub mod Unchanged
 pub mod Wraps

@@ -9,8 +9,7 @@ ghost use Rattle.group_model.specs.Wraps.{wraps_at, is_nil};
 /// Each leaf of the tree has its place among the holders, at every epoch.
 pub fn each_leaf_has_its_place()
     ensures { (depth : ℕ) (batches : List (List Change)) → length (holders_of depth batches) ≡ 2 ^ depth }
-{
-}
+{}
 
 /// Two members never have one leaf.
 pub fn members_never_share_a_leaf()

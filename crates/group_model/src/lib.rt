@@ -11,11 +11,15 @@ pub use group_terms::{
 };
 pub use history::History;
 pub use laws::{
-    a_batch_that_wraps_uses_two_numbers, each_leaf_has_its_place, members_never_share_a_leaf, places_stay_while_members_stay,
+    a_batch_that_wraps_uses_two_numbers, each_leaf_has_its_place, members_never_share_a_leaf,
+    places_stay_while_members_stay,
 };
 
 mod entries;
+mod fits;
 mod history;
 mod holders;
 mod laws;
+#[cfg(test)]
+mod tests;
 mod trees;

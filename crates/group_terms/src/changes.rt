@@ -28,6 +28,11 @@ impl Change {
 }
 
 impl Default for Change {
+    ghost use Rattle.group_terms.specs.declared.changes.Change.TheVariants.{In};
+
+    ghost is_default = { λ change. change ≡ In (95 ∷ []) };
+
+    /// To let the name `_` in, which stands in places that nothing shows.
     fn default() -> Self {
         Change::In {
             member: MemberName::default(),

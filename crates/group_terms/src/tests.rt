@@ -1,4 +1,4 @@
-use crate::{Batch, Change, List, Log, MOST_CHANGES, MemberName};
+use crate::{Batch, Change, List, Log, MOST_CHANGES, MemberName, marks_above};
 use std::test::Fail;
 
 #[test]
@@ -39,5 +39,16 @@ fn a_batch_has_its_changes_in_order(rt: HostRuntime) -> Result<(), Fail> {
     assert_eq!(rt; changes[0].member().text(), b"a_1".as_slice());
     assert_eq!(rt; changes[1].member().text(), b"_".as_slice());
     assert!(rt; MemberName::read(b"A").is_none());
+    Ok(())
+}
+
+#[test]
+fn marks_stand_above_a_marked_leaf(rt: HostRuntime) -> Result<(), Fail> {
+    let (on, off) = (true, false);
+    let marks = marks_above(rt.alloc(), 2, &[off, on, off, off])?;
+    assert_eq!(rt;
+        marks.as_slice(),
+        [off, on, on, off, off, on, off, off].as_slice()
+    );
     Ok(())
 }

@@ -1,0 +1,98 @@
+use crate::{Batch, Change, History, KeyName, LkhId, MOST_CHANGES, MemberName};
+use std::alloc::Global;
+use std::process::Abort;
+use std::test::Fail;
+
+#[test]
+fn histories_are_as_key_servers_show_them(rt: HostRuntime) -> Result<(), Fail> {
+    let alloc = rt.alloc();
+    let three = [
+        "members 0 at - - - - last - - - - - - - - wraps",
+        "members 3 at 4 5 6 - last 1 1 1 1 1 1 - - wraps",
+        "members 2 at 4 - 6 - last 2 2 1 1 2 1 - - wraps 4.1 2.2, 2.2 1.2, 3.1 1.2, 1.2 traffic.2,",
+    ];
+    let four = [
+        "members 0 at - - - - last - - - - - - - - wraps",
+        "members 4 at 4 5 6 7 last 1 1 1 1 1 1 1 - wraps",
+        "members 3 at - 5 6 7 last 2 2 1 2 1 1 1 - wraps 5.1 2.2, 2.2 1.2, 3.1 1.2, 1.2 traffic.2,",
+    ];
+    for (joins, leaves, epochs) in [("abc", "b", three), ("abcd", "a", four)] {
+        let mut history = History::new(alloc, 2);
+        add(&rt, alloc, &mut history, "", joins)?;
+        add(&rt, alloc, &mut history, leaves, "")?;
+        for (epoch, want) in (0..).zip(epochs) {
+            let text = seen(&rt, alloc, &history, epoch)?;
+            assert_eq!(rt; text.as_str(), want);
+        }
+    }
+    Ok(())
+}
+
+/// Adds a batch in which some members go out and others come in; each is called by one letter.
+fn add(
+    rt: &impl Abort,
+    alloc: Global,
+    history: &mut History,
+    outs: &str,
+    ins: &str,
+) -> Result<(), Fail> {
+    let mut batch = Batch::new();
+    for letter in outs.bytes() {
+        let member = named(letter)?;
+        assert!(rt; batch.changes().len() < MOST_CHANGES);
+        batch.push(Change::Out { member });
+    }
+    for letter in ins.bytes() {
+        let member = named(letter)?;
+        assert!(rt; batch.changes().len() < MOST_CHANGES);
+        batch.push(Change::In { member });
+    }
+    assert!(rt; history.epoch() < u32::MAX);
+    assert!(rt; history.fits(&batch));
+    assert_eq!(rt; history.add(alloc, batch), Ok(()));
+    Ok(())
+}
+
+/// What a history says of an epoch: how many members there are, which leaves a to d have, when each of the positions 1 to 8
+/// was changed last, and what is encrypted under what.
+fn seen(rt: &impl Abort, alloc: Global, history: &History, epoch: u32) -> Result<String, Fail> {
+    assert!(rt; epoch <= history.epoch());
+    let mut text = format!(in alloc; "members {} at", history.members(epoch))?;
+    for letter in b"abcd" {
+        let place = history.place(epoch, &named(*letter)?);
+        push_number(&mut text, place.map(|id| u32::from(id.number())))?;
+    }
+    text.push_str(" last")?;
+    for number in 1..9 {
+        let id = LkhId::new(number).ok_or("a position")?;
+        push_number(&mut text, history.last(epoch, id))?;
+    }
+    text.push_str(" wraps")?;
+    for wrap in history.wraps(alloc, epoch)?.as_slice() {
+        push_key(&mut text, wrap.by)?;
+        push_key(&mut text, wrap.gives)?;
+        text.push_str(",")?;
+    }
+    Ok(text)
+}
+
+fn named(letter: u8) -> Result<MemberName, Fail> {
+    Ok(MemberName::read(&[letter]).ok_or("a name")?)
+}
+
+fn push_number(text: &mut String, number: Option<u32>) -> Result<(), Fail> {
+    match number {
+        Some(number) => write!(text, " {number}")?,
+        None => text.push_str(" -")?,
+    }
+    Ok(())
+}
+
+fn push_key(text: &mut String, key: KeyName) -> Result<(), Fail> {
+    match key {
+        KeyName::Node { id, made } => write!(text, " {}.{made}", id.number())?,
+        KeyName::Traffic { made } => write!(text, " traffic.{made}")?,
+        KeyName::Phase { .. } => text.push_str(" phase")?,
+    }
+    Ok(())
+}
