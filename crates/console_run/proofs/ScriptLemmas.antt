@@ -1,10 +1,9 @@
 -- Lines, requests and entries, one after the other.
-use Rattle.std.proofs.Common.{◌≡◌, ℕ, zero, suc, ◌+◌, ◌-◌, ◌*◌, ◌<◌, ◌≤◌, Bool, true, false, cond, eqb, ◌&&◌, ◌||◌, List, [], ◌∷◌, ◌++◌, Option, Some, None, length, map, sym, refl, ap, ◌∙◌, subst, arith}
-use Rattle.std.specs.Prelude.{is_some}
-use Rattle.std.specs.List.{fold, flat_map, list_any, list_all}
+use Rattle.std.proofs.Common.{true, ◌≡◌, ℕ, zero, suc, ◌+◌, ◌<◌, ◌≤◌, false, cond, eqb, ◌||◌, List, [], ◌∷◌, ◌++◌, Option, length, map, sym, refl, ap, ◌∙◌, subst, arith, inl, inr}
+use Rattle.std.specs.List.{fold, slice_split, onto_first, list_all}
 use Rattle.std.specs.Io.KnownBytes.{Appends}
-use Rattle.std.proofs.lemmas.Bool.{ne_eqb, and_from, le-leb, false≢true}
-use Rattle.std.proofs.lemmas.List.{append_assoc, append-nil, map-append, length-append}
+use Rattle.std.proofs.lemmas.Bool.{cases_Bool, eqb-true, ne_eqb, and_from, le-leb, false≢true}
+use Rattle.std.proofs.lemmas.List.{nil_from_length, append_assoc, append-nil, map-append, length-append}
 use Rattle.std.proofs.lemmas.List.Concat.{flat_map-append}
 use Rattle.std.proofs.lemmas.List.Folds.{list_any-append, list_all-append}
 use Rattle.std.proofs.lemmas.List.Sums.{fold-append}
@@ -12,11 +11,11 @@ use Rattle.group_model.specs.declared.entries.Entry.{Entry}
 use Rattle.group_model.specs.declared.entries.Asked.{Asked}
 use Rattle.group_model.specs.declared.entries.Asked.TheVariants.{Create}
 use Rattle.group_model.specs.Groups.{Group, no_group, after_entry, group_after}
-use Rattle.group_model.specs.Legal.{IsStep, AreSteps, IsLegal, is_want, wants_memory}
+use Rattle.group_model.specs.Legal.{AreSteps, IsLegal, is_want, wants_memory}
 use Rattle.script_text.specs.Report.{entry_text, entries_text}
-use Rattle.console_run.specs.Scripts.{Cut, cut_more, cut_of, unfinished, script_lines, is_line, line_requests, requests_in, IsRunOf}
-use Rattle.console_run.specs.Standing.{IsAnswered, Answers}
-use Rattle.console_run.specs.Steps.{Tells, RunsLine, IsSoFar, GoesOn, Ends, IsFollowed}
+use Rattle.console_run.specs.Scripts.{ends_line, unfinished, lines_of_parts, script_lines, is_line, line_requests, requests_in, IsRunOf}
+use Rattle.console_run.specs.Stands.{IsAnswered, Answers}
+use Rattle.console_run.specs.Steps.{Cut, cut_more, cut_of, Tells, RunsLine, IsSoFar, GoesOn, Ends, IsFollowed}
 use Rattle.console_run.proofs.KnownLemmas.{Appends-none, Appends-then}
 
 -- steps go on from what the earlier ones made
@@ -115,6 +114,54 @@ pub GoesOn-kept : (entries : List Entry) (line next : List ℕ) (count octet : �
 GoesOn-kept entries line next count octet known other kept =
     subst (λ rest. GoesOn (octet ∷ []) entries entries line rest count count known known []) (sym kept) (GoesOn-octet entries line count known known octet other)
 
+-- what came before the parts belongs to the first
+parts_onto : List ℕ → List (List ℕ) → List (List ℕ)
+parts_onto rest [] = rest ∷ []
+parts_onto rest (part ∷ parts) = (rest ++ part) ∷ parts
+
+onto_begun : (octet : ℕ) (parts : List (List ℕ)) → parts_onto [] (onto_first octet parts) ≡ onto_first octet parts
+unfolding parts_onto
+onto_begun octet [] = refl
+onto_begun octet (part ∷ parts) = refl
+
+split_begun : (octets : List ℕ) → parts_onto [] (slice_split ends_line octets) ≡ slice_split ends_line octets
+unfolding parts_onto
+split_begun [] = refl
+split_begun (octet ∷ octets) = elim (cases_Bool (ends_line octet)) [
+  | inl ends ↦ rw ends refl
+  | inr goes ↦ rw goes (onto_begun octet (slice_split ends_line octets))
+]
+
+onto_more : (rest : List ℕ) (octet : ℕ) (parts : List (List ℕ)) → parts_onto (rest ++ octet ∷ []) parts ≡ parts_onto rest (onto_first octet parts)
+unfolding parts_onto
+onto_more rest octet [] = refl
+onto_more rest octet (part ∷ parts) = ap (λ first. first ∷ parts) (append_assoc rest (octet ∷ []) part)
+
+-- octet by octet, and between the line ends, a text is cut alike
+cut_parts : (lines : List (List ℕ)) (rest octets : List ℕ) → (fold cut_more (record { lines = lines; rest = rest }) octets).lines ++ (fold cut_more (record { lines = lines; rest = rest }) octets).rest ∷ [] ≡ lines ++ parts_onto rest (slice_split ends_line octets)
+unfolding parts_onto
+cut_parts lines rest [] = ap (λ last. lines ++ last ∷ []) (sym (append-nil rest))
+cut_parts lines rest (octet ∷ octets) =
+    let ended : Cut = record { lines = lines ++ rest ∷ []; rest = [] } in
+    let kept : Cut = record { lines = lines; rest = rest ++ octet ∷ [] } in
+    let after = slice_split ends_line octets in
+    elim (cases_Bool (ends_line octet)) [
+      | inl ends ↦ ap (λ (c : Cut). c.lines ++ c.rest ∷ []) (ap (λ b. fold cut_more (cond b ended kept) octets) ends) ∙ cut_parts (lines ++ rest ∷ []) [] octets
+          ∙ ap (λ others. (lines ++ rest ∷ []) ++ others) (split_begun octets) ∙ append_assoc lines (rest ∷ []) after
+          ∙ ap (λ first. lines ++ first ∷ after) (sym (append-nil rest)) ∙ sym (ap (λ b. lines ++ parts_onto rest (cond b ([] ∷ after) (onto_first octet after))) ends)
+      | inr goes ↦ ap (λ (c : Cut). c.lines ++ c.rest ∷ []) (ap (λ b. fold cut_more (cond b ended kept) octets) goes) ∙ cut_parts lines (rest ++ octet ∷ []) octets
+          ∙ ap (λ others. lines ++ others) (onto_more rest octet after) ∙ sym (ap (λ b. lines ++ parts_onto rest (cond b ([] ∷ after) (onto_first octet after))) goes)
+    ]
+
+lines_and_last : (lines : List (List ℕ)) (last : List ℕ) → lines_of_parts (lines ++ last ∷ []) ≡ lines ++ unfinished last
+lines_and_last [] last = refl
+lines_and_last (line ∷ []) last = refl
+lines_and_last (line ∷ next ∷ lines) last = ap (λ others. line ∷ others) (lines_and_last (next ∷ lines) last)
+
+lines_cut : (octets : List ℕ) → script_lines octets ≡ (cut_of octets).lines ++ unfinished (cut_of octets).rest
+lines_cut octets =
+    ap lines_of_parts (sym (split_begun octets) ∙ sym (cut_parts [] [] octets)) ∙ lines_and_last (cut_of octets).lines (cut_of octets).rest
+
 -- lines of the grammar, as many as there may be
 IsRunOf-lines : (depth : ℕ) (octets : List ℕ) (entries : List Entry) (line : List ℕ) (count : ℕ) → IsSoFar depth octets entries line count → count ≤ 16384 → IsRunOf depth (cut_of octets).lines entries
 IsRunOf-lines depth octets entries line count h few = record {
@@ -133,9 +180,13 @@ Ends-none entries line count known none few = record {
   grown = sym (append-nil entries);
   told = Appends-none known;
   run = λ depth before h.
-      let whole : script_lines before ≡ (cut_of before).lines = ap (λ rest. (cut_of before).lines ++ unfinished rest) (h.rest ∙ none) ∙ append-nil (cut_of before).lines in
+      let whole : script_lines before ≡ (cut_of before).lines = lines_cut before ∙ ap (λ rest. (cut_of before).lines ++ unfinished rest) (h.rest ∙ none) ∙ append-nil (cut_of before).lines in
       subst (λ lines. IsRunOf depth lines entries) (sym whole) (IsRunOf-lines depth before entries line count h few);
 }
+
+-- a list without items
+pub none_of : (line : List ℕ) → true ≡ eqb (length line) 0 → line ≡ []
+none_of line h = nil_from_length line (eqb-true (length line) 0 (sym h))
 
 -- a number that is not 0
 pub some_of : (n : ℕ) → false ≡ eqb n 0 → 0 < n
@@ -150,7 +201,7 @@ Ends-line entries new line count was now more some few h = record {
   run = λ depth before so_far.
       let goes = GoesOn-line entries line count was now new more h in
       let whole : (cut_of (before ++ 10 ∷ [])).lines ≡ script_lines before =
-      ap (λ (c : Cut). c.lines) (cut_of-more before 10) ∙ ap (λ last. (cut_of before).lines ++ last) (ap (λ rest. rest ∷ []) so_far.rest ∙ sym (unfinished-some line some) ∙ ap unfinished (sym so_far.rest)) in
+      ap (λ (c : Cut). c.lines) (cut_of-more before 10) ∙ ap (λ last. (cut_of before).lines ++ last) (ap (λ rest. rest ∷ []) so_far.rest ∙ sym (unfinished-some line some) ∙ ap unfinished (sym so_far.rest)) ∙ sym (lines_cut before) in
       subst (λ lines. IsRunOf depth lines new) whole (IsRunOf-lines depth (before ++ 10 ∷ []) new [] (count + 1) (goes.so_far depth before so_far) (omega (arith, few)));
 }
 

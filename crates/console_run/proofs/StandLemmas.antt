@@ -1,5 +1,5 @@
 -- A group that stands has room for what it grants.
-use Rattle.std.proofs.Common.{◌≡◌, ℕ, ◌+◌, ◌-◌, ◌*◌, ◌^◌, ◌<◌, ◌≤◌, Bool, true, false, List, [], ◌∷◌, ◌++◌, Option, length, take, sym, refl, ap, ◌∙◌, subst, arith}
+use Rattle.std.proofs.Common.{◌≡◌, ℕ, ◌+◌, ◌-◌, ◌^◌, ◌<◌, ◌≤◌, true, false, List, [], ◌∷◌, Option, length, sym, refl, ap, ◌∙◌, subst, arith}
 use Rattle.std.proofs.lemmas.List.{take_all}
 use Rattle.std.proofs.Math.Pow.{pow_mono}
 use Rattle.group_terms.specs.Names.{Name}
@@ -15,7 +15,7 @@ use Rattle.group_model.specs.declared.entries.GroupSeen.{GroupSeen}
 use Rattle.group_model.specs.declared.entries.PushPair.{PushPair}
 use Rattle.group_model.specs.declared.entries.Asked.TheVariants.{Create}
 use Rattle.group_model.specs.declared.entries.Answer.TheVariants.{Opened}
-use Rattle.console_run.specs.Standing.{HasRoom, Stands}
+use Rattle.console_run.specs.Stands.{HasRoom, Stands}
 use Rattle.console_run.proofs.FitLemmas.{leavers_few, Fits-join, Fits-leave, Fits-none, join_room, leave_room}
 
 -- the holders at the present epoch are those after all batches

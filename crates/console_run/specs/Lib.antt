@@ -1,5 +1,5 @@
 pub mod Clauses
 pub mod Scripts
-pub mod Standing
+pub mod Stands
 pub mod Steps
 pub mod Words

@@ -1,6 +1,6 @@
 -- A script, line by line, and what it asks.
-use Rattle.std.specs.Prelude.{◌≡◌, ℕ, ◌==◌, ◌&&◌, nat_le, Bool, true, false, List, [], ◌∷◌, ◌++◌, length, Option, None, Some, is_some, if◌then◌else◌}
-use Rattle.std.specs.List.{fold, flat_map, list_all}
+use Rattle.std.specs.Prelude.{◌≡◌, ℕ, ◌==◌, ◌&&◌, nat_le, Bool, true, false, List, [], ◌∷◌, length, is_some}
+use Rattle.std.specs.List.{flat_map, list_all, slice_split}
 use Rattle.std.specs.Option.{option_map, unwrap_or}
 use Rattle.group_model.specs.declared.entries.Entry.{Entry}
 use Rattle.group_model.specs.declared.entries.Asked.{Asked}
@@ -9,28 +9,23 @@ use Rattle.group_model.specs.Legal.{IsLegal, wants_memory}
 use Rattle.script_text.specs.Lines.{line_of}
 use Rattle.script_text.specs.Requests.{requests_of}
 
--- octets so far: the lines that ended, and what has come of the next
-pub record Cut : Type 0 where
-  pub lines : List (List ℕ)
-  pub rest : List ℕ
-
 -- octet 10 ends a line
-abbrev pub cut_more : Cut → ℕ → Cut
-cut_more cut octet =
-    if octet == 10
-    then record { lines = cut.lines ++ cut.rest ∷ []; rest = [] }
-    else record { lines = cut.lines; rest = cut.rest ++ octet ∷ [] }
+abbrev pub ends_line : ℕ → Bool
+ends_line octet = octet == 10
 
-abbrev pub cut_of : List ℕ → Cut
-cut_of octets = fold cut_more (record { lines = []; rest = [] }) octets
-
--- a last line that ends with the script
+-- what stands after the last line end: a line, where it has octets
 abbrev pub unfinished : List ℕ → List (List ℕ)
 unfinished [] = []
 unfinished (octet ∷ octets) = (octet ∷ octets) ∷ []
 
+-- the lines in the parts between line ends
+abbrev pub lines_of_parts : List (List ℕ) → List (List ℕ)
+lines_of_parts [] = []
+lines_of_parts (part ∷ []) = unfinished part
+lines_of_parts (part ∷ next ∷ parts) = part ∷ lines_of_parts (next ∷ parts)
+
 abbrev pub script_lines : List ℕ → List (List ℕ)
-script_lines octets = (cut_of octets).lines ++ unfinished (cut_of octets).rest
+script_lines octets = lines_of_parts (slice_split ends_line octets)
 
 abbrev pub is_line : List ℕ → Bool
 is_line text = is_some (line_of text)

@@ -1,6 +1,6 @@
--- What the parts of a run do.
-use Rattle.std.specs.Prelude.{◌≡◌, ℕ, ◌+◌, ◌-◌, ◌*◌, ◌<◌, ◌≤◌, true, false, List, [], ◌∷◌, ◌++◌, length, map, Option}
-use Rattle.std.specs.List.{list_all}
+-- What the private functions of a run promise each other.
+use Rattle.std.specs.Prelude.{[], ◌≡◌, ℕ, ◌+◌, ◌-◌, ◌*◌, ◌<◌, ◌≤◌, true, false, List, ◌∷◌, ◌++◌, length, map, Option, if◌then◌else◌}
+use Rattle.std.specs.List.{fold, list_all}
 use Rattle.std.specs.Io.KnownBytes.{Appends}
 use Rattle.group_model.specs.declared.entries.Entry.{Entry}
 use Rattle.group_model.specs.declared.entries.Asked.{Asked}
@@ -8,7 +8,7 @@ use Rattle.group_model.specs.declared.entries.Asked.TheVariants.{Create}
 use Rattle.group_model.specs.Groups.{no_group, group_after}
 use Rattle.group_model.specs.Legal.{AreSteps, IsLegal, wants_memory}
 use Rattle.script_text.specs.Report.{entries_text}
-use Rattle.console_run.specs.Scripts.{cut_of, is_line, line_requests, requests_in, script_lines, IsRunOf}
+use Rattle.console_run.specs.Scripts.{ends_line, is_line, line_requests, requests_in, script_lines, IsRunOf}
 
 -- the history went on by these entries, which answer these requests, and they were reported
 pub record Tells (old new : List Entry) (was now : Option (List ℕ)) (requests : List Asked) (more : List Entry) : Type 0 where
@@ -22,6 +22,20 @@ pub record Tells (old new : List Entry) (was now : Option (List ℕ)) (requests 
 pub record RunsLine (text : List ℕ) (old new : List Entry) (was now : Option (List ℕ)) (more : List Entry) : Type 0 where
   pub grammar : is_line text ≡ true
   pub run : Tells old new was now (line_requests text) more
+
+-- octets so far: the lines that ended, and what has come of the next
+pub record Cut : Type 0 where
+  pub lines : List (List ℕ)
+  pub rest : List ℕ
+
+abbrev pub cut_more : Cut → ℕ → Cut
+cut_more cut octet =
+    if ends_line octet
+    then record { lines = cut.lines ++ cut.rest ∷ []; rest = [] }
+    else record { lines = cut.lines; rest = cut.rest ++ octet ∷ [] }
+
+abbrev pub cut_of : List ℕ → Cut
+cut_of octets = fold cut_more (record { lines = []; rest = [] }) octets
 
 -- The octets so far: their lines were run, and what has come of the next is kept.
 pub record IsSoFar (depth : ℕ) (octets : List ℕ) (entries : List Entry) (line : List ℕ) (count : ℕ) : Type 0 where

@@ -2,7 +2,7 @@
 ghost use Rattle.std.specs.Prelude.{◌≡◌, ◌≤◌};
 ghost use Rattle.group_model.specs.Places.{Fits, holders_of};
 ghost use Rattle.group_model.specs.Legal.{join_answer, leave_answer, taken_leaves};
-ghost use Rattle.console_run.specs.Standing.{HasRoom};
+ghost use Rattle.console_run.specs.Stands.{HasRoom};
 
 use crate::batches::{count_joiners, count_leavers, has_pending};
 use group_model::{Answer, Batch, Change, History, MemberName, Refusal, each_leaf_has_its_place};

@@ -51,9 +51,9 @@ fn run<K: Sink>(alloc: Global, line: Line, group: &mut Group, out: &mut K) -> Re
             Ok(())
         }
         Line::Batch => {
-            group.batch(alloc)?;
+            let made = group.batch(alloc)?;
             tell_last(alloc, group, out)?;
-            Ok(())
+            if made { Ok(()) } else { Err(Stop::Memory) }
         }
     }
 }

@@ -16,8 +16,9 @@ use std::alloc::Global;
 
 /// What is left of a run: its status, the number of the line that ended it, and the history of its group.
 ///
-/// The status is 0 where the whole script was run, 1 where the words are not of the form, 2 where a line is not, 3 where the
-/// source failed, 4 where the sink failed and 5 where there was no memory. The line is 0 but at status 2.
+/// The status is 0 where the whole script was run, 1 where the words ask for no group, 2 where a line is not of the grammar or
+/// is past a limit, 3 where the source failed, 4 where the sink failed and 5 where there was no memory. Lines are counted
+/// from 1; the line is 0 at every status but 2.
 #[derive(Debug, Drop)]
 pub struct Finished {
     pub status: u8,
@@ -29,15 +30,17 @@ pub struct Finished {
 ///
 /// The words are `--new DEPTH` or `--new=DEPTH`, with a depth from 1 to 4. Words of another form touch neither the source nor
 /// a group. The script has lines of at most 200 octets, at most 16,384 of them; the lines before one of another form are run.
-/// Where no memory is left the run ends at once, and a batch that found none is in the history as refused. At status 3 the
-/// lines that came whole are run.
+/// At status 3 the lines that came whole are run. A batch that finds no memory is in the history and in the report as refused
+/// for that, and ends the run. What is written is the report of the history and an end line, or at status 4 and 5 a part of
+/// that from its start.
 pub fn console<S: Source, K: Sink>(
     alloc: Global,
     words: &[String],
     script: &mut S,
     out: &mut K,
 ) -> Finished
-    ensures report { result.status ≡ 0 → Appends (K.written out.old) (K.written out.new) (out_text result.history 0 0) }
+    ensures report { result.status ≡ 0 → Appends (K.written out.old) (K.written out.new) (out_text result.history result.status result.line) }
+    ensures line { (result.status ≡ 2 → ⊥) → result.line ≡ 0 }
     ensures history { result.status ≡ 0 → IsWholeRun (map string_bytes words.now) (S.left script.old) (S.left script.new) result.history }
 {
     match read_words(words) {
@@ -50,7 +53,8 @@ pub fn console<S: Source, K: Sink>(
 fn run_script<S: Source, K: Sink>(alloc: Global, depth: u8, script: &mut S, out: &mut K) -> Finished
     requires shallow { 1 ≤ depth }
     requires not_deep { depth ≤ 4 }
-    ensures report { result.status ≡ 0 → Appends (K.written out.old) (K.written out.new) (out_text result.history 0 0) }
+    ensures report { result.status ≡ 0 → Appends (K.written out.old) (K.written out.new) (out_text result.history result.status result.line) }
+    ensures line { (result.status ≡ 2 → ⊥) → result.line ≡ 0 }
     ensures whole { result.status ≡ 0 → IsWholeOf depth (S.left script.old) (S.left script.new) result.history }
 {
     let mut run = match Run::begin(alloc, depth) {
@@ -70,14 +74,21 @@ fn run_script<S: Source, K: Sink>(alloc: Global, depth: u8, script: &mut S, out:
             history: run.into_entries(),
         },
         Err(Stop::Memory) => end(alloc, 5, 0, run.into_entries(), out),
+        Err(Stop::Untold) => Finished {
+            status: 5,
+            line: 0,
+            history: run.into_entries(),
+        },
     }
 }
 
 /// Puts the last line of the report.
 fn end<K: Sink>(alloc: Global, status: u8, line: u32, history: List<Entry>, out: &mut K) -> Finished
+    requires line { (status ≡ 2 → ⊥) → line ≡ 0 }
     ensures status { result.status ≡ 0 → status ≡ 0 }
     ensures history { result.history ≡ history }
-    ensures told { result.status ≡ 0 → Appends (K.written out.old) (K.written out.new) (end_text status line) }
+    ensures line { (result.status ≡ 2 → ⊥) → result.line ≡ 0 }
+    ensures told { result.status ≡ 0 → Appends (K.written out.old) (K.written out.new) (end_text result.status result.line) }
 {
     let mut text = List::new(alloc);
     match end_line(alloc, status, line, &mut text) {

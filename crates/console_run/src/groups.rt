@@ -1,8 +1,8 @@
 //! A group that is kept as a list of batches, and answers requests.
-ghost use Rattle.std.specs.Prelude.{◌≡◌, ◌+◌, ◌^◌, ◌<◌, ◌≤◌, List, [], ◌∷◌, ◌++◌, length, MatchOption, IfOk, OnOk, OnErr};
+ghost use Rattle.std.specs.Prelude.{◌≡◌, ◌+◌, ◌^◌, ◌<◌, ◌≤◌, List, [], ◌∷◌, ◌++◌, length, MatchOption, IfOk, OnOk, OnErr, IsTrue};
 ghost use Rattle.group_model.specs.declared.entries.Entry.{Entry};
 ghost use Rattle.group_model.specs.Legal.{outside_of};
-ghost use Rattle.console_run.specs.Standing.{Answers};
+ghost use Rattle.console_run.specs.Stands.{Answers};
 
 use crate::answers::{answer_join, answer_leave};
 use crate::batches::close;
@@ -25,7 +25,7 @@ pub(crate) struct Group {
 impl Model for Group {
     ghost use Rattle.std.specs.Prelude.{List};
     ghost use Rattle.group_model.specs.declared.entries.Entry.{Entry};
-    ghost use Rattle.console_run.specs.Standing.{Stands};
+    ghost use Rattle.console_run.specs.Stands.{Stands};
 
     ghost Value = { List Entry };
 
@@ -96,11 +96,12 @@ impl Group {
         Ok(())
     }
 
-    /// Closes the batch. A batch that finds no memory is refused for that, and the history says so.
-    pub(crate) fn batch(&mut self, alloc: Global) -> Result<(), NoMemory>
+    /// Closes the batch; `false` where it found no memory, and then the history has it as refused for that.
+    pub(crate) fn batch(&mut self, alloc: Global) -> Result<bool, NoMemory>
         requires { length self.old < 2 ^ 29 }
-        ensures ok { OnOk result (Answers self.old self.new Asked.Batch) }
-        ensures one { length self.new ≤ length self.old + 1 }
+        ensures made { IfOk result (λ made. IsTrue made → Answers self.old self.new Asked.Batch) }
+        ensures grown { OnOk result ((entry : Entry) × (self.new ≡ self.old ++ entry ∷ [])) }
+        ensures err { OnErr result (self.new ≡ self.old) }
     {
         self.entries.reserve(1)?;
         match close(
@@ -112,13 +113,13 @@ impl Group {
             Ok(output) => {
                 self.entries
                     .add(entry(Asked::Batch, Answer::Batched { output }));
-                Ok(())
+                Ok(true)
             }
             Err(NoMemory) => {
                 let why = Refusal::NoMemory;
                 self.entries
                     .add(entry(Asked::Batch, Answer::Refused { why }));
-                Err(NoMemory)
+                Ok(false)
             }
         }
     }
@@ -151,9 +152,7 @@ fn entry(asked: Asked, answer: Answer) -> Entry
 {
     let found = match &asked {
         Asked::Create { .. } => Some(0),
-        Asked::Join { .. } => None,
-        Asked::Leave { .. } => None,
-        Asked::Batch => None,
+        Asked::Join { .. } | Asked::Leave { .. } | Asked::Batch => None,
     };
     let outside = Outside {
         disk_failed: false,

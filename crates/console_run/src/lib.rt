@@ -9,6 +9,8 @@ mod groups;
 mod puts;
 mod runs;
 mod stops;
+#[cfg(test)]
+mod tests;
 mod words;
 
 pub use consoles::{Finished, console};

@@ -5,7 +5,7 @@ ghost use Rattle.script_text.specs.Report.{entry_text};
 
 use crate::stops::Stop;
 use gd_edges::{Failed, Sink};
-use group_model::{Entry, List};
+use group_model::{Entry, List, NoMemory};
 use script_text::report_entry;
 use std::alloc::Global;
 
@@ -14,14 +14,17 @@ pub(crate) fn tell<K: Sink>(alloc: Global, entry: &Entry, out: &mut K) -> Result
     ensures { OnOk result (Appends (K.written out.old) (K.written out.new) (entry_text entry.now)) }
 {
     let mut text = List::new(alloc);
-    report_entry(alloc, entry, &mut text)?;
+    match report_entry(alloc, entry, &mut text) {
+        Ok(()) => {}
+        Err(NoMemory) => return Err(Stop::Untold),
+    }
     match put_lines(text.as_slice(), out) {
         Ok(()) => Ok(()),
         Err(Failed) => Err(Stop::Sink),
     }
 }
 
-/// Puts each line of a text in one piece, and then what the sink did not take of it.
+/// Puts a text line by line. Where the sink takes a part of a line, the next piece is the rest of that line.
 pub(crate) fn put_lines<K: Sink>(text: &[u8], out: &mut K) -> Result<(), Failed>
     ensures { OnOk result (Appends (K.written out.old) (K.written out.new) text.now) }
 {

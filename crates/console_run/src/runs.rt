@@ -3,7 +3,7 @@ ghost use Rattle.std.specs.Prelude.{◌≡◌, ◌+◌, ◌<◌, ◌≤◌, ℕ,
 ghost use Rattle.std.specs.Io.KnownBytes.{Consumes};
 ghost use Rattle.group_model.specs.declared.entries.Entry.{Entry};
 ghost use Rattle.group_model.specs.declared.entries.Asked.TheVariants.{Create};
-ghost use Rattle.console_run.specs.Standing.{Answers};
+ghost use Rattle.console_run.specs.Stands.{Answers};
 ghost use Rattle.console_run.specs.Steps.{IsReady, GoesOn, Ends, IsFollowed, room_left};
 ghost use Rattle.console_run.specs.Clauses.{TakesAll};
 
@@ -13,9 +13,8 @@ use crate::stops::Stop;
 use arrayvec::ArrayVec;
 use gd_edges::{Failed, Sink, Source};
 use group_model::{Entry, List, NoMemory};
+use script_text::MOST_LINE_OCTETS;
 use std::alloc::Global;
-
-const MOST_LINE_OCTETS: usize = 200;
 
 const MOST_LINES: u32 = 16_384;
 

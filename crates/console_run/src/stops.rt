@@ -1,3 +1,4 @@
+//! How a run can end early.
 ghost use Rattle.std.specs.Prelude.{◌≡◌};
 ghost use Rattle.console_run.specs.declared.stops.Stop.TheVariants.{Memory};
 
@@ -12,8 +13,10 @@ pub(crate) enum Stop {
     Source,
     /// The sink failed.
     Sink,
-    /// There was no memory.
+    /// There was no memory, and all that happened is reported.
     Memory,
+    /// There was no memory for the report of the last entry.
+    Untold,
 }
 
 impl From<NoMemory> for Stop {

@@ -3,8 +3,8 @@ ghost use Rattle.std.specs.Prelude.{◌≡◌, ◌≤◌, ◌==◌, true, [], �
 ghost use Rattle.std.specs.List.{list_all};
 ghost use Rattle.console_run.specs.Words.{is_digit, is_number, number_of, depth_in, depth_of};
 
-/// A depth is less than this, and no number is counted past it.
-const MANY: u32 = 10;
+/// More than any depth. Greater numbers count as this one.
+const TOO_DEEP: u32 = 10;
 
 /// The depth of the group that the words ask for: `--new DEPTH` or `--new=DEPTH`, from 1 to 4; `None` exactly where the words
 /// are not of this form.
@@ -23,10 +23,9 @@ pub(crate) fn read_words(words: &[String]) -> Option<u8>
 fn read_joined(word: &[u8]) -> Option<u8>
     ensures { result ≡ depth_of (word.now ∷ []) }
 {
-    if word.starts_with(b"--new=") {
-        read_depth(&word[6..])
-    } else {
-        None
+    match word.strip_prefix(b"--new=") {
+        Some(number) => read_depth(number),
+        None => None,
     }
 }
 
@@ -46,7 +45,7 @@ fn read_depth(text: &[u8]) -> Option<u8>
     if !reads_as_number(text) {
         return None;
     }
-    match count(text) {
+    match number_of(text) {
         depth @ 1..=4 => Some(depth as u8),
         _ => None,
     }
@@ -65,14 +64,14 @@ fn are_digits(text: &[u8]) -> bool
     text.iter().all(|c| c.is_ascii_digit())
 }
 
-/// The number that digits say, up to `MANY`.
-fn count(digits: &[u8]) -> u32
+/// The number that digits say, up to `TOO_DEEP`.
+fn number_of(digits: &[u8]) -> u32
     requires { list_all is_digit digits.now ≡ true }
-    ensures { result ≡ min (number_of digits.now) MANY }
+    ensures { result ≡ min (number_of digits.now) TOO_DEEP }
 {
     let mut number = 0;
     for digit in digits {
-        number = (number * 10 + u32::from(digit.saturating_sub(b'0'))).min(MANY);
+        number = (number * 10 + u32::from(digit.saturating_sub(b'0'))).min(TOO_DEEP);
     }
     number
 }

@@ -5,10 +5,11 @@ use console_run::console;
 use gd_edges::{StdSink, StdSource};
 use std::alloc::AllocError;
 use std::env;
+use std::io::ErrorKind;
 use std::process::ExitCode;
 
 fn main(rt: HostRuntime) -> ExitCode {
-    match read_words(&rt) {
+    match arguments(&rt) {
         Ok(words) => {
             let mut script = StdSource::new(rt.stdin());
             let mut out = StdSink::new(rt.stdout());
@@ -18,10 +19,13 @@ fn main(rt: HostRuntime) -> ExitCode {
     }
 }
 
-/// The words after the program's name; none where the arguments cannot be had.
-fn read_words(rt: &HostRuntime) -> Result<Vec<String>, AllocError> {
+/// The words after the program's name; none where the arguments cannot be had as text.
+fn arguments(rt: &HostRuntime) -> Result<Vec<String>, AllocError> {
     match env::args(rt) {
         Ok(args) => args.skip(1).collect(rt.alloc()),
-        Err(_) => Ok(Vec::new(rt.alloc())),
+        Err(error) => match error.kind() {
+            ErrorKind::OutOfMemory => Err(AllocError),
+            _ => Ok(Vec::new(rt.alloc())),
+        },
     }
 }

@@ -1,11 +1,10 @@
 -- What stands without the last batches.
-use Rattle.std.proofs.Common.{◌≡◌, ℕ, zero, suc, ◌+◌, ◌^◌, ◌<◌, ◌≤◌, cond, List, [], ◌∷◌, Option, Some, None, length, map, take, get_or, min, sym, refl, ap, ◌∙◌, subst, arith}
-use Rattle.std.specs.List.{fold, range_with_len}
-use Rattle.std.proofs.lemmas.List.{take-take, take-map, length-take, length-map, get_or-take}
+use Rattle.std.proofs.Common.{◌≡◌, ℕ, zero, suc, ◌+◌, ◌^◌, ◌<◌, ◌≤◌, List, [], ◌∷◌, None, length, take, get_or, sym, refl, ap, ◌∙◌, subst, arith}
+use Rattle.std.proofs.lemmas.List.{take-take, take-map, length-take, get_or-take}
 use Rattle.group_terms.specs.declared.changes.Change.{Change}
 use Rattle.group_model.specs.Places.{Holders, no_holders, holders_after, holders_of, holders_at, FitInTurn}
-use Rattle.group_model.specs.Fresh.{is_fresh, last_change}
-use Rattle.group_model.specs.Trees.{made_at, StandsAt}
+use Rattle.group_model.specs.Fresh.{last_change}
+use Rattle.group_model.specs.Trees.{StandsAt}
 use Rattle.group_model.specs.Rows.{AreRows, batches_of}
 use Rattle.group_model.specs.declared.trees.Tree.{Tree}
 use Rattle.group_model.specs.declared.history.Row.{Row}

@@ -56,7 +56,7 @@ leavers batch = filter_map leaver batch
 abbrev pub joiners : List Change → List Name
 joiners batch = filter_map joiner batch
 
--- first each Out loses its leaf; then each In, in order, gets the lowest leaf that nobody has
+-- those who go out free their leaves before anybody comes in; the others come in one after the other, each at the first free leaf
 unfoldable pub holders_after : Holders → List Change → Holders
 holders_after holders batch = fold placed (fold vacated holders (leavers batch)) (joiners batch)
 
@@ -73,15 +73,15 @@ abbrev pub names_once : List Name → Bool
 names_once [] = true
 names_once (m ∷ ms) = not (list_any (same_name m) ms) && names_once ms
 
--- A batch fits where each Out names a member, each In somebody who is none, no name comes twice, and the members less
--- the Outs plus the Ins are no more than there are leaves.
+-- The tree can take the batch: members go out, strangers come in, a name is in one change at most, and everybody who is then
+-- a member has a leaf.
 pub record Fits (holders : Holders) (batch : List Change) : Type 0 where
   pub from_members : list_all (is_member holders) (leavers batch) ≡ true
   pub from_strangers : list_any (is_member holders) (joiners batch) ≡ false
   pub once : names_once (map member_of batch) ≡ true
   pub room : member_count holders + length (joiners batch) ≤ length holders + length (leavers batch)
 
--- each batch fits after those before it
+-- the history of a tree: no batch is one that its tree could not take
 abbrev pub FitInTurn : Holders → List (List Change) → Type 0
 FitInTurn holders [] = Unit {0}
 FitInTurn holders (batch ∷ batches) = Fits holders batch × FitInTurn (holders_after holders batch) batches

@@ -23,7 +23,7 @@ module _ (depth : ℕ) (batches : List (List Change)) (epoch : ℕ) where
   abbrev pub wraps_of : ℕ → List Wrap
   wraps_of v = map (λ child. record { by = node_name depth batches epoch child; gives = Node v epoch }) (kept_children v)
 
-  -- those of all fresh inner positions, by falling position of the given key and then rising position of the wrapping one
+  -- those of all fresh inner positions, from the last one up to the root, under the left child's key before the right one's
   abbrev pub node_wraps : List Wrap
   node_wraps = flat_map wraps_of (filter (is_fresh depth (holders_at depth batches (epoch - 1)) (holders_at depth batches epoch)) (falling (2 ^ depth - 1)))
 

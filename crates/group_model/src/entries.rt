@@ -58,7 +58,7 @@ pub enum Answer {
 pub enum Refusal {
     /// The name is not a member of the present epoch.
     NotMember,
-    /// A change of this member is pending.
+    /// The next batch has a change of the member already.
     AlreadyPending,
     /// The members that are not leaving and the pending joins have taken all `held` leaves.
     TreeFull { held: u32 },

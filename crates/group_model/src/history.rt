@@ -98,7 +98,7 @@ impl History {
         self.rows.truncate(self.rows.len() - 1);
     }
 
-    /// The leaf that a member has at an epoch; `None` exactly where nobody of this name is a member then (RFC 2627
+    /// The leaf that a member has at an epoch; `None` where it has none then, and only there (RFC 2627
     /// section 5.4).
     pub fn place(&self, epoch: u32, member: &MemberName) -> Option<LkhId>
         requires { epoch ≤ length self.now.batches }
@@ -132,7 +132,7 @@ impl History {
         }
     }
 
-    /// The last epoch up to this one at which a position was given a new key; `None` exactly where there is none.
+    /// The last epoch up to this one at which a position was given a new key; `None` where there was no such epoch, and only then.
     pub fn last(&self, epoch: u32, id: LkhId) -> Option<u32>
         requires { epoch ≤ length self.now.batches }
         ensures { result ≡ last_change self.now.depth self.now.batches epoch id }

@@ -25,7 +25,7 @@ command_of command [] = lone_command command
 command_of command (first ∷ []) = command_with command first
 command_of command (first ∷ second ∷ others) = None
 
--- a line without words does nothing, nor does one whose first word begins with the number sign
+-- empty lines and comments: no word, or a number sign at the first word
 abbrev pub line_of_words : List (List ℕ) → Option Line
 line_of_words [] = Some Nothing
 line_of_words (command ∷ others) =

@@ -1,4 +1,4 @@
-use Rattle.std.proofs.Common.{◌≡◌, ap, sym, ◌∙◌}
+use Rattle.std.proofs.Common.{ap, sym, ◌∙◌}
 use Rattle.group_model.specs.Places.{holders_of, is_member}
 use Rattle.console_run.proofs.StandLemmas.{holders_at-present, done_room}
 use Rattle.console_run.proofs.answers.answer_leave.Goals as goal

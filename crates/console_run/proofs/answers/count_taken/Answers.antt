@@ -1,4 +1,4 @@
-use Rattle.std.proofs.Common.{◌≡◌, [], length, ap, ◌∙◌, arith}
+use Rattle.std.proofs.Common.{[], length, ap, ◌∙◌, arith}
 use Rattle.group_model.specs.Places.{holders_of, leavers, joiners, member_count}
 use Rattle.console_run.proofs.StandLemmas.{holders_at-present, leave_few, taken_few}
 use Rattle.console_run.proofs.answers.count_taken.Goals as goal

@@ -1,4 +1,4 @@
-use Rattle.std.proofs.Common.{[], ◌++◌, sym, ◌∙◌, subst}
+use Rattle.std.proofs.Common.{◌++◌, sym, ◌∙◌, subst}
 use Rattle.std.specs.Io.KnownBytes.{Appends}
 use Rattle.script_text.specs.Report.{entries_text, end_text}
 use Rattle.console_run.specs.Clauses.{IsWholeOf}
@@ -11,9 +11,10 @@ returns-in-Ok-follow-clause-report g c = λ ok.
     let entries = c.follow.new.self.group in
     let was = written c.args.out.now in
     let now = written c.end-in-Ok-follow.new.out in
+    let last = end_text c.end-in-Ok-follow.result.status c.end-in-Ok-follow.result.line in
     let followed = c.in-Ok-follow.ensures.followed.3 c.args.depth c.in-Ok.ensures.group in
-    subst (λ history. Appends was now (entries_text history ++ end_text 0 0)) (sym (c.end-in-Ok-follow.ensures.history ∙ c.into_entries.ensures))
-    (Appends-then was (written c.follow.new.out) now (entries_text entries) (end_text 0 0) followed.told (c.end-in-Ok-follow.ensures.told ok))
+    subst (λ history. Appends was now (entries_text history ++ last)) (sym (c.end-in-Ok-follow.ensures.history ∙ c.into_entries.ensures))
+    (Appends-then was (written c.follow.new.out) now (entries_text entries) last followed.told (c.end-in-Ok-follow.ensures.told ok))
 
 pub returns-in-Ok-follow-clause-whole : goal.returns-in-Ok-follow-clause-whole
 returns-in-Ok-follow-clause-whole g c = λ ok.

@@ -1,5 +1,5 @@
-use Rattle.std.proofs.Common.{◌≡◌, ◌++◌, ap, sym, ◌∙◌, take}
-use Rattle.std.proofs.lemmas.List.{append_assoc, take-append-drop}
+use Rattle.std.proofs.Common.{◌++◌, ap, sym, ◌∙◌, take}
+use Rattle.std.proofs.lemmas.List.{append_assoc}
 use Rattle.console_run.proofs.KnownLemmas.{Appends-then}
 use Rattle.console_run.proofs.puts.put_all.Goals as goal
 

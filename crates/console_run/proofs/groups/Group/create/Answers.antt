@@ -1,4 +1,4 @@
-use Rattle.std.proofs.Common.{◌≡◌, ◌++◌, ◌∷◌, [], None, ap, ◌∙◌}
+use Rattle.std.proofs.Common.{◌++◌, ◌∷◌, [], None, ap, ◌∙◌}
 use Rattle.group_model.specs.declared.entries.GroupSeen.{GroupSeen}
 use Rattle.console_run.proofs.StandLemmas.{Stands-created}
 use Rattle.console_run.proofs.groups.Group.create.Goals as goal

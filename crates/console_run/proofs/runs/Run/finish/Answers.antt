@@ -1,7 +1,12 @@
-use Rattle.std.proofs.Common.{length, subst}
+use Rattle.std.proofs.Common.{[], length, subst}
 use Rattle.console_run.specs.Steps.{RunsLine}
-use Rattle.console_run.proofs.ScriptLemmas.{some_of, Ends-line}
+use Rattle.console_run.proofs.ScriptLemmas.{none_of, some_of, Ends-none, Ends-line}
 use Rattle.console_run.proofs.runs.Run.finish.Goals as goal
+
+pub returns-then-is_empty-clause-ends : goal.returns-then-is_empty-clause-ends
+returns-then-is_empty-clause-ends g c =
+    let was = c.args.self.now in
+    ([], Ends-none was.group was.line.items was.count (g.K.Sink.written c.args.out.now) (none_of was.line.items c.if-is_empty.ensures) c.requires.ready.lines)
 
 pub returns-clause-ends : goal.returns-clause-ends
 returns-clause-ends g c =

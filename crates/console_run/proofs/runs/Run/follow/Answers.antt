@@ -1,5 +1,4 @@
-use Rattle.std.proofs.Common.{ℕ, List, [], subst}
-use Rattle.group_model.specs.declared.entries.Entry.{Entry}
+use Rattle.std.proofs.Common.{[], subst}
 use Rattle.console_run.specs.Steps.{GoesOn}
 use Rattle.console_run.proofs.ScriptLemmas.{IsFollowed-from}
 use Rattle.console_run.proofs.runs.Run.follow.Goals as goal

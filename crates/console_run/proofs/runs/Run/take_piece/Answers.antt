@@ -1,4 +1,4 @@
-use Rattle.std.proofs.Common.{◌≡◌, ℕ, ◌+◌, ◌++◌, ◌∷◌, [], take, get_or, sym, subst, arith}
+use Rattle.std.proofs.Common.{◌++◌, ◌∷◌, [], take, get_or, sym, subst, arith}
 use Rattle.std.proofs.lemmas.List.{take_more}
 use Rattle.console_run.specs.Steps.{GoesOn}
 use Rattle.console_run.proofs.ScriptLemmas.{GoesOn-then}

@@ -1,4 +1,4 @@
-use Rattle.std.proofs.Common.{◌≡◌, ◌+◌, ◌≤◌, List, take}
+use Rattle.std.proofs.Common.{◌+◌, ◌≤◌, List, take}
 use Rattle.group_model.specs.declared.entries.Entry.{Entry}
 use Rattle.console_run.specs.Steps.{IsReady, GoesOn, room_left}
 use Rattle.console_run.proofs.runs.Run.take_piece.Given as goal

@@ -1,4 +1,4 @@
-use Rattle.std.proofs.Common.{◌≡◌, ℕ, List}
+use Rattle.std.proofs.Common.{ℕ, List}
 use Rattle.std.specs.Io.KnownBytes.{Consumes}
 use Rattle.group_model.specs.declared.entries.Entry.{Entry}
 use Rattle.console_run.specs.Steps.{IsReady, GoesOn, room_left}

@@ -1,11 +1,11 @@
--- A group that answers requests, and the history that it keeps.
+-- What the private group that answers requests keeps.
 use Rattle.std.specs.Prelude.{◌≡◌, ℕ, ◌*◌, ◌<◌, ◌≤◌, false, List, [], ◌∷◌, ◌++◌, length}
 use Rattle.group_terms.specs.declared.changes.Change.{Change}
 use Rattle.group_model.specs.declared.entries.Entry.{Entry}
 use Rattle.group_model.specs.declared.entries.Asked.{Asked}
 use Rattle.group_model.specs.Places.{Holders, Fits, holders_of}
 use Rattle.group_model.specs.Stayed.{sequence_at}
-use Rattle.group_model.specs.Groups.{Group, no_group, group_after}
+use Rattle.group_model.specs.Groups.{no_group, group_after}
 use Rattle.group_model.specs.Histories.{Batches}
 use Rattle.group_model.specs.Legal.{IsStep, is_want}
 
