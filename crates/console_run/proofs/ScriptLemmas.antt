@@ -1,8 +1,9 @@
 -- Lines, requests and entries, one after the other.
 use Rattle.std.proofs.Common.{true, ◌≡◌, ℕ, zero, suc, ◌+◌, ◌<◌, ◌≤◌, false, cond, eqb, ◌||◌, List, [], ◌∷◌, ◌++◌, Option, length, map, sym, refl, ap, ◌∙◌, subst, arith, inl, inr}
+use Rattle.std.specs.Prelude.{nat_lt}
 use Rattle.std.specs.List.{fold, slice_split, onto_first, list_all}
 use Rattle.std.specs.Io.KnownBytes.{Appends}
-use Rattle.std.proofs.lemmas.Bool.{cases_Bool, eqb-true, ne_eqb, and_from, le-leb, false≢true}
+use Rattle.std.proofs.lemmas.Bool.{cases_Bool, eqb-true, ne_eqb, lt-ltb, and_from, le-leb, false≢true}
 use Rattle.std.proofs.lemmas.List.{nil_from_length, append_assoc, append-nil, map-append, length-append}
 use Rattle.std.proofs.lemmas.List.Concat.{flat_map-append}
 use Rattle.std.proofs.lemmas.List.Folds.{list_any-append, list_all-append}
@@ -51,8 +52,9 @@ cut_of-more octets octet = fold-append cut_more (record { lines = []; rest = [] 
 
 module _ (entries : List Entry) (line : List ℕ) (count : ℕ) (was now : Option (List ℕ)) where
   -- an octet that ends no line is kept
-  pub GoesOn-octet : (octet : ℕ) → (octet ≡ 10 → ⊥) → GoesOn (octet ∷ []) entries entries line (line ++ octet ∷ []) count count was was []
-  GoesOn-octet octet other = record {
+  pub GoesOn-octet : (octet : ℕ) → octet < 256 → (octet ≡ 10 → ⊥) → GoesOn (octet ∷ []) entries entries line (line ++ octet ∷ []) count count was was []
+  GoesOn-octet octet small other = record {
+    small = and_from _ _ (lt-ltb octet 256 small) refl;
     grown = sym (append-nil entries);
     told = Appends-none was;
     so_far = λ depth before h.
@@ -70,6 +72,7 @@ module _ (entries : List Entry) (line : List ℕ) (count : ℕ) (was now : Optio
   -- octet 10 ends the line, which is run
   pub GoesOn-line : (new more : List Entry) → RunsLine line entries new was now more → GoesOn (10 ∷ []) entries new line [] count (count + 1) was now more
   GoesOn-line new more h = record {
+    small = refl;
     grown = h.run.grown;
     told = h.run.told;
     so_far = λ depth before so_far.
@@ -90,6 +93,7 @@ module _ (entries : List Entry) (line : List ℕ) (count : ℕ) (was now : Optio
 
   pub GoesOn-none : GoesOn [] entries entries line line count count was was []
   GoesOn-none = record {
+    small = refl;
     grown = sym (append-nil entries);
     told = Appends-none was;
     so_far = λ depth before h. subst (λ octets. IsSoFar depth octets entries line count) (sym (append-nil before)) h;
@@ -98,6 +102,7 @@ module _ (entries : List Entry) (line : List ℕ) (count : ℕ) (was now : Optio
 -- one piece after another
 pub GoesOn-then : (a b : List ℕ) (first second third : List Entry) (line next last : List ℕ) (count counted at : ℕ) (was now then : Option (List ℕ)) (more others : List Entry) → GoesOn a first second line next count counted was now more → GoesOn b second third next last counted at now then others → GoesOn (a ++ b) first third line last count at was then (more ++ others)
 GoesOn-then a b first second third line next last count counted at was now then more others h k = record {
+  small = list_all-append (λ octet. nat_lt octet 256) a b ∙ and_from _ _ h.small k.small;
   grown = k.grown ∙ ap (λ es. es ++ others) h.grown ∙ append_assoc first more others;
   told = subst (Appends was then) (sym (flat_map-append entry_text more others)) (Appends-then was now then (entries_text more) (entries_text others) h.told k.told);
   so_far = λ depth before so_far. subst (λ octets. IsSoFar depth octets third last at) (append_assoc before a b) (k.so_far depth (before ++ a) (h.so_far depth before so_far));
@@ -110,9 +115,9 @@ GoesOn-ended entries new line text next count octet was now more ends same clear
     (subst (λ rest. GoesOn (10 ∷ []) entries new line rest count (count + 1) was now more) (sym cleared)
     (GoesOn-line entries line count was now new more (subst (λ t. RunsLine t entries new was now more) same h)))
 
-pub GoesOn-kept : (entries : List Entry) (line next : List ℕ) (count octet : ℕ) (known : Option (List ℕ)) → (octet ≡ 10 → ⊥) → next ≡ line ++ octet ∷ [] → GoesOn (octet ∷ []) entries entries line next count count known known []
-GoesOn-kept entries line next count octet known other kept =
-    subst (λ rest. GoesOn (octet ∷ []) entries entries line rest count count known known []) (sym kept) (GoesOn-octet entries line count known known octet other)
+pub GoesOn-kept : (entries : List Entry) (line next : List ℕ) (count octet : ℕ) (known : Option (List ℕ)) → octet < 256 → (octet ≡ 10 → ⊥) → next ≡ line ++ octet ∷ [] → GoesOn (octet ∷ []) entries entries line next count count known known []
+GoesOn-kept entries line next count octet known small other kept =
+    subst (λ rest. GoesOn (octet ∷ []) entries entries line rest count count known known []) (sym kept) (GoesOn-octet entries line count known known octet small other)
 
 -- what came before the parts belongs to the first
 parts_onto : List ℕ → List (List ℕ) → List (List ℕ)
@@ -231,5 +236,6 @@ IsFollowed-from depth taken first second last next counted was told now end more
       told = subst (Appends was end) (sym all)
           (Appends-then was told end (entry_text entry) (entries_text more ++ entries_text others) (begun [] entry made.1.appended)
           (Appends-then told now end (entries_text more) (entries_text others) goes.told ends.told));
+      octets = goes.small;
       run = ends.run depth taken (goes.so_far depth [] (first_so_far depth first made));
     }

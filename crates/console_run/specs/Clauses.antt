@@ -1,10 +1,10 @@
 -- What the console promises of its run.
-use Rattle.std.specs.Prelude.{◌≡◌, ℕ, List, ◌++◌, Option, None, Some}
+use Rattle.std.specs.Prelude.{◌≡◌, ℕ, true, List, ◌++◌, Option, None, Some}
 use Rattle.std.specs.Io.KnownBytes.{Consumes}
 use Rattle.group_model.specs.declared.entries.Entry.{Entry}
 use Rattle.script_text.specs.Report.{entries_text, end_text}
 use Rattle.console_run.specs.Words.{depth_of}
-use Rattle.console_run.specs.Scripts.{script_lines, IsRunOf}
+use Rattle.console_run.specs.Scripts.{are_octets, script_lines, IsRunOf}
 
 -- the report of a history, and the line that ends it
 abbrev pub out_text : List Entry → ℕ → ℕ → List ℕ
@@ -20,6 +20,7 @@ pub record IsWholeOf (depth : ℕ) (left rest : Option (List ℕ)) (entries : Li
   pub taken : List ℕ
   pub source : Consumes left rest taken
   pub whole : TakesAll left taken
+  pub octets : are_octets taken ≡ true
   pub run : IsRunOf depth (script_lines taken) entries
 
 -- the words ask for a group, and the whole of the source was run on it

@@ -1,5 +1,5 @@
 -- A script, line by line, and what it asks.
-use Rattle.std.specs.Prelude.{◌≡◌, ℕ, ◌==◌, ◌&&◌, nat_le, Bool, true, false, List, [], ◌∷◌, length, is_some}
+use Rattle.std.specs.Prelude.{◌≡◌, ℕ, ◌==◌, ◌&&◌, nat_le, nat_lt, Bool, true, false, List, [], ◌∷◌, length, is_some}
 use Rattle.std.specs.List.{flat_map, list_all, slice_split}
 use Rattle.std.specs.Option.{option_map, unwrap_or}
 use Rattle.group_model.specs.declared.entries.Entry.{Entry}
@@ -8,6 +8,9 @@ use Rattle.group_model.specs.declared.entries.Asked.TheVariants.{Create}
 use Rattle.group_model.specs.Legal.{IsLegal, wants_memory}
 use Rattle.script_text.specs.Lines.{line_of}
 use Rattle.script_text.specs.Requests.{requests_of}
+
+abbrev pub are_octets : List ℕ → Bool
+are_octets octets = list_all (λ octet. nat_lt octet 256) octets
 
 -- octet 10 ends a line
 abbrev pub ends_line : ℕ → Bool

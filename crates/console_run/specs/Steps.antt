@@ -8,7 +8,7 @@ use Rattle.group_model.specs.declared.entries.Asked.TheVariants.{Create}
 use Rattle.group_model.specs.Groups.{no_group, group_after}
 use Rattle.group_model.specs.Legal.{AreSteps, IsLegal, wants_memory}
 use Rattle.script_text.specs.Report.{entries_text}
-use Rattle.console_run.specs.Scripts.{ends_line, is_line, line_requests, requests_in, script_lines, IsRunOf}
+use Rattle.console_run.specs.Scripts.{are_octets, ends_line, is_line, line_requests, requests_in, script_lines, IsRunOf}
 
 -- the history went on by these entries, which answer these requests, and they were reported
 pub record Tells (old new : List Entry) (was now : Option (List ℕ)) (requests : List Asked) (more : List Entry) : Type 0 where
@@ -49,6 +49,7 @@ pub record IsSoFar (depth : ℕ) (octets : List ℕ) (entries : List Entry) (lin
 pub record GoesOn (octets : List ℕ) (old new : List Entry) (line next : List ℕ) (count counted : ℕ) (was now : Option (List ℕ)) (more : List Entry) : Type 0 where
   pub grown : new ≡ old ++ more
   pub told : Appends was now (entries_text more)
+  pub small : are_octets octets ≡ true
   pub so_far : (depth : ℕ) (before : List ℕ) → IsSoFar depth before old line count → IsSoFar depth (before ++ octets) new next counted
 
 -- what the limits leave: octets of this line, and lines after it
@@ -70,4 +71,5 @@ pub record Ends (old new : List Entry) (line : List ℕ) (count : ℕ) (was now 
 -- all that was taken was run on a new group of this depth, and its whole history reported
 pub record IsFollowed (depth : ℕ) (taken : List ℕ) (entries : List Entry) (was now : Option (List ℕ)) : Type 0 where
   pub told : Appends was now (entries_text entries)
+  pub octets : are_octets taken ≡ true
   pub run : IsRunOf depth (script_lines taken) entries

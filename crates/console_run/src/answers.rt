@@ -4,8 +4,11 @@ ghost use Rattle.group_model.specs.Places.{Fits, holders_of};
 ghost use Rattle.group_model.specs.Legal.{join_answer, leave_answer, taken_leaves};
 ghost use Rattle.console_run.specs.Stands.{HasRoom};
 
-use crate::batches::{count_joiners, count_leavers, has_pending};
-use group_model::{Answer, Batch, Change, History, MemberName, Refusal, each_leaf_has_its_place};
+use crate::batches::has_pending;
+use group_model::{
+    Answer, Batch, Change, History, MemberName, Refusal, count_joiners, count_leavers,
+    each_leaf_has_its_place,
+};
 
 /// A member's join does nothing; then a pending change refuses it, and then a full tree.
 pub(crate) fn answer_join(history: &History, pending: &Batch, member: &MemberName) -> Answer

@@ -1,13 +1,12 @@
 //! Closing a batch, and what is asked of the pending changes.
 ghost use Rattle.std.specs.Prelude.{◌≡◌, ◌+◌, ◌^◌, ◌<◌, ◌≤◌, [], ◌∷◌, ◌++◌, length, IfOk, OnOk, OnErr, if◌then◌else◌};
-ghost use Rattle.group_model.specs.Places.{Fits, holders_of, leaver, leavers, joiner, joiners};
+ghost use Rattle.group_model.specs.Places.{Fits, holders_of};
 ghost use Rattle.group_model.specs.Stayed.{sequence_at};
 ghost use Rattle.group_model.specs.Wraps.{is_nil};
 ghost use Rattle.group_model.specs.Legal.{is_pending, output_of};
 
 use group_model::{
-    Batch, Change, History, List, MemberName, NoMemory, Output, Wrap,
-    a_batch_that_wraps_uses_two_numbers,
+    Batch, History, List, MemberName, NoMemory, Output, Wrap, a_batch_that_wraps_uses_two_numbers,
 };
 use std::alloc::Global;
 
@@ -19,40 +18,6 @@ pub(crate) fn has_pending(pending: &Batch, member: &MemberName) -> bool
         .changes()
         .iter()
         .any(|change| member == change.member())
-}
-
-/// How many pending changes take a member out.
-pub(crate) fn count_leavers(changes: &[Change]) -> usize
-    ensures count { result ≡ length (leavers changes.now) }
-    ensures within { result ≤ length changes.now }
-{
-    changes.iter().filter_map(leaver).count()
-}
-
-/// How many pending changes let somebody in.
-pub(crate) fn count_joiners(changes: &[Change]) -> usize
-    ensures count { result ≡ length (joiners changes.now) }
-    ensures within { result ≤ length changes.now }
-{
-    changes.iter().filter_map(joiner).count()
-}
-
-fn leaver(change: &Change) -> Option<MemberName>
-    ensures { result ≡ leaver change.now }
-{
-    match change {
-        Change::Out { member } => Some(*member),
-        Change::In { .. } => None,
-    }
-}
-
-fn joiner(change: &Change) -> Option<MemberName>
-    ensures { result ≡ joiner change.now }
-{
-    match change {
-        Change::Out { .. } => None,
-        Change::In { member } => Some(*member),
-    }
 }
 
 /// Makes the pending changes the next batch. Where there is no memory all is as before.

@@ -48,6 +48,7 @@ impl Run {
     /// The number of the present line, from 1.
     pub(crate) fn line_number(&self) -> u32
         requires { self.now.count ≤ 16384 }
+        ensures { result ≡ self.now.count + 1 }
     {
         self.count + 1
     }

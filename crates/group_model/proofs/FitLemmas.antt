@@ -1,16 +1,15 @@
 -- What the test of a batch finds.
-use Rattle.std.proofs.Common.{◌≡◌, ℕ, suc, ◌+◌, ◌-◌, ◌^◌, ◌<◌, ◌≤◌, Bool, true, false, cond, not, ltb, leb, ◌&&◌, ◌||◌, List, [], ◌∷◌, Some, None, length, map, take, drop, get_or, is_some, sym, refl, ap, ◌∙◌, subst, arith, one-add, inl, inr}
+use Rattle.std.proofs.Common.{◌≡◌, ℕ, suc, ◌+◌, ◌-◌, ◌^◌, ◌<◌, ◌≤◌, Bool, true, false, cond, not, ltb, leb, ◌&&◌, ◌||◌, List, [], ◌∷◌, Some, None, length, map, take, drop, get_or, is_some, sym, refl, ap, ◌∙◌, subst, arith, inl, inr}
 use Rattle.std.specs.Prelude.{Decides}
-use Rattle.std.specs.List.{list_any, list_all, count_by, position_or_len}
+use Rattle.std.specs.List.{list_any, list_all, position_or_len}
 use Rattle.std.specs.Option.{option_map}
 use Rattle.std.proofs.lemmas.Bool.{cases_lt, and_parts, lt-ltb, le-ltb, le-leb, leb-true, false≢true}
 use Rattle.std.proofs.lemmas.List.{at_drop_more, take_rest}
-use Rattle.std.proofs.lemmas.List.Recursion.{is_count_by}
 use Rattle.group_terms.specs.Names.{Name, same_name}
 use Rattle.group_terms.specs.Changes.{member_of}
 use Rattle.group_terms.specs.declared.changes.Change.{Change}
 use Rattle.group_terms.specs.declared.changes.Change.TheVariants.{Out, In}
-use Rattle.group_model.specs.Places.{Holders, Fits, is_held_by, is_member, place_in, member_count, leaver, leavers, joiner, joiners, names_once}
+use Rattle.group_model.specs.Places.{Holders, Fits, is_held_by, is_member, place_in, member_count, leavers, joiners, names_once}
 use Rattle.group_model.specs.Suits.{suits}
 
 ltb-suc : (a b : ℕ) → ltb a b ≡ ltb (1 + a) (suc b)
@@ -35,21 +34,6 @@ has_place depth holders m = at (ltb (position_or_len (is_held_by m) holders) (le
     at : (b : Bool) → is_some (option_map (λ i. 2 ^ depth + i) (cond b (Some (position_or_len (is_held_by m) holders)) None)) ≡ b
     at true = refl
     at false = refl
-
--- as many come in, or go out, as changes say so
-pub count-joiners : (batch : List Change) → length (joiners batch) ≡ count_by (λ change. is_some (joiner change)) batch
-count-joiners batch = is_count_by (λ changes. length (joiners changes)) (λ change. is_some (joiner change)) refl one batch
-  where
-    one : (change : Change) (changes : List Change) → length (joiners (change ∷ changes)) ≡ cond (is_some (joiner change)) (1 + length (joiners changes)) (length (joiners changes))
-    one (Out m) changes = refl
-    one (In m) changes = sym (one-add (length (joiners changes)))
-
-pub count-leavers : (batch : List Change) → length (leavers batch) ≡ count_by (λ change. is_some (leaver change)) batch
-count-leavers batch = is_count_by (λ changes. length (leavers changes)) (λ change. is_some (leaver change)) refl one batch
-  where
-    one : (change : Change) (changes : List Change) → length (leavers (change ∷ changes)) ≡ cond (is_some (leaver change)) (1 + length (leavers changes)) (length (leavers changes))
-    one (Out m) changes = sym (one-add (length (leavers changes)))
-    one (In m) changes = refl
 
 pub list_any-map : {X Y : Type 0} (p : Y → Bool) (h : X → Y) (xs : List X) → list_any p (map h xs) ≡ list_any (λ x. p (h x)) xs
 list_any-map p h [] = refl

@@ -1,6 +1,6 @@
 //! Whether a batch can be the next one.
-ghost use Rattle.std.specs.Prelude.{◌≡◌, ◌+◌, ◌≤◌, ◌↔◌, length, map, is_some, IsTrue};
-ghost use Rattle.std.specs.List.{list_any, list_all, count_by};
+ghost use Rattle.std.specs.Prelude.{◌≡◌, ◌+◌, ◌≤◌, ◌↔◌, length, map, IsTrue};
+ghost use Rattle.std.specs.List.{list_any, list_all};
 ghost use Rattle.group_terms.specs.Names.{same_name};
 ghost use Rattle.group_terms.specs.Changes.{member_of};
 ghost use Rattle.group_model.specs.Places.{Fits, holders_of, member_count, leaver, leavers, joiner, joiners, names_once};
@@ -68,34 +68,36 @@ fn is_about(change: &Change, member: &MemberName) -> bool
     member == change.member()
 }
 
-fn count_joiners(changes: &[Change]) -> usize
-    ensures count { result ≡ count_by (λ change. is_some (joiner change)) changes.now }
+/// How many changes let somebody in.
+pub fn count_joiners(changes: &[Change]) -> usize
+    ensures count { result ≡ length (joiners changes.now) }
     ensures within { result ≤ length changes.now }
 {
-    changes.iter().filter(|change| comes_in(change)).count()
+    changes.iter().filter_map(joiner).count()
 }
 
-fn count_leavers(changes: &[Change]) -> usize
-    ensures count { result ≡ count_by (λ change. is_some (leaver change)) changes.now }
+/// How many changes take a member out.
+pub fn count_leavers(changes: &[Change]) -> usize
+    ensures count { result ≡ length (leavers changes.now) }
     ensures within { result ≤ length changes.now }
 {
-    changes.iter().filter(|change| goes_out(change)).count()
+    changes.iter().filter_map(leaver).count()
 }
 
-fn comes_in(change: &Change) -> bool
-    ensures { result ≡ is_some (joiner change.now) }
+fn joiner(change: &Change) -> Option<MemberName>
+    ensures { result ≡ joiner change.now }
 {
     match change {
-        Change::In { .. } => true,
-        Change::Out { .. } => false,
+        Change::Out { .. } => None,
+        Change::In { member } => Some(*member),
     }
 }
 
-fn goes_out(change: &Change) -> bool
-    ensures { result ≡ is_some (leaver change.now) }
+fn leaver(change: &Change) -> Option<MemberName>
+    ensures { result ≡ leaver change.now }
 {
     match change {
-        Change::In { .. } => false,
-        Change::Out { .. } => true,
+        Change::Out { member } => Some(*member),
+        Change::In { .. } => None,
     }
 }

@@ -6,6 +6,7 @@ pub use entries::{
     Answer, Asked, Entry, GroupSeen, Output, Outside, PushPair, Refusal, SentReply, Standing,
     SymReply,
 };
+pub use fits::{count_joiners, count_leavers};
 pub use group_terms::{
     Batch, Change, KeyName, List, LkhId, Log, MOST_CHANGES, MemberName, NoMemory, Octets, Wrap,
 };

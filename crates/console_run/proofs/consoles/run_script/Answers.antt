@@ -20,5 +20,6 @@ pub returns-in-Ok-follow-clause-whole : goal.returns-in-Ok-follow-clause-whole
 returns-in-Ok-follow-clause-whole g c = λ ok.
     let left = g.S.Source.left in
     let taken = c.in-Ok-follow.ensures.followed in
+    let followed = taken.3 c.args.depth c.in-Ok.ensures.group in
     subst (IsWholeOf c.args.depth (left c.args.script.now) (left c.follow.new.script)) (sym (c.end-in-Ok-follow.ensures.history ∙ c.into_entries.ensures))
-    (record { taken = taken.0; source = taken.1; whole = taken.2; run = (taken.3 c.args.depth c.in-Ok.ensures.group).run })
+    (record { taken = taken.0; source = taken.1; whole = taken.2; octets = followed.octets; run = followed.run })

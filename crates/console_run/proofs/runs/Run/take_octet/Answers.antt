@@ -12,4 +12,4 @@ returns-then-octet-eq10-clause-goes g c =
 
 pub returns-clause-goes : goal.returns-clause-goes
 returns-clause-goes g c =
-    ([], GoesOn-kept c.args.self.now.group c.args.self.now.line.items c.push.new.self.items c.args.self.now.count c.args.octet (g.K.Sink.written c.args.out.now) c.if-octet-eq10.false c.push.ensures.items)
+    ([], GoesOn-kept c.args.self.now.group c.args.self.now.line.items c.push.new.self.items c.args.self.now.count c.args.octet (g.K.Sink.written c.args.out.now) c.ranges.octet.fits c.if-octet-eq10.false c.push.ensures.items)
