@@ -1,5 +1,5 @@
 //! The console: words, a script, and a report.
-ghost use Rattle.std.specs.Prelude.{◌≡◌, ◌<◌, ◌≤◌, List, Some, map, string_bytes, IfSome};
+ghost use Rattle.std.specs.Prelude.{◌≡◌, ◌≤◌, ◌⊎◌, [], None, map, string_bytes};
 ghost use Rattle.std.specs.Io.KnownBytes.{Appends};
 ghost use Rattle.script_text.specs.Report.{end_text};
 ghost use Rattle.console_run.specs.Words.{depth_of};
@@ -39,9 +39,11 @@ pub fn console<S: Source, K: Sink>(
     script: &mut S,
     out: &mut K,
 ) -> Finished
-    ensures report { result.status ≡ 0 → Appends (K.written out.old) (K.written out.new) (out_text result.history result.status result.line) }
+    ensures report { result.status ≤ 1 → Appends (K.written out.old) (K.written out.new) (out_text result.history result.status result.line) }
     ensures line { (result.status ≡ 2 → ⊥) → result.line ≡ 0 }
     ensures history { result.status ≡ 0 → IsWholeRun (map string_bytes words.now) (S.left script.old) (S.left script.new) result.history }
+    ensures words { result.status ≡ 1 → depth_of (map string_bytes words.now) ≡ None }
+    ensures other_words { depth_of (map string_bytes words.now) ≡ None → (result.history ≡ []) × (script.new ≡ script.old) × ((result.status ≡ 1) ⊎ (4 ≤ result.status)) }
 {
     match read_words(words) {
         Some(depth) => run_script(alloc, depth, script, out),
@@ -55,6 +57,7 @@ fn run_script<S: Source, K: Sink>(alloc: Global, depth: u8, script: &mut S, out:
     requires not_deep { depth ≤ 4 }
     ensures report { result.status ≡ 0 → Appends (K.written out.old) (K.written out.new) (out_text result.history result.status result.line) }
     ensures line { (result.status ≡ 2 → ⊥) → result.line ≡ 0 }
+    ensures other { result.status ≡ 1 → ⊥ }
     ensures whole { result.status ≡ 0 → IsWholeOf depth (S.left script.old) (S.left script.new) result.history }
 {
     let mut run = match Run::begin(alloc, depth) {
@@ -85,10 +88,10 @@ fn run_script<S: Source, K: Sink>(alloc: Global, depth: u8, script: &mut S, out:
 /// Puts the last line of the report.
 fn end<K: Sink>(alloc: Global, status: u8, line: u32, history: List<Entry>, out: &mut K) -> Finished
     requires line { (status ≡ 2 → ⊥) → line ≡ 0 }
-    ensures status { result.status ≡ 0 → status ≡ 0 }
+    ensures due { (result.status ≡ status) ⊎ (4 ≤ result.status) }
     ensures history { result.history ≡ history }
     ensures line { (result.status ≡ 2 → ⊥) → result.line ≡ 0 }
-    ensures told { result.status ≡ 0 → Appends (K.written out.old) (K.written out.new) (end_text result.status result.line) }
+    ensures told { result.status ≤ 3 → Appends (K.written out.old) (K.written out.new) (end_text result.status result.line) }
 {
     let mut text = List::new(alloc);
     match end_line(alloc, status, line, &mut text) {

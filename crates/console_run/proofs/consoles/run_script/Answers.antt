@@ -1,4 +1,4 @@
-use Rattle.std.proofs.Common.{◌++◌, sym, ◌∙◌, subst}
+use Rattle.std.proofs.Common.{◌++◌, arith, sym, ◌∙◌, subst}
 use Rattle.std.specs.Io.KnownBytes.{Appends}
 use Rattle.script_text.specs.Report.{entries_text, end_text}
 use Rattle.console_run.specs.Clauses.{IsWholeOf}
@@ -14,7 +14,7 @@ returns-in-Ok-follow-clause-report g c = λ ok.
     let last = end_text c.end-in-Ok-follow.result.status c.end-in-Ok-follow.result.line in
     let followed = c.in-Ok-follow.ensures.followed.3 c.args.depth c.in-Ok.ensures.group in
     subst (λ history. Appends was now (entries_text history ++ last)) (sym (c.end-in-Ok-follow.ensures.history ∙ c.into_entries.ensures))
-    (Appends-then was (written c.follow.new.out) now (entries_text entries) last followed.told (c.end-in-Ok-follow.ensures.told ok))
+    (Appends-then was (written c.follow.new.out) now (entries_text entries) last followed.told (c.end-in-Ok-follow.ensures.told (omega (arith, ok))))
 
 pub returns-in-Ok-follow-clause-whole : goal.returns-in-Ok-follow-clause-whole
 returns-in-Ok-follow-clause-whole g c = λ ok.
