@@ -1,10 +1,12 @@
 -- Lines, requests and entries, one after the other.
-use Rattle.std.proofs.Common.{true, ◌≡◌, ℕ, zero, suc, ◌+◌, ◌<◌, ◌≤◌, false, cond, eqb, ◌||◌, List, [], ◌∷◌, ◌++◌, Option, length, map, sym, refl, ap, ◌∙◌, subst, arith, inl, inr}
+use Rattle.std.proofs.Common.{take, drop, get_or, true, ◌≡◌, ℕ, zero, suc, ◌+◌, ◌<◌, ◌≤◌, false, cond, eqb, ◌||◌, List, [], ◌∷◌, ◌++◌, Option, length, map, sym, refl, ap, ◌∙◌, subst, arith, inl, inr}
 use Rattle.std.specs.Prelude.{nat_lt}
-use Rattle.std.specs.List.{fold, slice_split, onto_first, list_all}
-use Rattle.std.specs.Io.KnownBytes.{Appends}
-use Rattle.std.proofs.lemmas.Bool.{cases_Bool, eqb-true, ne_eqb, lt-ltb, and_from, le-leb, false≢true}
-use Rattle.std.proofs.lemmas.List.{nil_from_length, append_assoc, append-nil, map-append, length-append}
+use Rattle.std.specs.Prelude.{Result, Err}
+use Rattle.std.specs.Result.{IsErrAnd}
+use Rattle.std.specs.List.{fold, slice_split, onto_first, list_any, list_all}
+use Rattle.std.specs.Io.KnownBytes.{Appends, Consumes}
+use Rattle.std.proofs.lemmas.Bool.{cases_Bool, or_from, eqb-true, ne_eqb, lt-ltb, and_from, le-leb, false≢true}
+use Rattle.std.proofs.lemmas.List.{take_more, take-append-drop, nil_from_length, append_assoc, append-nil, map-append, length-append}
 use Rattle.std.proofs.lemmas.List.Concat.{flat_map-append}
 use Rattle.std.proofs.lemmas.List.Folds.{list_any-append, list_all-append}
 use Rattle.std.proofs.lemmas.List.Sums.{fold-append}
@@ -16,7 +18,8 @@ use Rattle.group_model.specs.Legal.{AreSteps, IsLegal, is_want, wants_memory}
 use Rattle.script_text.specs.Report.{entry_text, entries_text}
 use Rattle.console_run.specs.Scripts.{ends_line, unfinished, lines_of_parts, script_lines, is_line, line_requests, requests_in, IsRunOf}
 use Rattle.console_run.specs.Stands.{IsAnswered, Answers}
-use Rattle.console_run.specs.Steps.{Cut, cut_more, cut_of, Tells, RunsLine, IsSoFar, GoesOn, Ends, IsFollowed}
+use Rattle.console_run.specs.Steps.{Cut, cut_more, cut_of, Tells, RunsLine, IsSoFar, GoesOn, Ends, IsFollowed, IsBadOctet, Halts}
+use Rattle.console_run.specs.Clauses.{TakesAll, IsFaulty, IsStoppedOf}
 use Rattle.console_run.proofs.KnownLemmas.{Appends-none, Appends-then}
 
 -- steps go on from what the earlier ones made
@@ -66,6 +69,11 @@ module _ (entries : List Entry) (line : List ℕ) (count : ℕ) (was now : Optio
           grammar = ap (λ (c : Cut). list_all is_line c.lines) cut ∙ h.grammar;
           legal = subst (λ (c : Cut). IsLegal (Create depth ∷ requests_in c.lines) entries) (sym cut) h.legal;
           granted = h.granted;
+          start = h.start;
+          parts = ap (λ octets. octets ++ octet ∷ []) h.parts ∙ append_assoc h.start line (octet ∷ []);
+          ended = h.ended;
+          cut = h.cut ∙ ap (λ (c : Cut). record { lines = c.lines; rest = [] }) (sym cut);
+          one_line = list_any-append ends_line line (octet ∷ []) ∙ or_from _ _ h.one_line (or_from _ _ (ne_eqb octet 10 other) refl);
         };
   }
 
@@ -88,6 +96,11 @@ module _ (entries : List Entry) (line : List ℕ) (count : ℕ) (was now : Optio
               (subst (IsLegal (Create depth ∷ (requests_in lines ++ line_requests line))) (sym h.run.grown)
               (IsLegal-append (Create depth ∷ requests_in lines) (line_requests line) entries more so_far.legal h.run.asked h.run.steps)));
           granted = ap wants_memory h.run.grown ∙ wants-append entries more so_far.granted h.run.granted;
+          start = before ++ 10 ∷ [];
+          parts = sym (append-nil (before ++ 10 ∷ []));
+          ended = inr (before, refl);
+          cut = cut ∙ ap (λ (c : Cut). record { lines = c.lines; rest = [] }) (sym cut);
+          one_line = refl;
         };
   }
 
@@ -221,6 +234,11 @@ first_so_far depth entries h = record {
     steps = subst (AreSteps no_group) (sym h.1.appended) (h.1.step, tt);
   };
   granted = ap wants_memory h.1.appended ∙ ap (λ want. want || false) h.1.granted;
+  start = [];
+  parts = refl;
+  ended = inl refl;
+  cut = refl;
+  one_line = refl;
 }
 
 -- the whole of a run: the entry of its making, its script and its last line
@@ -239,3 +257,83 @@ IsFollowed-from depth taken first second last next counted was told now end more
       octets = goes.small;
       run = ends.run depth taken (goes.so_far depth [] (first_so_far depth first made));
     }
+
+-- a piece of which some octets were taken, and the next is bad
+pub Halts-at : (piece : List ℕ) (place : ℕ) (first second new : List Entry) (line next : List ℕ) (count counted at : ℕ) (was now then : Option (List ℕ)) (more : List Entry) → place < length piece → GoesOn (take place piece) first second line next count counted was now more → IsBadOctet next counted (get_or piece place 0) → new ≡ second → at ≡ counted → then ≡ now → Halts piece first new line count at was then
+Halts-at piece place first second new line next count counted at was now then more within goes bad same_entries same_count same_text =
+    let octet = get_or piece place 0 in
+    let later = drop (place + 1) piece in
+    let halts : Halts piece first second line count counted was now = record {
+      done = take place piece;
+      octet = octet;
+      later = later;
+      parts = sym (take-append-drop (place + 1) piece) ∙ ap (λ front. front ++ later) (take_more piece place 0 within) ∙ append_assoc (take place piece) (octet ∷ []) later;
+      next = next;
+      more = more;
+      goes = goes;
+      bad = bad;
+    } in
+    subst (λ entries. Halts piece first entries line count at was then) (sym same_entries)
+    (subst (λ n. Halts piece first second line count n was then) (sym same_count)
+    (subst (Halts piece first second line count counted was) (sym same_text) halts))
+
+pub Halts-then : (a b : List ℕ) (first second third : List Entry) (line next : List ℕ) (count counted at : ℕ) (was now then : Option (List ℕ)) (more : List Entry) → GoesOn a first second line next count counted was now more → Halts b second third next counted at now then → Halts (a ++ b) first third line count at was then
+Halts-then a b first second third line next count counted at was now then more goes halts = record {
+  done = a ++ halts.done;
+  octet = halts.octet;
+  later = halts.later;
+  parts = ap (λ others. a ++ others) halts.parts ∙ sym (append_assoc a halts.done (halts.octet ∷ halts.later));
+  next = halts.next;
+  more = more ++ halts.more;
+  goes = GoesOn-then a halts.done first second third line next halts.next count counted at was now then more halts.more goes halts.goes;
+  bad = halts.bad;
+}
+
+module _ (depth : ℕ) (left rest : Option (List ℕ)) (taken : List ℕ) (first second : List Entry) (counted : ℕ) (told now : Option (List ℕ)) (made : Answers [] first (Create depth)) (source : Consumes left rest taken) (few : counted ≤ 16384) where
+  -- the line behind the octets so far is faulty
+  stopped : (done line text after : List ℕ) (so : IsSoFar depth done second line counted) → taken ≡ so.start ++ (text ++ after) → list_any ends_line text ≡ false → IsFaulty left taken (counted + 1) text after → IsStoppedOf depth left rest (counted + 1) second
+  stopped done line text after so parts one_line faulty =
+      let lines : script_lines so.start ≡ (cut_of done).lines = lines_cut so.start ∙ ap (λ (c : Cut). c.lines ++ unfinished c.rest) so.cut ∙ append-nil (cut_of done).lines in
+      record {
+        before = so.start;
+        text = text;
+        after = after;
+        source = subst (Consumes left rest) parts source;
+        ended = so.ended;
+        run = subst (λ lines. IsRunOf depth lines second) (sym lines) (IsRunOf-lines depth done second line counted so few);
+        counted = ap (λ n. n + 1) (sym so.counted) ∙ ap (λ lines. length lines + 1) (sym lines);
+        one_line = one_line;
+        faulty = subst (λ octets. IsFaulty left octets (counted + 1) text after) parts faulty;
+      }
+
+  pub IsStoppedOf-octet : Halts taken first second [] 0 counted told now → IsStoppedOf depth left rest (counted + 1) second
+  IsStoppedOf-octet h =
+      let so = h.goes.so_far depth [] (first_so_far depth first made) in
+      let others = h.octet ∷ h.later in
+      let parts : taken ≡ so.start ++ (h.next ++ others) = h.parts ∙ ap (λ front. front ++ others) so.parts ∙ append_assoc so.start h.next others in
+      elim h.bad [
+        | inl many ↦ stopped h.done h.next h.next others so parts so.one_line (inl (omega (arith, many), omega (arith, length-append h.next others)))
+        | inr (inl ends) ↦ stopped h.done h.next h.next others so parts so.one_line (inr (inr (ends.1, inl (h.later, ap (λ octet. octet ∷ h.later) ends.0))))
+        | inr (inr long) ↦ stopped h.done h.next (h.next ++ h.octet ∷ []) h.later so
+            (parts ∙ ap (λ text. so.start ++ text) (sym (append_assoc h.next (h.octet ∷ []) h.later)))
+            (list_any-append ends_line h.next (h.octet ∷ []) ∙ or_from _ _ so.one_line (or_from _ _ (ne_eqb h.octet 10 long.0) refl))
+            (inr (inl (omega (arith, long.1, length-append h.next (h.octet ∷ [])))))
+      ]
+
+  pub IsStoppedOf-end : (next : List ℕ) (more : List Entry) → GoesOn taken first second [] next 0 counted told now more → TakesAll left taken → is_line next ≡ false → IsStoppedOf depth left rest (counted + 1) second
+  IsStoppedOf-end next more goes whole bad =
+      let so = goes.so_far depth [] (first_so_far depth first made) in
+      stopped taken next next [] so (so.parts ∙ ap (λ text. so.start ++ text) (sym (append-nil next))) so.one_line (inr (inr (bad, inr (refl, whole))))
+
+-- what is reported of the making of a group, and of what the octets asked
+pub told_so_far : (depth : ℕ) (taken : List ℕ) (first second : List Entry) (next : List ℕ) (counted : ℕ) (was told now : Option (List ℕ)) (more : List Entry) → Answers [] first (Create depth) → ((front : List Entry) (entry : Entry) → first ≡ front ++ entry ∷ [] → Appends was told (entry_text entry)) → GoesOn taken first second [] next 0 counted told now more → Appends was now (entries_text second)
+told_so_far depth taken first second next counted was told now more made begun goes =
+    let entry = made.0 in
+    let opening : entries_text first ≡ entry_text entry = ap entries_text made.1.appended ∙ append-nil (entry_text entry) in
+    let all : entries_text second ≡ entry_text entry ++ entries_text more =
+    ap entries_text goes.grown ∙ flat_map-append entry_text first more ∙ ap (λ text. text ++ entries_text more) opening in
+    subst (Appends was now) (sym all) (Appends-then was told now (entry_text entry) (entries_text more) (begun [] entry made.1.appended) goes.told)
+
+-- what holds of an error holds of this one
+pub of_error : {E : Type 0} (P : E → Type 0) (result : Result Unit E) (error : E) → result ≡ Err error → IsErrAnd result P → P error
+of_error P result error e h = subst (λ r. IsErrAnd r P) e h

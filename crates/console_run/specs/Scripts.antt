@@ -1,5 +1,5 @@
 -- A script, line by line, and what it asks.
-use Rattle.std.specs.Prelude.{◌≡◌, ℕ, ◌==◌, ◌&&◌, nat_le, nat_lt, Bool, true, false, List, [], ◌∷◌, length, is_some}
+use Rattle.std.specs.Prelude.{◌≡◌, ◌⊎◌, ℕ, ◌==◌, ◌&&◌, nat_le, nat_lt, Bool, true, false, List, [], ◌∷◌, ◌++◌, length, is_some}
 use Rattle.std.specs.List.{flat_map, list_all, slice_split}
 use Rattle.std.specs.Option.{option_map, unwrap_or}
 use Rattle.group_model.specs.declared.entries.Entry.{Entry}
@@ -29,6 +29,10 @@ lines_of_parts (part ∷ next ∷ parts) = part ∷ lines_of_parts (next ∷ par
 
 abbrev pub script_lines : List ℕ → List (List ℕ)
 script_lines octets = lines_of_parts (slice_split ends_line octets)
+
+-- a text with nothing behind its last line end
+abbrev pub EndsLine : List ℕ → Type 0
+EndsLine text = (text ≡ []) ⊎ ((front : List ℕ) × (text ≡ front ++ 10 ∷ []))
 
 abbrev pub is_line : List ℕ → Bool
 is_line text = is_some (line_of text)

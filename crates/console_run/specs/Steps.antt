@@ -1,6 +1,6 @@
 -- What the private functions of a run promise each other.
-use Rattle.std.specs.Prelude.{[], ◌≡◌, ℕ, ◌+◌, ◌-◌, ◌*◌, ◌<◌, ◌≤◌, true, false, List, ◌∷◌, ◌++◌, length, map, Option, if◌then◌else◌}
-use Rattle.std.specs.List.{fold, list_all}
+use Rattle.std.specs.Prelude.{◌⊎◌, [], ◌≡◌, ℕ, ◌+◌, ◌-◌, ◌*◌, ◌<◌, ◌≤◌, true, false, List, ◌∷◌, ◌++◌, length, map, Option, if◌then◌else◌}
+use Rattle.std.specs.List.{fold, list_any, list_all}
 use Rattle.std.specs.Io.KnownBytes.{Appends}
 use Rattle.group_model.specs.declared.entries.Entry.{Entry}
 use Rattle.group_model.specs.declared.entries.Asked.{Asked}
@@ -8,7 +8,7 @@ use Rattle.group_model.specs.declared.entries.Asked.TheVariants.{Create}
 use Rattle.group_model.specs.Groups.{no_group, group_after}
 use Rattle.group_model.specs.Legal.{AreSteps, IsLegal, wants_memory}
 use Rattle.script_text.specs.Report.{entries_text}
-use Rattle.console_run.specs.Scripts.{are_octets, ends_line, is_line, line_requests, requests_in, script_lines, IsRunOf}
+use Rattle.console_run.specs.Scripts.{are_octets, EndsLine, ends_line, is_line, line_requests, requests_in, script_lines, IsRunOf}
 
 -- the history went on by these entries, which answer these requests, and they were reported
 pub record Tells (old new : List Entry) (was now : Option (List ℕ)) (requests : List Asked) (more : List Entry) : Type 0 where
@@ -44,6 +44,11 @@ pub record IsSoFar (depth : ℕ) (octets : List ℕ) (entries : List Entry) (lin
   pub grammar : list_all is_line (cut_of octets).lines ≡ true
   pub legal : IsLegal (Create depth ∷ requests_in (cut_of octets).lines) entries
   pub granted : wants_memory entries ≡ false
+  pub start : List ℕ
+  pub parts : octets ≡ start ++ line
+  pub ended : EndsLine start
+  pub cut : cut_of start ≡ record { lines = (cut_of octets).lines; rest = [] }
+  pub one_line : list_any ends_line line ≡ false
 
 -- the run went on by these octets, and what happened was reported
 pub record GoesOn (octets : List ℕ) (old new : List Entry) (line next : List ℕ) (count counted : ℕ) (was now : Option (List ℕ)) (more : List Entry) : Type 0 where
@@ -61,6 +66,21 @@ pub record IsReady (entries : List Entry) (line : List ℕ) (count : ℕ) : Type
   pub few : length entries ≤ count + 1
   pub lines : count ≤ 16384
   pub begun : 0 < length line → count < 16384
+
+-- the next octet makes the present line faulty: too many lines came before it, it ends and is not of the grammar, or is too long
+abbrev pub IsBadOctet : List ℕ → ℕ → ℕ → Type 0
+IsBadOctet line count octet = (count ≡ 16384) ⊎ (((octet ≡ 10) × (is_line line ≡ false)) ⊎ ((octet ≡ 10 → ⊥) × (length line ≡ 200)))
+
+-- the run went on by some of these octets, and stopped at the next
+pub record Halts (octets : List ℕ) (old new : List Entry) (line : List ℕ) (count counted : ℕ) (was now : Option (List ℕ)) : Type 0 where
+  pub done : List ℕ
+  pub octet : ℕ
+  pub later : List ℕ
+  pub parts : octets ≡ done ++ octet ∷ later
+  pub next : List ℕ
+  pub more : List Entry
+  pub goes : GoesOn done old new line next count counted was now more
+  pub bad : IsBadOctet next counted octet
 
 -- a script of this text is run to its end
 pub record Ends (old new : List Entry) (line : List ℕ) (count : ℕ) (was now : Option (List ℕ)) (more : List Entry) : Type 0 where

@@ -1,9 +1,10 @@
 //! Running one line of a script.
-ghost use Rattle.std.specs.Prelude.{◌≡◌, ◌+◌, ◌^◌, ◌<◌, ◌≤◌, List, [], ◌∷◌, ◌++◌, length, OnOk};
+ghost use Rattle.std.specs.Prelude.{◌≡◌, ◌+◌, ◌^◌, ◌<◌, ◌≤◌, List, [], ◌∷◌, ◌++◌, length, false, Err, OnOk};
 ghost use Rattle.std.specs.Io.KnownBytes.{Appends};
 ghost use Rattle.group_model.specs.declared.entries.Entry.{Entry};
 ghost use Rattle.script_text.specs.Report.{entry_text};
 ghost use Rattle.script_text.specs.Requests.{requests_of};
+ghost use Rattle.console_run.specs.Scripts.{is_line};
 ghost use Rattle.console_run.specs.Steps.{Tells, RunsLine};
 
 use crate::groups::Group;
@@ -23,6 +24,7 @@ pub(crate) fn run_line<K: Sink>(
     requires { length group.old < 2 ^ 29 }
     ensures ok { OnOk result ((more : List Entry) × RunsLine text.now group.old group.new (K.written out.old) (K.written out.new) more) }
     ensures one { length group.new ≤ length group.old + 1 }
+    ensures faulty { result ≡ Err Stop.Line → (is_line text.now ≡ false) × (group.new ≡ group.old) × (K.written out.new ≡ K.written out.old) }
 {
     match read_line(text) {
         Some(line) => {
@@ -37,6 +39,7 @@ fn run<K: Sink>(alloc: Global, line: Line, group: &mut Group, out: &mut K) -> Re
     requires { length group.old < 2 ^ 29 }
     ensures ok { OnOk result ((more : List Entry) × Tells group.old group.new (K.written out.old) (K.written out.new) (requests_of line) more) }
     ensures one { length group.new ≤ length group.old + 1 }
+    ensures cause { result ≡ Err Stop.Line → ⊥ }
 {
     match line {
         Line::Nothing => Ok(()),
@@ -60,7 +63,8 @@ fn run<K: Sink>(alloc: Global, line: Line, group: &mut Group, out: &mut K) -> Re
 
 /// Reports the last entry of a group's history.
 pub(crate) fn tell_last<K: Sink>(alloc: Global, group: &Group, out: &mut K) -> Result<(), Stop>
-    ensures { OnOk result ((front : List Entry) (entry : Entry) → group.now ≡ front ++ entry ∷ [] → Appends (K.written out.old) (K.written out.new) (entry_text entry)) }
+    ensures told { OnOk result ((front : List Entry) (entry : Entry) → group.now ≡ front ++ entry ∷ [] → Appends (K.written out.old) (K.written out.new) (entry_text entry)) }
+    ensures cause { result ≡ Err Stop.Line → ⊥ }
 {
     match group.last() {
         Some(entry) => {

@@ -3,7 +3,7 @@ ghost use Rattle.std.specs.Prelude.{◌≡◌, ◌≤◌, ◌⊎◌, [], None, m
 ghost use Rattle.std.specs.Io.KnownBytes.{Appends};
 ghost use Rattle.script_text.specs.Report.{end_text};
 ghost use Rattle.console_run.specs.Words.{depth_of};
-ghost use Rattle.console_run.specs.Clauses.{IsWholeRun, IsWholeOf, out_text};
+ghost use Rattle.console_run.specs.Clauses.{IsWholeRun, IsWholeOf, IsStopped, IsStoppedOf, out_text};
 
 use crate::puts::put_lines;
 use crate::runs::Run;
@@ -39,9 +39,11 @@ pub fn console<S: Source, K: Sink>(
     script: &mut S,
     out: &mut K,
 ) -> Finished
-    ensures report { result.status ≤ 1 → Appends (K.written out.old) (K.written out.new) (out_text result.history result.status result.line) }
+    ensures status { result.status ≤ 5 }
+    ensures report { result.status ≤ 2 → Appends (K.written out.old) (K.written out.new) (out_text result.history result.status result.line) }
     ensures line { (result.status ≡ 2 → ⊥) → result.line ≡ 0 }
     ensures history { result.status ≡ 0 → IsWholeRun (map string_bytes words.now) (S.left script.old) (S.left script.new) result.history }
+    ensures stopped { result.status ≡ 2 → IsStopped (map string_bytes words.now) (S.left script.old) (S.left script.new) result.line result.history }
     ensures words { result.status ≡ 1 → depth_of (map string_bytes words.now) ≡ None }
     ensures other_words { depth_of (map string_bytes words.now) ≡ None → (result.history ≡ []) × (script.new ≡ script.old) × ((result.status ≡ 1) ⊎ (4 ≤ result.status)) }
 {
@@ -55,10 +57,12 @@ pub fn console<S: Source, K: Sink>(
 fn run_script<S: Source, K: Sink>(alloc: Global, depth: u8, script: &mut S, out: &mut K) -> Finished
     requires shallow { 1 ≤ depth }
     requires not_deep { depth ≤ 4 }
-    ensures report { result.status ≡ 0 → Appends (K.written out.old) (K.written out.new) (out_text result.history result.status result.line) }
+    ensures status { result.status ≤ 5 }
+    ensures report { result.status ≤ 2 → Appends (K.written out.old) (K.written out.new) (out_text result.history result.status result.line) }
     ensures line { (result.status ≡ 2 → ⊥) → result.line ≡ 0 }
     ensures other { result.status ≡ 1 → ⊥ }
     ensures whole { result.status ≡ 0 → IsWholeOf depth (S.left script.old) (S.left script.new) result.history }
+    ensures stopped { result.status ≡ 2 → IsStoppedOf depth (S.left script.old) (S.left script.new) result.line result.history }
 {
     let mut run = match Run::begin(alloc, depth) {
         Ok(run) => run,
@@ -87,10 +91,13 @@ fn run_script<S: Source, K: Sink>(alloc: Global, depth: u8, script: &mut S, out:
 
 /// Puts the last line of the report.
 fn end<K: Sink>(alloc: Global, status: u8, line: u32, history: List<Entry>, out: &mut K) -> Finished
+    requires status { status ≤ 5 }
     requires line { (status ≡ 2 → ⊥) → line ≡ 0 }
+    ensures status { result.status ≤ 5 }
     ensures due { (result.status ≡ status) ⊎ (4 ≤ result.status) }
     ensures history { result.history ≡ history }
     ensures line { (result.status ≡ 2 → ⊥) → result.line ≡ 0 }
+    ensures same_line { result.status ≤ 3 → result.line ≡ line }
     ensures told { result.status ≤ 3 → Appends (K.written out.old) (K.written out.new) (end_text result.status result.line) }
 {
     let mut text = List::new(alloc);

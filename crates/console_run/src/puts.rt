@@ -1,5 +1,5 @@
 //! Putting texts into a sink.
-ghost use Rattle.std.specs.Prelude.{◌≡◌, ◌<◌, ◌≤◌, length, OnOk};
+ghost use Rattle.std.specs.Prelude.{◌≡◌, ◌<◌, ◌≤◌, length, Err, OnOk};
 ghost use Rattle.std.specs.Io.KnownBytes.{Appends};
 ghost use Rattle.script_text.specs.Report.{entry_text};
 
@@ -11,7 +11,8 @@ use std::alloc::Global;
 
 /// Puts the report of an entry, line by line.
 pub(crate) fn tell<K: Sink>(alloc: Global, entry: &Entry, out: &mut K) -> Result<(), Stop>
-    ensures { OnOk result (Appends (K.written out.old) (K.written out.new) (entry_text entry.now)) }
+    ensures told { OnOk result (Appends (K.written out.old) (K.written out.new) (entry_text entry.now)) }
+    ensures cause { result ≡ Err Stop.Line → ⊥ }
 {
     let mut text = List::new(alloc);
     match report_entry(alloc, entry, &mut text) {

@@ -1,11 +1,13 @@
 //! Following a script, octet by octet.
-ghost use Rattle.std.specs.Prelude.{◌≡◌, ◌+◌, ◌<◌, ◌≤◌, ℕ, List, [], ◌∷◌, ◌++◌, length, IfOk, OnOk};
-ghost use Rattle.std.specs.Io.KnownBytes.{Consumes};
+ghost use Rattle.std.specs.Prelude.{◌≡◌, ◌+◌, ◌<◌, ◌≤◌, ℕ, List, [], ◌∷◌, ◌++◌, length, false, Err, IfOk, OnOk};
+ghost use Rattle.std.specs.Io.KnownBytes.{Appends, Consumes};
 ghost use Rattle.group_model.specs.declared.entries.Entry.{Entry};
 ghost use Rattle.group_model.specs.declared.entries.Asked.TheVariants.{Create};
+ghost use Rattle.script_text.specs.Report.{entries_text};
+ghost use Rattle.console_run.specs.Scripts.{is_line};
 ghost use Rattle.console_run.specs.Stands.{Answers};
-ghost use Rattle.console_run.specs.Steps.{IsReady, GoesOn, Ends, IsFollowed, room_left};
-ghost use Rattle.console_run.specs.Clauses.{TakesAll};
+ghost use Rattle.console_run.specs.Steps.{IsReady, GoesOn, IsBadOctet, Halts, Ends, IsFollowed, room_left};
+ghost use Rattle.console_run.specs.Clauses.{TakesAll, IsStoppedOf};
 
 use crate::commands::{run_line, tell_last};
 use crate::groups::Group;
@@ -61,6 +63,8 @@ impl Run {
             self.old.count self.new.count (K.written out.old) (K.written out.new) more) }
         ensures nearer { OnOk result (room_left self.new.line.items self.new.count < room_left self.old.line.items self.old.count) }
         ensures count { self.new.count ≤ 16384 }
+        ensures faulty { result ≡ Err Stop.Line → IsBadOctet self.old.line.items self.old.count octet × (self.new.group ≡ self.old.group)
+            × (self.new.count ≡ self.old.count) × (K.written out.new ≡ K.written out.old) }
     {
         if self.count == MOST_LINES {
             return Err(Stop::Line);
@@ -86,6 +90,8 @@ impl Run {
             self.old.count self.new.count (K.written out.old) (K.written out.new) more) }
         ensures nearer { OnOk result (room_left self.new.line.items self.new.count + length piece.now ≤ room_left self.old.line.items self.old.count) }
         ensures count { self.new.count ≤ 16384 }
+        ensures faulty { result ≡ Err Stop.Line → Halts piece.now self.old.group self.new.group self.old.line.items self.old.count self.new.count
+            (K.written out.old) (K.written out.new) }
     {
         for octet in piece {
             self.take_octet(alloc, *octet, out)?;
@@ -108,6 +114,8 @@ impl Run {
             × ((more : List Entry) × GoesOn taken self.old.group self.new.group self.old.line.items self.new.line.items
             self.old.count self.new.count (K.written out.old) (K.written out.new) more))) }
         ensures count { self.new.count ≤ 16384 }
+        ensures faulty { result ≡ Err Stop.Line → (taken : List ℕ) × Consumes (S.left script.old) (S.left script.new) taken
+            × Halts taken self.old.group self.new.group self.old.line.items self.old.count self.new.count (K.written out.old) (K.written out.new) }
     {
         'pieces: loop {
             let n = match script.take(buffer) {
@@ -127,6 +135,8 @@ impl Run {
         requires ready { IsReady self.old.group self.old.line.items self.old.count }
         ensures ends { OnOk result ((more : List Entry) × Ends self.old.group self.new.group self.old.line.items self.old.count (K.written out.old) (K.written out.new) more) }
         ensures count { self.new.count ≤ 16384 }
+        ensures faulty { result ≡ Err Stop.Line → (is_line self.old.line.items ≡ false) × (self.new.group ≡ self.old.group)
+            × (self.new.count ≡ self.old.count) × (K.written out.new ≡ K.written out.old) }
     {
         if self.line.is_empty() {
             return Ok(());
@@ -148,6 +158,9 @@ impl Run {
         ensures followed { OnOk result ((taken : List ℕ) × Consumes (S.left script.old) (S.left script.new) taken × TakesAll (S.left script.old) taken
             × ((depth : ℕ) → Answers [] self.old.group (Create depth) → IsFollowed depth taken self.new.group (K.written out.old) (K.written out.new))) }
         ensures count { self.new.count ≤ 16384 }
+        ensures faulty { result ≡ Err Stop.Line → (depth : ℕ) → Answers [] self.old.group (Create depth) →
+            IsStoppedOf depth (S.left script.old) (S.left script.new) (self.new.count + 1) self.new.group
+            × Appends (K.written out.old) (K.written out.new) (entries_text self.new.group) }
     {
         tell_last(alloc, &self.group, out)?;
         let mut buffer = vec![in alloc; 0; PIECE].map_err(NoMemory::from)?;

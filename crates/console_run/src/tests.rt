@@ -1,7 +1,9 @@
 use crate::console;
-use gd_edges::{TextSink, TextSource};
+use gd_edges::{StdSource, TextSink, TextSource};
 use group_model::List;
 use std::alloc::Global;
+use std::io;
+use std::io::Read;
 use std::test::Fail;
 
 const TWO_BATCHES: &str = "join a\njoin b\njoin c\nbatch\nleave b\nbatch\n";
@@ -77,6 +79,36 @@ fn scripts_end_as_their_words_and_lines_say(rt: HostRuntime) -> Result<(), Fail>
         }
     }
     Ok(())
+}
+
+/// A source may give one octet a call, or all at once.
+#[test]
+fn pieces_of_any_size_make_the_same_report(rt: HostRuntime) -> Result<(), Fail> {
+    let alloc = rt.alloc();
+    let rest = TWO_BATCHES.as_bytes();
+    let mut source = StdSource::new(OneByOne { rest });
+    let mut sink = TextSink::new(alloc, List::new(alloc));
+    let finished = console(alloc, &words_of(alloc, "--new 2")?, &mut source, &mut sink);
+    assert_eq!(rt; sink.octets(), TWO_EPOCHS.as_bytes());
+    assert_eq!(rt; (finished.status, finished.history.len()), (0, 7));
+    Ok(())
+}
+
+/// A reader that gives one octet a call.
+#[derive(Drop)]
+struct OneByOne<'a> {
+    rest: &'a [u8],
+}
+
+impl Read for OneByOne<'_> {
+    fn read(&mut self, buf: &mut [u8]) -> io::Result<usize> {
+        if buf.is_empty() || self.rest.is_empty() {
+            return Ok(0);
+        }
+        buf[0] = self.rest[0];
+        self.rest = &self.rest[1..];
+        Ok(1)
+    }
 }
 
 /// The calls of the source and the sink that fail, and what comes of it.
