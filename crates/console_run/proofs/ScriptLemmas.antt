@@ -6,7 +6,7 @@ use Rattle.std.specs.Result.{IsErrAnd}
 use Rattle.std.specs.List.{fold, slice_split, onto_first, list_any, list_all}
 use Rattle.std.specs.Io.KnownBytes.{Appends, Consumes}
 use Rattle.std.proofs.lemmas.Bool.{cases_Bool, or_from, eqb-true, ne_eqb, lt-ltb, and_from, le-leb, false≢true}
-use Rattle.std.proofs.lemmas.List.{take_more, take-append-drop, nil_from_length, append_assoc, append-nil, map-append, length-append}
+use Rattle.std.proofs.lemmas.List.{take_more, take-append-drop, length-drop, nil_from_length, append_assoc, append-nil, map-append, length-append}
 use Rattle.std.proofs.lemmas.List.Concat.{flat_map-append}
 use Rattle.std.proofs.lemmas.List.Folds.{list_any-append, list_all-append}
 use Rattle.std.proofs.lemmas.List.Sums.{fold-append}
@@ -259,8 +259,8 @@ IsFollowed-from depth taken first second last next counted was told now end more
     }
 
 -- a piece of which some octets were taken, and the next is bad
-pub Halts-at : (piece : List ℕ) (place : ℕ) (first second new : List Entry) (line next : List ℕ) (count counted at : ℕ) (was now then : Option (List ℕ)) (more : List Entry) → place < length piece → GoesOn (take place piece) first second line next count counted was now more → IsBadOctet next counted (get_or piece place 0) → new ≡ second → at ≡ counted → then ≡ now → Halts piece first new line count at was then
-Halts-at piece place first second new line next count counted at was now then more within goes bad same_entries same_count same_text =
+pub Halts-at : (piece : List ℕ) (place : ℕ) (first second new : List Entry) (line next : List ℕ) (count counted at : ℕ) (was now then : Option (List ℕ)) (more : List Entry) → length piece ≤ 4096 → place < length piece → GoesOn (take place piece) first second line next count counted was now more → IsBadOctet next counted (get_or piece place 0) → new ≡ second → at ≡ counted → then ≡ now → Halts piece first new line count at was then
+Halts-at piece place first second new line next count counted at was now then more short within goes bad same_entries same_count same_text =
     let octet = get_or piece place 0 in
     let later = drop (place + 1) piece in
     let halts : Halts piece first second line count counted was now = record {
@@ -268,6 +268,7 @@ Halts-at piece place first second new line next count counted at was now then mo
       octet = octet;
       later = later;
       parts = sym (take-append-drop (place + 1) piece) ∙ ap (λ front. front ++ later) (take_more piece place 0 within) ∙ append_assoc (take place piece) (octet ∷ []) later;
+      near = omega (arith, short, within, length-drop (place + 1) piece);
       next = next;
       more = more;
       goes = goes;
@@ -283,6 +284,7 @@ Halts-then a b first second third line next count counted at was now then more g
   octet = halts.octet;
   later = halts.later;
   parts = ap (λ others. a ++ others) halts.parts ∙ sym (append_assoc a halts.done (halts.octet ∷ halts.later));
+  near = halts.near;
   next = halts.next;
   more = more ++ halts.more;
   goes = GoesOn-then a halts.done first second third line next halts.next count counted at was now then more halts.more goes halts.goes;
@@ -291,8 +293,8 @@ Halts-then a b first second third line next count counted at was now then more g
 
 module _ (depth : ℕ) (left rest : Option (List ℕ)) (taken : List ℕ) (first second : List Entry) (counted : ℕ) (told now : Option (List ℕ)) (made : Answers [] first (Create depth)) (source : Consumes left rest taken) (few : counted ≤ 16384) where
   -- the line behind the octets so far is faulty
-  stopped : (done line text after : List ℕ) (so : IsSoFar depth done second line counted) → taken ≡ so.start ++ (text ++ after) → list_any ends_line text ≡ false → IsFaulty left taken (counted + 1) text after → IsStoppedOf depth left rest (counted + 1) second
-  stopped done line text after so parts one_line faulty =
+  stopped : (done line text after : List ℕ) (so : IsSoFar depth done second line counted) → taken ≡ so.start ++ (text ++ after) → list_any ends_line text ≡ false → length text ≤ 201 → length after ≤ 4096 → IsFaulty left taken (counted + 1) text after → IsStoppedOf depth left rest (counted + 1) second
+  stopped done line text after so parts one_line short near faulty =
       let lines : script_lines so.start ≡ (cut_of done).lines = lines_cut so.start ∙ ap (λ (c : Cut). c.lines ++ unfinished c.rest) so.cut ∙ append-nil (cut_of done).lines in
       record {
         before = so.start;
@@ -303,6 +305,8 @@ module _ (depth : ℕ) (left rest : Option (List ℕ)) (taken : List ℕ) (first
         run = subst (λ lines. IsRunOf depth lines second) (sym lines) (IsRunOf-lines depth done second line counted so few);
         counted = ap (λ n. n + 1) (sym so.counted) ∙ ap (λ lines. length lines + 1) (sym lines);
         one_line = one_line;
+        short = short;
+        near = near;
         faulty = subst (λ octets. IsFaulty left octets (counted + 1) text after) parts faulty;
       }
 
@@ -311,19 +315,22 @@ module _ (depth : ℕ) (left rest : Option (List ℕ)) (taken : List ℕ) (first
       let so = h.goes.so_far depth [] (first_so_far depth first made) in
       let others = h.octet ∷ h.later in
       let parts : taken ≡ so.start ++ (h.next ++ others) = h.parts ∙ ap (λ front. front ++ others) so.parts ∙ append_assoc so.start h.next others in
-      elim h.bad [
-        | inl many ↦ stopped h.done h.next h.next others so parts so.one_line (inl (omega (arith, many), omega (arith, length-append h.next others)))
-        | inr (inl ends) ↦ stopped h.done h.next h.next others so parts so.one_line (inr (inr (ends.1, inl (h.later, ap (λ octet. octet ∷ h.later) ends.0))))
+      let near : length others ≤ 4096 = omega (arith, h.near) in
+      let short : length h.next ≤ 201 = omega (arith, h.bad.0) in
+      elim h.bad.1 [
+        | inl many ↦ stopped h.done h.next h.next others so parts so.one_line short near (inl (omega (arith, many), omega (arith, length-append h.next others)))
+        | inr (inl ends) ↦ stopped h.done h.next h.next others so parts so.one_line short near (inr (inr (ends.1, inl (h.later, ap (λ octet. octet ∷ h.later) ends.0))))
         | inr (inr long) ↦ stopped h.done h.next (h.next ++ h.octet ∷ []) h.later so
             (parts ∙ ap (λ text. so.start ++ text) (sym (append_assoc h.next (h.octet ∷ []) h.later)))
             (list_any-append ends_line h.next (h.octet ∷ []) ∙ or_from _ _ so.one_line (or_from _ _ (ne_eqb h.octet 10 long.0) refl))
+            (omega (arith, h.bad.0, length-append h.next (h.octet ∷ []))) (omega (arith, h.near))
             (inr (inl (omega (arith, long.1, length-append h.next (h.octet ∷ [])))))
       ]
 
-  pub IsStoppedOf-end : (next : List ℕ) (more : List Entry) → GoesOn taken first second [] next 0 counted told now more → TakesAll left taken → is_line next ≡ false → IsStoppedOf depth left rest (counted + 1) second
-  IsStoppedOf-end next more goes whole bad =
+  pub IsStoppedOf-end : (next : List ℕ) (more : List Entry) → GoesOn taken first second [] next 0 counted told now more → TakesAll left taken → length next ≤ 200 → is_line next ≡ false → IsStoppedOf depth left rest (counted + 1) second
+  IsStoppedOf-end next more goes whole fits bad =
       let so = goes.so_far depth [] (first_so_far depth first made) in
-      stopped taken next next [] so (so.parts ∙ ap (λ text. so.start ++ text) (sym (append-nil next))) so.one_line (inr (inr (bad, inr (refl, whole))))
+      stopped taken next next [] so (so.parts ∙ ap (λ text. so.start ++ text) (sym (append-nil next))) so.one_line (omega (arith, fits)) (omega arith) (inr (inr (bad, inr (refl, whole))))
 
 -- what is reported of the making of a group, and of what the octets asked
 pub told_so_far : (depth : ℕ) (taken : List ℕ) (first second : List Entry) (next : List ℕ) (counted : ℕ) (was told now : Option (List ℕ)) (more : List Entry) → Answers [] first (Create depth) → ((front : List Entry) (entry : Entry) → first ≡ front ++ entry ∷ [] → Appends was told (entry_text entry)) → GoesOn taken first second [] next 0 counted told now more → Appends was now (entries_text second)

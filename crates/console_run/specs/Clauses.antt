@@ -1,5 +1,5 @@
 -- What the console promises of its run.
-use Rattle.std.specs.Prelude.{◌≡◌, ◌⊎◌, ℕ, ◌+◌, ◌<◌, true, false, List, [], ◌∷◌, ◌++◌, length, Option, None, Some}
+use Rattle.std.specs.Prelude.{◌≡◌, ◌⊎◌, ℕ, ◌+◌, ◌<◌, ◌≤◌, true, false, List, [], ◌∷◌, ◌++◌, length, Option, None, Some}
 use Rattle.std.specs.List.{list_any}
 use Rattle.std.specs.Io.KnownBytes.{Consumes}
 use Rattle.group_model.specs.declared.entries.Entry.{Entry}
@@ -40,7 +40,8 @@ IsFaulty left taken number text after =
     ((16384 < number) × (0 < length (text ++ after)))
     ⊎ ((200 < length text) ⊎ ((is_line text ≡ false) × IsOver left taken after))
 
--- the octets before a line were a script and were run as one; the line of this number, behind them, is faulty
+-- The octets before a line were a script and were run as one; the line of this number, behind them, is faulty. No more was taken
+-- than what shows it, and what came with that in one piece.
 pub record IsStoppedOf (depth : ℕ) (left rest : Option (List ℕ)) (number : ℕ) (entries : List Entry) : Type 0 where
   pub before : List ℕ
   pub text : List ℕ
@@ -50,6 +51,8 @@ pub record IsStoppedOf (depth : ℕ) (left rest : Option (List ℕ)) (number : �
   pub run : IsRunOf depth (script_lines before) entries
   pub counted : number ≡ length (script_lines before) + 1
   pub one_line : list_any ends_line text ≡ false
+  pub short : length text ≤ 201
+  pub near : length after ≤ 4096
   pub faulty : IsFaulty left (before ++ (text ++ after)) number text after
 
 -- the words ask for a group, and its script was run up to this line

@@ -69,7 +69,8 @@ pub record IsReady (entries : List Entry) (line : List ℕ) (count : ℕ) : Type
 
 -- the next octet makes the present line faulty: too many lines came before it, it ends and is not of the grammar, or is too long
 abbrev pub IsBadOctet : List ℕ → ℕ → ℕ → Type 0
-IsBadOctet line count octet = (count ≡ 16384) ⊎ (((octet ≡ 10) × (is_line line ≡ false)) ⊎ ((octet ≡ 10 → ⊥) × (length line ≡ 200)))
+IsBadOctet line count octet = (length line ≤ 200)
+    × ((count ≡ 16384) ⊎ (((octet ≡ 10) × (is_line line ≡ false)) ⊎ ((octet ≡ 10 → ⊥) × (length line ≡ 200))))
 
 -- the run went on by some of these octets, and stopped at the next
 pub record Halts (octets : List ℕ) (old new : List Entry) (line : List ℕ) (count counted : ℕ) (was now : Option (List ℕ)) : Type 0 where
@@ -77,6 +78,7 @@ pub record Halts (octets : List ℕ) (old new : List Entry) (line : List ℕ) (c
   pub octet : ℕ
   pub later : List ℕ
   pub parts : octets ≡ done ++ octet ∷ later
+  pub near : length later < 4096
   pub next : List ℕ
   pub more : List Entry
   pub goes : GoesOn done old new line next count counted was now more

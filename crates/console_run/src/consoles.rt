@@ -30,9 +30,10 @@ pub struct Finished {
 ///
 /// The words are `--new DEPTH` or `--new=DEPTH`, with a depth from 1 to 4. Words of another form touch neither the source nor
 /// a group. The script has lines of at most 200 octets, at most 16,384 of them; the lines before one of another form are run.
-/// At status 3 the lines that came whole are run. A batch that finds no memory is in the history and in the report as refused
-/// for that, and ends the run. What is written is the report of the history and an end line, or at status 4 and 5 a part of
-/// that from its start.
+/// A line past a limit ends the run at the first octet past it, and one of another form at its end; the source is asked for
+/// nothing more then. At status 3 the lines that came whole are run. A batch that finds no memory is in the history and in the
+/// report as refused for that, and ends the run. What is written is the report of the history and an end line, or at status 4
+/// and 5 a part of that from its start.
 pub fn console<S: Source, K: Sink>(
     alloc: Global,
     words: &[String],

@@ -84,6 +84,7 @@ impl Run {
 
     /// Takes a piece of the script.
     fn take_piece<K: Sink>(&mut self, alloc: Global, piece: &[u8], out: &mut K) -> Result<(), Stop>
+        requires short { length piece.now ≤ 4096 }
         requires ready { IsReady self.old.group self.old.line.items self.old.count }
         ensures ready { OnOk result (IsReady self.new.group self.new.line.items self.new.count) }
         ensures goes { OnOk result ((more : List Entry) × GoesOn piece.now self.old.group self.new.group self.old.line.items self.new.line.items
@@ -108,6 +109,7 @@ impl Run {
         out: &mut K,
     ) -> Result<(), Stop>
         requires buffer { 0 < length buffer.old }
+        requires short { length buffer.old ≤ 4096 }
         requires ready { IsReady self.old.group self.old.line.items self.old.count }
         ensures ready { OnOk result (IsReady self.new.group self.new.line.items self.new.count) }
         ensures goes { OnOk result (((taken : List ℕ) × Consumes (S.left script.old) (S.left script.new) taken × TakesAll (S.left script.old) taken
@@ -135,7 +137,7 @@ impl Run {
         requires ready { IsReady self.old.group self.old.line.items self.old.count }
         ensures ends { OnOk result ((more : List Entry) × Ends self.old.group self.new.group self.old.line.items self.old.count (K.written out.old) (K.written out.new) more) }
         ensures count { self.new.count ≤ 16384 }
-        ensures faulty { result ≡ Err Stop.Line → (is_line self.old.line.items ≡ false) × (self.new.group ≡ self.old.group)
+        ensures faulty { result ≡ Err Stop.Line → (length self.old.line.items ≤ 200) × (is_line self.old.line.items ≡ false) × (self.new.group ≡ self.old.group)
             × (self.new.count ≡ self.old.count) × (K.written out.new ≡ K.written out.old) }
     {
         if self.line.is_empty() {

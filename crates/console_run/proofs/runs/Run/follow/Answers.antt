@@ -57,10 +57,10 @@ returns-in_err-finish-clause-faulty g c = λ stops depth made.
     (subst (λ count. GoesOn taken.0 was.group now.group was.line.items now.line.items count now.count told after taken.3.0) c.requires.count taken.3.1) in
     let bad = c.in_err-finish.ensures.faulty (ap Err (sym (of_error _ _ _ stops c.from_residual-in_err-finish.ensures.1))) in
     let run = IsStoppedOf-end depth (left c.args.script.now) (left c.take_script.new.script) taken.0 was.group now.group now.count told after made taken.1 c.in_ok-take_script.ensures.count
-    now.line.items taken.3.0 goes taken.2 bad.0 in
+    now.line.items taken.3.0 goes taken.2 bad.0 bad.1 in
     let report = told_so_far depth taken.0 was.group now.group now.line.items now.count (written c.args.out.now) told after taken.3.0 made c.in_ok-tell_last.ensures.told goes in (
-      subst (λ entries. IsStoppedOf depth (left c.args.script.now) (left c.take_script.new.script) (new.count + 1) entries) (sym bad.1)
-          (subst (λ count. IsStoppedOf depth (left c.args.script.now) (left c.take_script.new.script) (count + 1) now.group) (sym bad.2) run),
-      subst (λ entries. Appends (written c.args.out.now) (written c.finish.new.out) (entries_text entries)) (sym bad.1)
-          (subst (λ text. Appends (written c.args.out.now) text (entries_text now.group)) (sym bad.3) report),
+      subst (λ entries. IsStoppedOf depth (left c.args.script.now) (left c.take_script.new.script) (new.count + 1) entries) (sym bad.2)
+          (subst (λ count. IsStoppedOf depth (left c.args.script.now) (left c.take_script.new.script) (count + 1) now.group) (sym bad.3) run),
+      subst (λ entries. Appends (written c.args.out.now) (written c.finish.new.out) (entries_text entries)) (sym bad.2)
+          (subst (λ text. Appends (written c.args.out.now) text (entries_text now.group)) (sym bad.4) report),
     )
