@@ -1,5 +1,5 @@
 -- Lines, requests and entries, one after the other.
-use Rattle.std.proofs.Common.{take, drop, get_or, true, ◌≡◌, ℕ, zero, suc, ◌+◌, ◌<◌, ◌≤◌, false, cond, eqb, ◌||◌, List, [], ◌∷◌, ◌++◌, Option, length, map, sym, refl, ap, ◌∙◌, subst, arith, inl, inr}
+use Rattle.std.proofs.Common.{Fits, w8, take, drop, get_or, true, ◌≡◌, ℕ, zero, suc, ◌+◌, ◌<◌, ◌≤◌, false, cond, eqb, ◌||◌, List, [], ◌∷◌, ◌++◌, Option, length, map, sym, refl, ap, ◌∙◌, subst, arith, inl, inr}
 use Rattle.std.specs.Prelude.{nat_lt}
 use Rattle.std.specs.Prelude.{Result, Err}
 use Rattle.std.specs.Result.{IsErrAnd}
@@ -16,7 +16,7 @@ use Rattle.group_model.specs.declared.entries.Asked.TheVariants.{Create}
 use Rattle.group_model.specs.Groups.{Group, no_group, after_entry, group_after}
 use Rattle.group_model.specs.Legal.{AreSteps, IsLegal, is_want, wants_memory}
 use Rattle.script_text.specs.Report.{entry_text, entries_text}
-use Rattle.console_run.specs.Scripts.{ends_line, unfinished, lines_of_parts, script_lines, is_line, line_requests, requests_in, IsRunOf}
+use Rattle.console_run.specs.Scripts.{are_octets, ends_line, unfinished, lines_of_parts, script_lines, is_line, line_requests, requests_in, IsRunOf}
 use Rattle.console_run.specs.Stands.{IsAnswered, Answers}
 use Rattle.console_run.specs.Steps.{Cut, cut_more, cut_of, Tells, RunsLine, IsSoFar, GoesOn, Ends, IsFollowed, IsBadOctet, Halts}
 use Rattle.console_run.specs.Clauses.{TakesAll, IsFaulty, IsStoppedOf}
@@ -258,9 +258,14 @@ IsFollowed-from depth taken first second last next counted was told now end more
       run = ends.run depth taken (goes.so_far depth [] (first_so_far depth first made));
     }
 
+-- what a slice of octets has is octets
+pub small_octets : (octets : List ℕ) → ((i : ℕ) → Fits w8 (get_or octets i 0)) → are_octets octets ≡ true
+small_octets [] h = refl
+small_octets (octet ∷ octets) h = and_from _ _ (lt-ltb octet 256 (h 0).fits) (small_octets octets (λ i. h (suc i)))
+
 -- a piece of which some octets were taken, and the next is bad
-pub Halts-at : (piece : List ℕ) (place : ℕ) (first second new : List Entry) (line next : List ℕ) (count counted at : ℕ) (was now then : Option (List ℕ)) (more : List Entry) → length piece ≤ 4096 → place < length piece → GoesOn (take place piece) first second line next count counted was now more → IsBadOctet next counted (get_or piece place 0) → new ≡ second → at ≡ counted → then ≡ now → Halts piece first new line count at was then
-Halts-at piece place first second new line next count counted at was now then more short within goes bad same_entries same_count same_text =
+pub Halts-at : (piece : List ℕ) (place : ℕ) (first second new : List Entry) (line next : List ℕ) (count counted at : ℕ) (was now then : Option (List ℕ)) (more : List Entry) → are_octets piece ≡ true → length piece ≤ 4096 → place < length piece → GoesOn (take place piece) first second line next count counted was now more → IsBadOctet next counted (get_or piece place 0) → new ≡ second → at ≡ counted → then ≡ now → Halts piece first new line count at was then
+Halts-at piece place first second new line next count counted at was now then more small short within goes bad same_entries same_count same_text =
     let octet = get_or piece place 0 in
     let later = drop (place + 1) piece in
     let halts : Halts piece first second line count counted was now = record {
@@ -268,6 +273,7 @@ Halts-at piece place first second new line next count counted at was now then mo
       octet = octet;
       later = later;
       parts = sym (take-append-drop (place + 1) piece) ∙ ap (λ front. front ++ later) (take_more piece place 0 within) ∙ append_assoc (take place piece) (octet ∷ []) later;
+      small = small;
       near = omega (arith, short, within, length-drop (place + 1) piece);
       next = next;
       more = more;
@@ -285,6 +291,7 @@ Halts-then a b first second third line next count counted at was now then more g
   later = halts.later;
   parts = ap (λ others. a ++ others) halts.parts ∙ sym (append_assoc a halts.done (halts.octet ∷ halts.later));
   near = halts.near;
+  small = list_all-append (λ octet. nat_lt octet 256) a b ∙ and_from _ _ goes.small halts.small;
   next = halts.next;
   more = more ++ halts.more;
   goes = GoesOn-then a halts.done first second third line next halts.next count counted at was now then more halts.more goes halts.goes;
@@ -293,14 +300,15 @@ Halts-then a b first second third line next count counted at was now then more g
 
 module _ (depth : ℕ) (left rest : Option (List ℕ)) (taken : List ℕ) (first second : List Entry) (counted : ℕ) (told now : Option (List ℕ)) (made : Answers [] first (Create depth)) (source : Consumes left rest taken) (few : counted ≤ 16384) where
   -- the line behind the octets so far is faulty
-  stopped : (done line text after : List ℕ) (so : IsSoFar depth done second line counted) → taken ≡ so.start ++ (text ++ after) → list_any ends_line text ≡ false → length text ≤ 201 → length after ≤ 4096 → IsFaulty left taken (counted + 1) text after → IsStoppedOf depth left rest (counted + 1) second
-  stopped done line text after so parts one_line short near faulty =
+  stopped : (done line text after : List ℕ) (so : IsSoFar depth done second line counted) → taken ≡ so.start ++ (text ++ after) → are_octets taken ≡ true → list_any ends_line text ≡ false → length text ≤ 201 → length after ≤ 4096 → IsFaulty left taken (counted + 1) text after → IsStoppedOf depth left rest (counted + 1) second
+  stopped done line text after so parts small one_line short near faulty =
       let lines : script_lines so.start ≡ (cut_of done).lines = lines_cut so.start ∙ ap (λ (c : Cut). c.lines ++ unfinished c.rest) so.cut ∙ append-nil (cut_of done).lines in
       record {
         before = so.start;
         text = text;
         after = after;
         source = subst (Consumes left rest) parts source;
+        octets = ap are_octets (sym parts) ∙ small;
         ended = so.ended;
         run = subst (λ lines. IsRunOf depth lines second) (sym lines) (IsRunOf-lines depth done second line counted so few);
         counted = ap (λ n. n + 1) (sym so.counted) ∙ ap (λ lines. length lines + 1) (sym lines);
@@ -318,11 +326,11 @@ module _ (depth : ℕ) (left rest : Option (List ℕ)) (taken : List ℕ) (first
       let near : length others ≤ 4096 = omega (arith, h.near) in
       let short : length h.next ≤ 201 = omega (arith, h.bad.0) in
       elim h.bad.1 [
-        | inl many ↦ stopped h.done h.next h.next others so parts so.one_line short near (inl (omega (arith, many), omega (arith, length-append h.next others)))
-        | inr (inl ends) ↦ stopped h.done h.next h.next others so parts so.one_line short near (inr (inr (ends.1, inl (h.later, ap (λ octet. octet ∷ h.later) ends.0))))
+        | inl many ↦ stopped h.done h.next h.next others so parts h.small so.one_line short near (inl (omega (arith, many), omega (arith, length-append h.next others)))
+        | inr (inl ends) ↦ stopped h.done h.next h.next others so parts h.small so.one_line short near (inr (inr (ends.1, inl (h.later, ap (λ octet. octet ∷ h.later) ends.0))))
         | inr (inr long) ↦ stopped h.done h.next (h.next ++ h.octet ∷ []) h.later so
             (parts ∙ ap (λ text. so.start ++ text) (sym (append_assoc h.next (h.octet ∷ []) h.later)))
-            (list_any-append ends_line h.next (h.octet ∷ []) ∙ or_from _ _ so.one_line (or_from _ _ (ne_eqb h.octet 10 long.0) refl))
+            h.small (list_any-append ends_line h.next (h.octet ∷ []) ∙ or_from _ _ so.one_line (or_from _ _ (ne_eqb h.octet 10 long.0) refl))
             (omega (arith, h.bad.0, length-append h.next (h.octet ∷ []))) (omega (arith, h.near))
             (inr (inl (omega (arith, long.1, length-append h.next (h.octet ∷ [])))))
       ]
@@ -330,7 +338,7 @@ module _ (depth : ℕ) (left rest : Option (List ℕ)) (taken : List ℕ) (first
   pub IsStoppedOf-end : (next : List ℕ) (more : List Entry) → GoesOn taken first second [] next 0 counted told now more → TakesAll left taken → length next ≤ 200 → is_line next ≡ false → IsStoppedOf depth left rest (counted + 1) second
   IsStoppedOf-end next more goes whole fits bad =
       let so = goes.so_far depth [] (first_so_far depth first made) in
-      stopped taken next next [] so (so.parts ∙ ap (λ text. so.start ++ text) (sym (append-nil next))) so.one_line (omega (arith, fits)) (omega arith) (inr (inr (bad, inr (refl, whole))))
+      stopped taken next next [] so (so.parts ∙ ap (λ text. so.start ++ text) (sym (append-nil next))) goes.small so.one_line (omega (arith, fits)) (omega arith) (inr (inr (bad, inr (refl, whole))))
 
 -- what is reported of the making of a group, and of what the octets asked
 pub told_so_far : (depth : ℕ) (taken : List ℕ) (first second : List Entry) (next : List ℕ) (counted : ℕ) (was told now : Option (List ℕ)) (more : List Entry) → Answers [] first (Create depth) → ((front : List Entry) (entry : Entry) → first ≡ front ++ entry ∷ [] → Appends was told (entry_text entry)) → GoesOn taken first second [] next 0 counted told now more → Appends was now (entries_text second)

@@ -47,6 +47,7 @@ pub record IsStoppedOf (depth : ℕ) (left rest : Option (List ℕ)) (number : �
   pub text : List ℕ
   pub after : List ℕ
   pub source : Consumes left rest (before ++ (text ++ after))
+  pub octets : are_octets (before ++ (text ++ after)) ≡ true
   pub ended : EndsLine before
   pub run : IsRunOf depth (script_lines before) entries
   pub counted : number ≡ length (script_lines before) + 1

@@ -79,6 +79,7 @@ pub record Halts (octets : List ℕ) (old new : List Entry) (line : List ℕ) (c
   pub later : List ℕ
   pub parts : octets ≡ done ++ octet ∷ later
   pub near : length later < 4096
+  pub small : are_octets octets ≡ true
   pub next : List ℕ
   pub more : List Entry
   pub goes : GoesOn done old new line next count counted was now more

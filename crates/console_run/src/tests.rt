@@ -81,16 +81,31 @@ fn scripts_end_as_their_words_and_lines_say(rt: HostRuntime) -> Result<(), Fail>
     Ok(())
 }
 
-/// A source may give one octet a call, or all at once.
+/// A source may give one octet a call, or all at once. It is asked for nothing behind a faulty line.
 #[test]
 fn pieces_of_any_size_make_the_same_report(rt: HostRuntime) -> Result<(), Fail> {
     let alloc = rt.alloc();
-    let rest = TWO_BATCHES.as_bytes();
-    let mut source = StdSource::new(OneByOne { rest });
-    let mut sink = TextSink::new(alloc, List::new(alloc));
-    let finished = console(alloc, &words_of(alloc, "--new 2")?, &mut source, &mut sink);
-    assert_eq!(rt; sink.octets(), TWO_EPOCHS.as_bytes());
-    assert_eq!(rt; (finished.status, finished.history.len()), (0, 7));
+    let table = [
+        (TWO_BATCHES, TWO_EPOCHS, 0, ""),
+        ("jo\nbatch\n", "new depth 2\nend 2 line 1\n", 2, "batch\n"),
+        (
+            "batch\njoin",
+            "new depth 2\nepoch 1 sequence 0 members 0\nend 2 line 2\n",
+            2,
+            "",
+        ),
+    ];
+    for (script, report, status, left) in table {
+        let mut reader = OneByOne {
+            rest: script.as_bytes(),
+        };
+        let mut sink = TextSink::new(alloc, List::new(alloc));
+        let mut source = StdSource::new(&mut reader);
+        let finished = console(alloc, &words_of(alloc, "--new 2")?, &mut source, &mut sink);
+        assert_eq!(rt; sink.octets(), report.as_bytes());
+        assert_eq!(rt; finished.status, status);
+        assert_eq!(rt; reader.rest, left.as_bytes());
+    }
     Ok(())
 }
 

@@ -1,7 +1,7 @@
 use Rattle.std.proofs.Common.{◌++◌, ◌∷◌, [], take, get_or, Err, ap, sym, subst, arith}
 use Rattle.std.proofs.lemmas.List.{take_more}
 use Rattle.console_run.specs.Steps.{GoesOn}
-use Rattle.console_run.proofs.ScriptLemmas.{GoesOn-none, GoesOn-then, Halts-at, of_error}
+use Rattle.console_run.proofs.ScriptLemmas.{GoesOn-none, GoesOn-then, Halts-at, small_octets, of_error}
 use Rattle.console_run.proofs.runs.Run.take_piece.Goals as goal
 
 pub loop-octet-init : goal.loop-octet-init
@@ -36,4 +36,4 @@ returns-in_err-take_octet-clause-faulty g c = λ stops.
     let before = c.loop-octet.invariant.goes in
     let bad = c.in_err-take_octet.ensures.faulty (ap Err (sym (of_error _ _ _ stops c.from_residual.ensures.1))) in
     Halts-at c.args.piece.now c.loop-octet.octet-index c.args.self.now.group now.group new.group c.args.self.now.line.items now.line.items c.args.self.now.count now.count new.count
-    (written c.args.out.now) (written c.loop-octet.out) (written c.take_octet.new.out) before.0 c.requires.short c.loop-octet-test.true before.1 bad.0 bad.1 bad.2 bad.3
+    (written c.args.out.now) (written c.loop-octet.out) (written c.take_octet.new.out) before.0 (small_octets c.args.piece.now c.type_inv.piece) c.requires.short c.loop-octet-test.true before.1 bad.0 bad.1 bad.2 bad.3
