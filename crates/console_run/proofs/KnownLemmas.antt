@@ -1,24 +1,23 @@
--- What goes into a sink and comes out of a source, step after step.
-use Rattle.std.proofs.Common.{ℕ, List, [], ◌++◌, Option, Some, None, sym, refl, ap, ◌∙◌}
-use Rattle.std.specs.Io.KnownBytes.{Appends, Consumes}
-use Rattle.std.proofs.lemmas.List.{append_assoc, append-nil}
+-- What is put into a sink, step after step.
+use Rattle.std.proofs.Common.{◌≡◌, ℕ, List, [], ◌++◌, Option, ap, sym, ◌∙◌, refl, arith}
+use Rattle.std.specs.Io.KnownBytes.{Appends}
+use Rattle.std.proofs.KnownBytes.{Appends-nil, Appends-trans}
+use Rattle.std.proofs.lemmas.List.{append_assoc, length-append}
+use Rattle.console_run.specs.Clauses.{AppendsPart}
+use Rattle.console_run.specs.Steps.{Shown, Puts}
 
-pub Appends-none : (known : Option (List ℕ)) → Appends known known []
-Appends-none None = tt
-Appends-none (Some xs) = sym (append-nil xs)
+pub Puts-none : (known : Shown) → Puts known known []
+Puts-none known = record { told = Appends-nil known.written; stands = refl }
 
-pub Appends-then : (u v w : Option (List ℕ)) (a b : List ℕ) → Appends u v a → Appends v w b → Appends u w (a ++ b)
-Appends-then None v w a b x y = tt
-Appends-then (Some xs) None w a b x y = absurd x
-Appends-then (Some xs) (Some ys) None a b x y = y
-Appends-then (Some xs) (Some ys) (Some zs) a b x y = y ∙ ap (λ (front : List ℕ). front ++ b) x ∙ append_assoc xs a b
+pub Puts-then : (u v w : Shown) (a b : List ℕ) → Puts u v a → Puts v w b → Puts u w (a ++ b)
+Puts-then u v w a b h k = record { told = Appends-trans u.written v.written w.written a b h.told k.told; stands = k.stands ∙ h.stands }
 
-pub Consumes-none : (known : Option (List ℕ)) → Consumes known known []
-Consumes-none None = tt
-Consumes-none (Some xs) = refl
-
-pub Consumes-then : (u v w : Option (List ℕ)) (a b : List ℕ) → Consumes u v a → Consumes v w b → Consumes u w (a ++ b)
-Consumes-then None v w a b x y = tt
-Consumes-then (Some xs) None w a b x y = absurd x
-Consumes-then (Some xs) (Some ys) None a b x y = y
-Consumes-then (Some xs) (Some ys) (Some zs) a b x y = x ∙ ap (λ (t : List ℕ). a ++ t) y ∙ sym (append_assoc a b zs)
+-- a part of a text whose front was put before
+pub AppendsPart-behind : (was known now : Option (List ℕ)) (front line others text : List ℕ) → Appends was known front → text ≡ front ++ (line ++ others) → AppendsPart known now line → AppendsPart was now text
+AppendsPart-behind was known now front line others text told parts h = record {
+  part = front ++ h.part;
+  unsaid = h.unsaid ++ others;
+  parts = parts ∙ ap (λ line. front ++ (line ++ others)) h.parts ∙ ap (λ rest. front ++ rest) (append_assoc h.part h.unsaid others) ∙ sym (append_assoc front h.part (h.unsaid ++ others));
+  some = omega (arith, h.some, length-append h.unsaid others);
+  told = Appends-trans was known now front h.part told h.told;
+}

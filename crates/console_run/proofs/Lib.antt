@@ -1,3 +1,5 @@
+pub mod CompleteLemmas
+pub mod EndLemmas
 pub mod FitLemmas
 pub mod KnownLemmas
 pub mod ScriptLemmas

@@ -1,26 +1,33 @@
 -- What the console promises of its run.
 use Rattle.std.specs.Prelude.{◌≡◌, ◌⊎◌, ℕ, ◌+◌, ◌<◌, ◌≤◌, true, false, List, [], ◌∷◌, ◌++◌, length, Option, None, Some}
 use Rattle.std.specs.List.{list_any}
-use Rattle.std.specs.Io.KnownBytes.{Consumes}
+use Rattle.std.specs.Io.KnownBytes.{Appends, Consumes}
+use Rattle.gd_edges.specs.Faults.{Rose}
 use Rattle.group_model.specs.declared.entries.Entry.{Entry}
+use Rattle.group_model.specs.declared.entries.Asked.TheVariants.{Create}
+use Rattle.group_model.specs.Legal.{IsLegal}
 use Rattle.script_text.specs.Report.{entries_text, end_text}
-use Rattle.console_run.specs.Words.{depth_of}
-use Rattle.console_run.specs.Scripts.{are_octets, ends_line, EndsLine, is_line, script_lines, IsRunOf}
+use Rattle.console_run.specs.Scripts.{are_octets, ends_line, EndsLine, is_line, are_lines, script_lines, IsRunOf, IsTriedOf}
 
 -- the report of a history, and the line that ends it
 abbrev pub out_text : List Entry → ℕ → ℕ → List ℕ
 out_text entries status line = entries_text entries ++ end_text status line
+
+-- the source tells what it has, and all its lines are of the grammar
+abbrev pub TellsScript : Option (List ℕ) → Type 0
+TellsScript None = ⊥
+TellsScript (Some octets) = are_lines (script_lines octets) ≡ true
 
 -- where the source told what it had, that was taken whole
 abbrev pub TakesAll : Option (List ℕ) → List ℕ → Type 0
 TakesAll None taken = Unit {0}
 TakesAll (Some octets) taken = octets ≡ taken
 
--- a line is over: it ends here, or the source does
+-- a line is over: it ends here, or all that the source told was taken
 abbrev pub IsOver : Option (List ℕ) → List ℕ → List ℕ → Type 0
 IsOver left taken after = ((later : List ℕ) × (after ≡ 10 ∷ later)) ⊎ ((after ≡ []) × TakesAll left taken)
 
--- all octets of the source are a script, which was run to its end on a new group of this depth, and the history is that of its lines
+-- what was taken, all that the source told, is a script, which was run to its end on a new group of this depth
 pub record IsWholeOf (depth : ℕ) (left rest : Option (List ℕ)) (entries : List Entry) : Type 0 where
   pub taken : List ℕ
   pub source : Consumes left rest taken
@@ -28,36 +35,106 @@ pub record IsWholeOf (depth : ℕ) (left rest : Option (List ℕ)) (entries : Li
   pub octets : are_octets taken ≡ true
   pub run : IsRunOf depth (script_lines taken) entries
 
--- the words ask for a group, and the whole of the source was run on it
-pub record IsWholeRun (words : List (List ℕ)) (left rest : Option (List ℕ)) (entries : List Entry) : Type 0 where
-  pub depth : ℕ
-  pub words_ask : depth_of words ≡ Some depth
-  pub run : IsWholeOf depth left rest entries
-
--- The line of this number is past a limit or not of the grammar: the text is what has come of it, and then these octets came.
-abbrev pub IsFaulty : Option (List ℕ) → List ℕ → ℕ → List ℕ → List ℕ → Type 0
-IsFaulty left taken number text after =
-    ((16384 < number) × (0 < length (text ++ after)))
-    ⊎ ((200 < length text) ⊎ ((is_line text ≡ false) × IsOver left taken after))
-
--- The octets before a line were a script and were run as one; the line of this number, behind them, is faulty. No more was taken
--- than what shows it, and what came with that in one piece.
-pub record IsStoppedOf (depth : ℕ) (left rest : Option (List ℕ)) (number : ℕ) (entries : List Entry) : Type 0 where
-  pub before : List ℕ
-  pub text : List ℕ
-  pub after : List ℕ
+-- What was taken: lines that were run and gave these entries, then a text that is a line or a part of one, and then what came with
+-- the octet behind it. A text with octets is no line past the last that there may be.
+pub record HasTaken (depth : ℕ) (left rest : Option (List ℕ)) (before text after : List ℕ) (entries : List Entry) : Type 0 where
   pub source : Consumes left rest (before ++ (text ++ after))
   pub octets : are_octets (before ++ (text ++ after)) ≡ true
   pub ended : EndsLine before
   pub run : IsRunOf depth (script_lines before) entries
-  pub counted : number ≡ length (script_lines before) + 1
   pub one_line : list_any ends_line text ≡ false
-  pub short : length text ≤ 201
+  pub short : length text ≤ 200
   pub near : length after ≤ 4096
+  pub within : 0 < length text → length (script_lines before) < 16384
+
+-- The line of this number is faulty: it has an octet and is past the last that there may be, it goes on behind 200 octets, or it is
+-- over and not of the grammar.
+abbrev pub IsFaulty : Option (List ℕ) → List ℕ → ℕ → List ℕ → List ℕ → Type 0
+IsFaulty left taken number text after =
+    ((16384 < number) × (0 < length after))
+    ⊎ (((length text ≡ 200) × ((octet : ℕ) × (later : List ℕ) × (after ≡ octet ∷ later) × (octet ≡ 10 → ⊥)))
+    ⊎ ((is_line text ≡ false) × IsOver left taken after))
+
+-- the lines before the one of this number were run, and that one is faulty
+pub record IsStoppedOf (depth : ℕ) (left rest : Option (List ℕ)) (number : ℕ) (entries : List Entry) : Type 0 where
+  pub before : List ℕ
+  pub text : List ℕ
+  pub after : List ℕ
+  pub taken : HasTaken depth left rest before text after entries
+  pub counted : number ≡ length (script_lines before) + 1
   pub faulty : IsFaulty left (before ++ (text ++ after)) number text after
 
--- the words ask for a group, and its script was run up to this line
-pub record IsStopped (words : List (List ℕ)) (left rest : Option (List ℕ)) (number : ℕ) (entries : List Entry) : Type 0 where
-  pub depth : ℕ
-  pub words_ask : depth_of words ≡ Some depth
-  pub run : IsStoppedOf depth left rest number entries
+-- the lines that ended in what was taken were run; what stands behind them was not
+pub record IsLostOf (depth : ℕ) (left rest : Option (List ℕ)) (entries : List Entry) : Type 0 where
+  pub before : List ℕ
+  pub text : List ℕ
+  pub taken : HasTaken depth left rest before text [] entries
+
+-- nothing of the script was taken; the group was made, or not even that
+pub record IsOpening (depth : ℕ) (left rest : Option (List ℕ)) (first last : List Entry) : Type 0 where
+  pub source : Consumes left rest []
+  pub nothing : first ≡ []
+  pub made : (last ≡ []) ⊎ IsLegal (Create depth ∷ []) last
+
+-- The lines before some place of the script gave the first entries. The last are those of the line behind them, which was over, or
+-- it gave none.
+pub record IsUpToLine (depth : ℕ) (left rest : Option (List ℕ)) (first last : List Entry) : Type 0 where
+  pub before : List ℕ
+  pub text : List ℕ
+  pub after : List ℕ
+  pub taken : HasTaken depth left rest before text after first
+  pub gave : (last ≡ []) ⊎ (IsOver left (before ++ (text ++ after)) after × IsTriedOf depth (script_lines before ++ text ∷ []) (first ++ last))
+
+-- what the making of the group and the lines before the last that was begun gave, and what that one gave
+abbrev pub IsUpTo : ℕ → Option (List ℕ) → Option (List ℕ) → List Entry → List Entry → Type 0
+IsUpTo depth left rest first last = IsOpening depth left rest first last ⊎ IsUpToLine depth left rest first last
+
+-- the history is that of the group and the lines up to what was begun last; all before that is reported, and of its own report this is said
+pub record IsReached (Says : Option (List ℕ) → Option (List ℕ) → List ℕ → Type 0) (depth : ℕ) (left rest was now : Option (List ℕ)) (entries : List Entry) : Type 0 where
+  pub first : List Entry
+  pub last : List Entry
+  pub history : entries ≡ first ++ last
+  pub run : IsUpTo depth left rest first last
+  pub known : Option (List ℕ)
+  pub told : Appends was known (entries_text first)
+  pub says : Says known now (entries_text last)
+
+-- a text was put from its start, but not all of it
+pub record AppendsPart (was now : Option (List ℕ)) (text : List ℕ) : Type 0 where
+  pub part : List ℕ
+  pub unsaid : List ℕ
+  pub parts : text ≡ part ++ unsaid
+  pub some : 0 < length unsaid
+  pub told : Appends was now part
+
+-- the end line of this status was due, for this cause; the source's faults are given as they were and as they are
+abbrev pub IsDueOf : ℕ → Option (List ℕ) → Option (List ℕ) → ℕ → ℕ → ℕ → ℕ → List Entry → Type 0
+IsDueOf depth left rest old new status line entries =
+    ((status ≡ 0) × (new ≡ old) × IsWholeOf depth left rest entries)
+    ⊎ (((status ≡ 2) × (new ≡ old) × IsStoppedOf depth left rest line entries)
+    ⊎ (((status ≡ 3) × Rose old new × IsLostOf depth left rest entries)
+    ⊎ ((status ≡ 5) × (new ≡ old) × ((first : List Entry) × (last : List Entry) × (entries ≡ first ++ last) × IsUpTo depth left rest first last))))
+
+-- the whole history is reported, but not the end line that was due
+pub record IsEndUnputOf (depth : ℕ) (left rest was now : Option (List ℕ)) (old new : ℕ) (entries : List Entry) : Type 0 where
+  pub status : ℕ
+  pub line : ℕ
+  pub due : IsDueOf depth left rest old new status line entries
+  pub known : Option (List ℕ)
+  pub told : Appends was known (entries_text entries)
+  pub part : AppendsPart known now (end_text status line)
+
+-- a report was not put whole: that of what was begun last, or else the end line
+abbrev pub IsUnputOf : ℕ → Option (List ℕ) → Option (List ℕ) → Option (List ℕ) → Option (List ℕ) → ℕ → ℕ → List Entry → Type 0
+IsUnputOf depth left rest was now old new entries =
+    ((new ≡ old) × IsReached AppendsPart depth left rest was now entries) ⊎ IsEndUnputOf depth left rest was now old new entries
+
+-- nothing of a text was put, all of it, or that and the end line of this status
+abbrev pub AppendsUpTo : ℕ → Option (List ℕ) → Option (List ℕ) → List ℕ → Type 0
+AppendsUpTo status was now text = Appends was now [] ⊎ (Appends was now text ⊎ Appends was now (text ++ end_text status 0))
+
+-- there was no memory for the run or its report; where the source failed before that, there was none for the end line alone
+abbrev pub IsShortOf : ℕ → Option (List ℕ) → Option (List ℕ) → Option (List ℕ) → Option (List ℕ) → ℕ → ℕ → List Entry → Type 0
+IsShortOf depth left rest was now old new entries =
+    ((new ≡ old) × IsReached (AppendsUpTo 5) depth left rest was now entries)
+    ⊎ (Rose old new × IsLostOf depth left rest entries × Appends was now (entries_text entries))

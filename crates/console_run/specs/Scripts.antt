@@ -48,8 +48,12 @@ line_requests text = unwrap_or (option_map requests_of (line_of text)) []
 abbrev pub requests_in : List (List ℕ) → List Asked
 requests_in lines = flat_map line_requests lines
 
--- the history of a group of this depth that these lines ran; none of its requests was refused for want of memory
-pub record IsRunOf (depth : ℕ) (lines : List (List ℕ)) (entries : List Entry) : Type 0 where
+-- the history of a group of this depth that these lines ran; want of memory may have refused a request
+pub record IsTriedOf (depth : ℕ) (lines : List (List ℕ)) (entries : List Entry) : Type 0 where
   pub grammar : are_lines lines ≡ true
   pub legal : IsLegal (Create depth ∷ requests_in lines) entries
+
+-- the same, where it refused none
+pub record IsRunOf (depth : ℕ) (lines : List (List ℕ)) (entries : List Entry) : Type 0 where
+  pub tried : IsTriedOf depth lines entries
   pub granted : wants_memory entries ≡ false

@@ -23,6 +23,15 @@ pub record HasRoom (holders : Holders) (queue : List Change) (change : Change) :
   pub fits : Fits holders (queue ++ change ∷ [])
   pub room : length queue < 32
 
+-- the history has one entry more, which may answer this request
+pub record IsAdded (old new : List Entry) (request : Asked) (entry : Entry) : Type 0 where
+  pub appended : new ≡ old ++ entry ∷ []
+  pub asked : entry.asked ≡ request
+  pub step : IsStep (group_after no_group old) entry
+
+abbrev pub Adds : List Entry → List Entry → Asked → Type 0
+Adds old new request = (entry : Entry) × IsAdded old new request entry
+
 -- the history has one entry more, which answers this request as it is due, and not for want of memory
 pub record IsAnswered (old new : List Entry) (request : Asked) (entry : Entry) : Type 0 where
   pub appended : new ≡ old ++ entry ∷ []

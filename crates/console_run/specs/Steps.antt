@@ -8,20 +8,78 @@ use Rattle.group_model.specs.declared.entries.Asked.TheVariants.{Create}
 use Rattle.group_model.specs.Groups.{no_group, group_after}
 use Rattle.group_model.specs.Legal.{AreSteps, IsLegal, wants_memory}
 use Rattle.script_text.specs.Report.{entries_text}
+use Rattle.gd_edges.specs.Faults.{Rose}
+use Rattle.console_run.specs.declared.stops.Stop.{Stop}
+use Rattle.console_run.specs.declared.stops.Stop.TheVariants.{Line, Source, Sink, Untold}
+use Rattle.console_run.specs.Clauses.{AppendsPart}
 use Rattle.console_run.specs.Scripts.{are_octets, EndsLine, ends_line, is_line, line_requests, requests_in, script_lines, IsRunOf}
 
+-- what a sink shows: what was put, where it tells, and how many of its calls failed
+pub record Shown : Type 0 where
+  pub written : Option (List ℕ)
+  pub faults : ℕ
+
+abbrev pub shown : {T : Type 0} → (T → Option (List ℕ)) → (T → ℕ) → T → Shown
+shown written faults sink = record { written = written sink; faults = faults sink }
+
+-- a text was put, and no call failed
+pub record Puts (was now : Shown) (text : List ℕ) : Type 0 where
+  pub told : Appends was.written now.written text
+  pub stands : now.faults ≡ was.faults
+
+-- why the run stopped tells how much of a text was put
+abbrev pub SaidAt : Stop → Option (List ℕ) → Option (List ℕ) → List ℕ → Type 0
+SaidAt Sink was now text = AppendsPart was now text
+SaidAt Untold was now text = Appends was now []
+SaidAt stop was now text = Appends was now text
+
+-- and whether the sink failed
+abbrev pub FaultsAt : Stop → ℕ → ℕ → Type 0
+FaultsAt Sink old new = Rose old new
+FaultsAt stop old new = new ≡ old
+
+-- and whether the source did
+abbrev pub SourceAt : Stop → ℕ → ℕ → Type 0
+SourceAt Source old new = Rose old new
+SourceAt stop old new = new ≡ old
+
+-- a text was put, or as much of it as the stop tells
+pub record Tries (stop : Stop) (was now : Shown) (text : List ℕ) : Type 0 where
+  pub said : SaidAt stop was.written now.written text
+  pub sink : FaultsAt stop was.faults now.faults
+
+-- there was no report of an entry
+abbrev pub IsOfReport : Stop → Type 0
+IsOfReport Sink = Unit {0}
+IsOfReport Untold = Unit {0}
+IsOfReport stop = ⊥
+
 -- the history went on by these entries, which answer these requests, and they were reported
-pub record Tells (old new : List Entry) (was now : Option (List ℕ)) (requests : List Asked) (more : List Entry) : Type 0 where
+pub record Tells (old new : List Entry) (was now : Shown) (requests : List Asked) (more : List Entry) : Type 0 where
   pub grown : new ≡ old ++ more
-  pub told : Appends was now (entries_text more)
+  pub told : Puts was now (entries_text more)
   pub asked : map (λ (entry : Entry). entry.asked) more ≡ requests
   pub steps : AreSteps (group_after no_group old) more
   pub granted : wants_memory more ≡ false
 
 -- a line of the grammar was run
-pub record RunsLine (text : List ℕ) (old new : List Entry) (was now : Option (List ℕ)) (more : List Entry) : Type 0 where
+pub record RunsLine (text : List ℕ) (old new : List Entry) (was now : Shown) (more : List Entry) : Type 0 where
   pub grammar : is_line text ≡ true
   pub run : Tells old new was now (line_requests text) more
+
+-- what a stop rules out: at a faulty line nothing is asked, and no source is taken from while a line is run
+abbrev pub GivesAt : Stop → List Entry → Type 0
+GivesAt Line more = more ≡ []
+GivesAt Source more = ⊥
+GivesAt stop more = Unit {0}
+
+-- the run of these requests stopped: what they gave, and how much of that was reported
+pub record BreaksOff (requests : List Asked) (stop : Stop) (old new : List Entry) (was now : Shown) (more : List Entry) : Type 0 where
+  pub grown : new ≡ old ++ more
+  pub asked : (more ≡ []) ⊎ (map (λ (entry : Entry). entry.asked) more ≡ requests)
+  pub steps : AreSteps (group_after no_group old) more
+  pub gives : GivesAt stop more
+  pub tries : Tries stop was now (entries_text more)
 
 -- octets so far: the lines that ended, and what has come of the next
 pub record Cut : Type 0 where
@@ -51,9 +109,9 @@ pub record IsSoFar (depth : ℕ) (octets : List ℕ) (entries : List Entry) (lin
   pub one_line : list_any ends_line line ≡ false
 
 -- the run went on by these octets, and what happened was reported
-pub record GoesOn (octets : List ℕ) (old new : List Entry) (line next : List ℕ) (count counted : ℕ) (was now : Option (List ℕ)) (more : List Entry) : Type 0 where
+pub record GoesOn (octets : List ℕ) (old new : List Entry) (line next : List ℕ) (count counted : ℕ) (was now : Shown) (more : List Entry) : Type 0 where
   pub grown : new ≡ old ++ more
-  pub told : Appends was now (entries_text more)
+  pub told : Puts was now (entries_text more)
   pub small : are_octets octets ≡ true
   pub so_far : (depth : ℕ) (before : List ℕ) → IsSoFar depth before old line count → IsSoFar depth (before ++ octets) new next counted
 
@@ -66,33 +124,47 @@ pub record IsReady (entries : List Entry) (line : List ℕ) (count : ℕ) : Type
   pub few : length entries ≤ count + 1
   pub lines : count ≤ 16384
   pub begun : 0 < length line → count < 16384
+  pub short : length line ≤ 200
 
 -- the next octet makes the present line faulty: too many lines came before it, it ends and is not of the grammar, or is too long
 abbrev pub IsBadOctet : List ℕ → ℕ → ℕ → Type 0
-IsBadOctet line count octet = (length line ≤ 200)
-    × ((count ≡ 16384) ⊎ (((octet ≡ 10) × (is_line line ≡ false)) ⊎ ((octet ≡ 10 → ⊥) × (length line ≡ 200))))
+IsBadOctet line count octet = (count ≡ 16384) ⊎ (((octet ≡ 10) × (is_line line ≡ false)) ⊎ ((octet ≡ 10 → ⊥) × (length line ≡ 200)))
+
+-- the run stopped at this octet, the next; where that ended a line, the line may have had its turn
+pub record StopsAt (octet : ℕ) (line : List ℕ) (count : ℕ) (stop : Stop) (old new : List Entry) (was now : Shown) : Type 0 where
+  pub more : List Entry
+  pub breaks : BreaksOff (line_requests line) stop old new was now more
+  pub begun : (more ≡ []) ⊎ ((octet ≡ 10) × (count < 16384))
+  pub bad : stop ≡ Line → IsBadOctet line count octet
+  pub short : length line ≤ 200
+  pub within : 0 < length line → count < 16384
 
 -- the run went on by some of these octets, and stopped at the next
-pub record Halts (octets : List ℕ) (old new : List Entry) (line : List ℕ) (count counted : ℕ) (was now : Option (List ℕ)) : Type 0 where
+pub record Halts (octets : List ℕ) (stop : Stop) (old new : List Entry) (line : List ℕ) (count counted : ℕ) (was now : Shown) : Type 0 where
   pub done : List ℕ
   pub octet : ℕ
   pub later : List ℕ
   pub parts : octets ≡ done ++ octet ∷ later
   pub near : length later < 4096
   pub small : are_octets octets ≡ true
+  pub middle : List Entry
   pub next : List ℕ
-  pub more : List Entry
-  pub goes : GoesOn done old new line next count counted was now more
-  pub bad : IsBadOctet next counted octet
+  pub known : Shown
+  pub gone : List Entry
+  pub goes : GoesOn done old middle line next count counted was known gone
+  pub stops : StopsAt octet next counted stop middle new known now
 
 -- a script of this text is run to its end
-pub record Ends (old new : List Entry) (line : List ℕ) (count : ℕ) (was now : Option (List ℕ)) (more : List Entry) : Type 0 where
+pub record Ends (old new : List Entry) (line : List ℕ) (count : ℕ) (was now : Shown) (more : List Entry) : Type 0 where
   pub grown : new ≡ old ++ more
-  pub told : Appends was now (entries_text more)
+  pub told : Puts was now (entries_text more)
   pub run : (depth : ℕ) (before : List ℕ) → IsSoFar depth before old line count → IsRunOf depth (script_lines before) new
+  pub asked : (more ≡ []) ⊎ (map (λ (entry : Entry). entry.asked) more ≡ line_requests line)
+  pub steps : AreSteps (group_after no_group old) more
+  pub begun : (more ≡ []) ⊎ (count < 16384)
 
--- all that was taken was run on a new group of this depth, and its whole history reported
-pub record IsFollowed (depth : ℕ) (taken : List ℕ) (entries : List Entry) (was now : Option (List ℕ)) : Type 0 where
-  pub told : Appends was now (entries_text entries)
-  pub octets : are_octets taken ≡ true
-  pub run : IsRunOf depth (script_lines taken) entries
+-- what was taken is run up to its end, or to where the run stopped
+abbrev pub GoesOrHalts : List ℕ → Stop → List Entry → List Entry → List ℕ → List ℕ → ℕ → ℕ → Shown → Shown → Type 0
+GoesOrHalts taken stop old new line next count counted was now =
+    ((stop ≡ Source) × IsReady new next counted × ((more : List Entry) × GoesOn taken old new line next count counted was now more))
+    ⊎ Halts taken stop old new line count counted was now

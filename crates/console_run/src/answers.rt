@@ -22,8 +22,9 @@ pub(crate) fn answer_join(history: &History, pending: &Batch, member: &MemberNam
         return Answer::Nothing;
     }
     if has_pending(pending, member) {
-        let why = Refusal::AlreadyPending;
-        return Answer::Refused { why };
+        return Answer::Refused {
+            why: Refusal::AlreadyPending,
+        };
     }
     let held = count_taken(history, pending);
     if held as usize == history.leaves() {

@@ -1,11 +1,10 @@
 //! Running one line of a script.
-ghost use Rattle.std.specs.Prelude.{◌≡◌, ◌+◌, ◌^◌, ◌<◌, ◌≤◌, List, [], ◌∷◌, ◌++◌, length, false, Err, OnOk};
-ghost use Rattle.std.specs.Io.KnownBytes.{Appends};
+ghost use Rattle.std.specs.Prelude.{◌≡◌, ◌+◌, ◌^◌, ◌<◌, ◌≤◌, List, [], ◌∷◌, ◌++◌, length, false, Err, IfErr, OnOk};
 ghost use Rattle.group_model.specs.declared.entries.Entry.{Entry};
 ghost use Rattle.script_text.specs.Report.{entry_text};
 ghost use Rattle.script_text.specs.Requests.{requests_of};
-ghost use Rattle.console_run.specs.Scripts.{is_line};
-ghost use Rattle.console_run.specs.Steps.{Tells, RunsLine};
+ghost use Rattle.console_run.specs.Scripts.{is_line, line_requests};
+ghost use Rattle.console_run.specs.Steps.{shown, FaultsAt, Puts, Tries, Tells, RunsLine, BreaksOff, IsOfReport};
 
 use crate::groups::Group;
 use crate::puts::tell;
@@ -22,9 +21,10 @@ pub(crate) fn run_line<K: Sink>(
     out: &mut K,
 ) -> Result<(), Stop>
     requires { length group.old < 2 ^ 29 }
-    ensures ok { OnOk result ((more : List Entry) × RunsLine text.now group.old group.new (K.written out.old) (K.written out.new) more) }
+    ensures ok { OnOk result ((more : List Entry) × RunsLine text.now group.old group.new (shown K.written K.faults out.old) (shown K.written K.faults out.new) more) }
     ensures one { length group.new ≤ length group.old + 1 }
-    ensures faulty { result ≡ Err Stop.Line → (is_line text.now ≡ false) × (group.new ≡ group.old) × (K.written out.new ≡ K.written out.old) }
+    ensures breaks { IfErr result (λ stop. (more : List Entry) × BreaksOff (line_requests text.now) stop group.old group.new (shown K.written K.faults out.old) (shown K.written K.faults out.new) more) }
+    ensures faulty { result ≡ Err Stop.Line → is_line text.now ≡ false }
 {
     match read_line(text) {
         Some(line) => {
@@ -37,8 +37,9 @@ pub(crate) fn run_line<K: Sink>(
 
 fn run<K: Sink>(alloc: Global, line: Line, group: &mut Group, out: &mut K) -> Result<(), Stop>
     requires { length group.old < 2 ^ 29 }
-    ensures ok { OnOk result ((more : List Entry) × Tells group.old group.new (K.written out.old) (K.written out.new) (requests_of line) more) }
+    ensures ok { OnOk result ((more : List Entry) × Tells group.old group.new (shown K.written K.faults out.old) (shown K.written K.faults out.new) (requests_of line) more) }
     ensures one { length group.new ≤ length group.old + 1 }
+    ensures breaks { IfErr result (λ stop. (more : List Entry) × BreaksOff (requests_of line) stop group.old group.new (shown K.written K.faults out.old) (shown K.written K.faults out.new) more) }
     ensures cause { result ≡ Err Stop.Line → ⊥ }
 {
     match line {
@@ -63,8 +64,11 @@ fn run<K: Sink>(alloc: Global, line: Line, group: &mut Group, out: &mut K) -> Re
 
 /// Reports the last entry of a group's history.
 pub(crate) fn tell_last<K: Sink>(alloc: Global, group: &Group, out: &mut K) -> Result<(), Stop>
-    ensures told { OnOk result ((front : List Entry) (entry : Entry) → group.now ≡ front ++ entry ∷ [] → Appends (K.written out.old) (K.written out.new) (entry_text entry)) }
-    ensures cause { result ≡ Err Stop.Line → ⊥ }
+    ensures told { OnOk result ((front : List Entry) (entry : Entry) → group.now ≡ front ++ entry ∷ [] → Puts (shown K.written K.faults out.old) (shown K.written K.faults out.new) (entry_text entry)) }
+    ensures tries { IfErr result (λ stop. (front : List Entry) (entry : Entry) → group.now ≡ front ++ entry ∷ [] → Tries stop (shown K.written K.faults out.old) (shown K.written K.faults out.new) (entry_text entry)) }
+    ensures stands { OnOk result (K.faults out.new ≡ K.faults out.old) }
+    ensures sink { IfErr result (λ stop. FaultsAt stop (K.faults out.old) (K.faults out.new)) }
+    ensures cause { IfErr result IsOfReport }
 {
     match group.last() {
         Some(entry) => {

@@ -1,9 +1,10 @@
 //! The console: words, a script, and a report.
-ghost use Rattle.std.specs.Prelude.{◌≡◌, ◌≤◌, ◌⊎◌, [], None, map, string_bytes};
+ghost use Rattle.std.specs.Prelude.{◌≡◌, ◌≤◌, ◌⊎◌, ℕ, [], None, Some, IsSome, map, string_bytes};
 ghost use Rattle.std.specs.Io.KnownBytes.{Appends};
+ghost use Rattle.gd_edges.specs.Faults.{Rose};
 ghost use Rattle.script_text.specs.Report.{end_text};
 ghost use Rattle.console_run.specs.Words.{depth_of};
-ghost use Rattle.console_run.specs.Clauses.{IsWholeRun, IsWholeOf, IsStopped, IsStoppedOf, out_text};
+ghost use Rattle.console_run.specs.Clauses.{TellsScript, IsWholeOf, IsStoppedOf, IsLostOf, IsUnputOf, IsShortOf, AppendsPart, out_text};
 
 use crate::puts::put_lines;
 use crate::runs::Run;
@@ -41,12 +42,25 @@ pub fn console<S: Source, K: Sink>(
     out: &mut K,
 ) -> Finished
     ensures status { result.status ≤ 5 }
-    ensures report { result.status ≤ 2 → Appends (K.written out.old) (K.written out.new) (out_text result.history result.status result.line) }
     ensures line { (result.status ≡ 2 → ⊥) → result.line ≡ 0 }
-    ensures history { result.status ≡ 0 → IsWholeRun (map string_bytes words.now) (S.left script.old) (S.left script.new) result.history }
-    ensures stopped { result.status ≡ 2 → IsStopped (map string_bytes words.now) (S.left script.old) (S.left script.new) result.line result.history }
+    ensures report { result.status ≤ 3 → Appends (K.written out.old) (K.written out.new) (out_text result.history result.status result.line) }
+    ensures whole { result.status ≡ 0 → (depth : ℕ) → depth_of (map string_bytes words.now) ≡ Some depth → IsWholeOf depth (S.left script.old) (S.left script.new) result.history }
     ensures words { result.status ≡ 1 → depth_of (map string_bytes words.now) ≡ None }
+    ensures stopped { result.status ≡ 2 → (depth : ℕ) → depth_of (map string_bytes words.now) ≡ Some depth → IsStoppedOf depth (S.left script.old) (S.left script.new) result.line result.history }
+    ensures lost { result.status ≡ 3 → (depth : ℕ) → depth_of (map string_bytes words.now) ≡ Some depth → IsLostOf depth (S.left script.old) (S.left script.new) result.history }
+    ensures source { result.status ≡ 3 → Rose (S.faults script.old) (S.faults script.new) }
+    ensures source_stands { result.status ≤ 2 → S.faults script.new ≡ S.faults script.old }
+    ensures unput { result.status ≡ 4 → (depth : ℕ) → depth_of (map string_bytes words.now) ≡ Some depth → IsUnputOf depth (S.left script.old) (S.left script.new)
+        (K.written out.old) (K.written out.new) (S.faults script.old) (S.faults script.new) result.history }
+    ensures sink { result.status ≡ 4 → Rose (K.faults out.old) (K.faults out.new) }
+    ensures sink_stands { (result.status ≡ 4 → ⊥) → K.faults out.new ≡ K.faults out.old }
+    ensures short { result.status ≡ 5 → (depth : ℕ) → depth_of (map string_bytes words.now) ≡ Some depth → IsShortOf depth (S.left script.old) (S.left script.new)
+        (K.written out.old) (K.written out.new) (S.faults script.old) (S.faults script.new) result.history }
+    ensures complete { IsSome (depth_of (map string_bytes words.now)) → TellsScript (S.left script.old) → (Rose (S.faults script.old) (S.faults script.new) → ⊥) → (Rose (K.faults out.old) (K.faults out.new) → ⊥)
+        → (result.status ≡ 0) ⊎ (result.status ≡ 5) }
     ensures other_words { depth_of (map string_bytes words.now) ≡ None → (result.history ≡ []) × (script.new ≡ script.old) × ((result.status ≡ 1) ⊎ (4 ≤ result.status)) }
+    ensures other_unput { depth_of (map string_bytes words.now) ≡ None → result.status ≡ 4 → AppendsPart (K.written out.old) (K.written out.new) (end_text 1 0) }
+    ensures other_short { depth_of (map string_bytes words.now) ≡ None → result.status ≡ 5 → Appends (K.written out.old) (K.written out.new) [] }
 {
     match read_words(words) {
         Some(depth) => run_script(alloc, depth, script, out),
@@ -59,11 +73,20 @@ fn run_script<S: Source, K: Sink>(alloc: Global, depth: u8, script: &mut S, out:
     requires shallow { 1 ≤ depth }
     requires not_deep { depth ≤ 4 }
     ensures status { result.status ≤ 5 }
-    ensures report { result.status ≤ 2 → Appends (K.written out.old) (K.written out.new) (out_text result.history result.status result.line) }
     ensures line { (result.status ≡ 2 → ⊥) → result.line ≡ 0 }
     ensures other { result.status ≡ 1 → ⊥ }
+    ensures report { result.status ≤ 3 → Appends (K.written out.old) (K.written out.new) (out_text result.history result.status result.line) }
     ensures whole { result.status ≡ 0 → IsWholeOf depth (S.left script.old) (S.left script.new) result.history }
     ensures stopped { result.status ≡ 2 → IsStoppedOf depth (S.left script.old) (S.left script.new) result.line result.history }
+    ensures lost { result.status ≡ 3 → IsLostOf depth (S.left script.old) (S.left script.new) result.history }
+    ensures source { result.status ≡ 3 → Rose (S.faults script.old) (S.faults script.new) }
+    ensures source_stands { result.status ≤ 2 → S.faults script.new ≡ S.faults script.old }
+    ensures sink { result.status ≡ 4 → Rose (K.faults out.old) (K.faults out.new) }
+    ensures sink_stands { (result.status ≡ 4 → ⊥) → K.faults out.new ≡ K.faults out.old }
+    ensures unput { result.status ≡ 4 → IsUnputOf depth (S.left script.old) (S.left script.new) (K.written out.old) (K.written out.new)
+        (S.faults script.old) (S.faults script.new) result.history }
+    ensures short { result.status ≡ 5 → IsShortOf depth (S.left script.old) (S.left script.new) (K.written out.old) (K.written out.new)
+        (S.faults script.old) (S.faults script.new) result.history }
 {
     let mut run = match Run::begin(alloc, depth) {
         Ok(run) => run,
@@ -93,6 +116,7 @@ fn run_script<S: Source, K: Sink>(alloc: Global, depth: u8, script: &mut S, out:
 /// Puts the last line of the report.
 fn end<K: Sink>(alloc: Global, status: u8, line: u32, history: List<Entry>, out: &mut K) -> Finished
     requires status { status ≤ 5 }
+    requires not_sink { status ≡ 4 → ⊥ }
     requires line { (status ≡ 2 → ⊥) → line ≡ 0 }
     ensures status { result.status ≤ 5 }
     ensures due { (result.status ≡ status) ⊎ (4 ≤ result.status) }
@@ -100,6 +124,10 @@ fn end<K: Sink>(alloc: Global, status: u8, line: u32, history: List<Entry>, out:
     ensures line { (result.status ≡ 2 → ⊥) → result.line ≡ 0 }
     ensures same_line { result.status ≤ 3 → result.line ≡ line }
     ensures told { result.status ≤ 3 → Appends (K.written out.old) (K.written out.new) (end_text result.status result.line) }
+    ensures unput { result.status ≡ 4 → AppendsPart (K.written out.old) (K.written out.new) (end_text status line) }
+    ensures short { result.status ≡ 5 → Appends (K.written out.old) (K.written out.new) [] ⊎ ((status ≡ 5) × Appends (K.written out.old) (K.written out.new) (end_text 5 0)) }
+    ensures sink { result.status ≡ 4 → Rose (K.faults out.old) (K.faults out.new) }
+    ensures sink_stands { (result.status ≡ 4 → ⊥) → K.faults out.new ≡ K.faults out.old }
 {
     let mut text = List::new(alloc);
     match end_line(alloc, status, line, &mut text) {

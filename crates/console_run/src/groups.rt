@@ -2,7 +2,7 @@
 ghost use Rattle.std.specs.Prelude.{◌≡◌, ◌+◌, ◌^◌, ◌<◌, ◌≤◌, List, [], ◌∷◌, ◌++◌, length, MatchOption, IfOk, OnOk, OnErr, IsTrue};
 ghost use Rattle.group_model.specs.declared.entries.Entry.{Entry};
 ghost use Rattle.group_model.specs.Legal.{outside_of};
-ghost use Rattle.console_run.specs.Stands.{Answers};
+ghost use Rattle.console_run.specs.Stands.{Adds, Answers};
 
 use crate::answers::{answer_join, answer_leave};
 use crate::batches::close;
@@ -100,7 +100,7 @@ impl Group {
     pub(crate) fn batch(&mut self, alloc: Global) -> Result<bool, NoMemory>
         requires { length self.old < 2 ^ 29 }
         ensures made { IfOk result (λ made. IsTrue made → Answers self.old self.new Asked.Batch) }
-        ensures grown { OnOk result ((entry : Entry) × (self.new ≡ self.old ++ entry ∷ [])) }
+        ensures added { OnOk result (Adds self.old self.new Asked.Batch) }
         ensures err { OnErr result (self.new ≡ self.old) }
     {
         self.entries.reserve(1)?;

@@ -1,7 +1,7 @@
 //! Putting texts into a sink.
-ghost use Rattle.std.specs.Prelude.{◌≡◌, ◌<◌, ◌≤◌, length, Err, OnOk};
-ghost use Rattle.std.specs.Io.KnownBytes.{Appends};
+ghost use Rattle.std.specs.Prelude.{◌<◌, ◌≤◌, length, IfErr, OnOk, OnErr};
 ghost use Rattle.script_text.specs.Report.{entry_text};
+ghost use Rattle.console_run.specs.Steps.{shown, Puts, Tries, IsOfReport};
 
 use crate::stops::Stop;
 use gd_edges::{Failed, Sink};
@@ -11,8 +11,9 @@ use std::alloc::Global;
 
 /// Puts the report of an entry, line by line.
 pub(crate) fn tell<K: Sink>(alloc: Global, entry: &Entry, out: &mut K) -> Result<(), Stop>
-    ensures told { OnOk result (Appends (K.written out.old) (K.written out.new) (entry_text entry.now)) }
-    ensures cause { result ≡ Err Stop.Line → ⊥ }
+    ensures told { OnOk result (Puts (shown K.written K.faults out.old) (shown K.written K.faults out.new) (entry_text entry.now)) }
+    ensures tries { IfErr result (λ stop. Tries stop (shown K.written K.faults out.old) (shown K.written K.faults out.new) (entry_text entry.now)) }
+    ensures cause { IfErr result IsOfReport }
 {
     let mut text = List::new(alloc);
     match report_entry(alloc, entry, &mut text) {
@@ -27,7 +28,8 @@ pub(crate) fn tell<K: Sink>(alloc: Global, entry: &Entry, out: &mut K) -> Result
 
 /// Puts a text line by line. Where the sink takes a part of a line, the next piece is the rest of that line.
 pub(crate) fn put_lines<K: Sink>(text: &[u8], out: &mut K) -> Result<(), Failed>
-    ensures { OnOk result (Appends (K.written out.old) (K.written out.new) text.now) }
+    ensures ok { OnOk result (Puts (shown K.written K.faults out.old) (shown K.written K.faults out.new) text.now) }
+    ensures failed { OnErr result (Tries Stop.Sink (shown K.written K.faults out.old) (shown K.written K.faults out.new) text.now) }
 {
     let mut rest = text;
     while !rest.is_empty() {
@@ -51,7 +53,8 @@ fn line_length(text: &[u8]) -> usize
 }
 
 fn put_all<K: Sink>(piece: &[u8], out: &mut K) -> Result<(), Failed>
-    ensures { OnOk result (Appends (K.written out.old) (K.written out.new) piece.now) }
+    ensures ok { OnOk result (Puts (shown K.written K.faults out.old) (shown K.written K.faults out.new) piece.now) }
+    ensures failed { OnErr result (Tries Stop.Sink (shown K.written K.faults out.old) (shown K.written K.faults out.new) piece.now) }
 {
     let mut rest = piece;
     while !rest.is_empty() {

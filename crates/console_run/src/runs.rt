@@ -1,13 +1,13 @@
 //! Following a script, octet by octet.
-ghost use Rattle.std.specs.Prelude.{◌≡◌, ◌+◌, ◌<◌, ◌≤◌, ℕ, List, [], ◌∷◌, ◌++◌, length, false, Err, IfOk, OnOk};
+ghost use Rattle.std.specs.Prelude.{◌≡◌, ◌+◌, ◌<◌, ◌≤◌, ℕ, List, [], ◌∷◌, ◌++◌, length, false, Err, IfOk, IfErr, OnOk, OnErr};
 ghost use Rattle.std.specs.Io.KnownBytes.{Appends, Consumes};
 ghost use Rattle.group_model.specs.declared.entries.Entry.{Entry};
 ghost use Rattle.group_model.specs.declared.entries.Asked.TheVariants.{Create};
 ghost use Rattle.script_text.specs.Report.{entries_text};
-ghost use Rattle.console_run.specs.Scripts.{is_line};
+ghost use Rattle.console_run.specs.Scripts.{is_line, line_requests};
 ghost use Rattle.console_run.specs.Stands.{Answers};
-ghost use Rattle.console_run.specs.Steps.{IsReady, GoesOn, IsBadOctet, Halts, Ends, IsFollowed, room_left};
-ghost use Rattle.console_run.specs.Clauses.{TakesAll, IsStoppedOf};
+ghost use Rattle.console_run.specs.Steps.{shown, SaidAt, FaultsAt, SourceAt, BreaksOff, IsReady, GoesOn, StopsAt, Halts, GoesOrHalts, Ends, room_left};
+ghost use Rattle.console_run.specs.Clauses.{TakesAll, IsReached, IsWholeOf, IsStoppedOf, IsLostOf};
 
 use crate::commands::{run_line, tell_last};
 use crate::groups::Group;
@@ -60,11 +60,12 @@ impl Run {
         requires ready { IsReady self.old.group self.old.line.items self.old.count }
         ensures ready { OnOk result (IsReady self.new.group self.new.line.items self.new.count) }
         ensures goes { OnOk result ((more : List Entry) × GoesOn (octet ∷ []) self.old.group self.new.group self.old.line.items self.new.line.items
-            self.old.count self.new.count (K.written out.old) (K.written out.new) more) }
+            self.old.count self.new.count (shown K.written K.faults out.old) (shown K.written K.faults out.new) more) }
         ensures nearer { OnOk result (room_left self.new.line.items self.new.count < room_left self.old.line.items self.old.count) }
         ensures count { self.new.count ≤ 16384 }
-        ensures faulty { result ≡ Err Stop.Line → IsBadOctet self.old.line.items self.old.count octet × (self.new.group ≡ self.old.group)
-            × (self.new.count ≡ self.old.count) × (K.written out.new ≡ K.written out.old) }
+        ensures stops { IfErr result (λ stop. StopsAt octet self.old.line.items self.old.count stop self.old.group self.new.group
+            (shown K.written K.faults out.old) (shown K.written K.faults out.new)) }
+        ensures counted { OnErr result (self.new.count ≡ self.old.count) }
     {
         if self.count == MOST_LINES {
             return Err(Stop::Line);
@@ -88,11 +89,11 @@ impl Run {
         requires ready { IsReady self.old.group self.old.line.items self.old.count }
         ensures ready { OnOk result (IsReady self.new.group self.new.line.items self.new.count) }
         ensures goes { OnOk result ((more : List Entry) × GoesOn piece.now self.old.group self.new.group self.old.line.items self.new.line.items
-            self.old.count self.new.count (K.written out.old) (K.written out.new) more) }
+            self.old.count self.new.count (shown K.written K.faults out.old) (shown K.written K.faults out.new) more) }
         ensures nearer { OnOk result (room_left self.new.line.items self.new.count + length piece.now ≤ room_left self.old.line.items self.old.count) }
         ensures count { self.new.count ≤ 16384 }
-        ensures faulty { result ≡ Err Stop.Line → Halts piece.now self.old.group self.new.group self.old.line.items self.old.count self.new.count
-            (K.written out.old) (K.written out.new) }
+        ensures halts { IfErr result (λ stop. Halts piece.now stop self.old.group self.new.group self.old.line.items self.old.count self.new.count
+            (shown K.written K.faults out.old) (shown K.written K.faults out.new)) }
     {
         for octet in piece {
             self.take_octet(alloc, *octet, out)?;
@@ -114,10 +115,13 @@ impl Run {
         ensures ready { OnOk result (IsReady self.new.group self.new.line.items self.new.count) }
         ensures goes { OnOk result (((taken : List ℕ) × Consumes (S.left script.old) (S.left script.new) taken × TakesAll (S.left script.old) taken
             × ((more : List Entry) × GoesOn taken self.old.group self.new.group self.old.line.items self.new.line.items
-            self.old.count self.new.count (K.written out.old) (K.written out.new) more))) }
+            self.old.count self.new.count (shown K.written K.faults out.old) (shown K.written K.faults out.new) more))) }
         ensures count { self.new.count ≤ 16384 }
-        ensures faulty { result ≡ Err Stop.Line → (taken : List ℕ) × Consumes (S.left script.old) (S.left script.new) taken
-            × Halts taken self.old.group self.new.group self.old.line.items self.old.count self.new.count (K.written out.old) (K.written out.new) }
+        ensures stops { IfErr result (λ stop. (taken : List ℕ) × Consumes (S.left script.old) (S.left script.new) taken
+            × GoesOrHalts taken stop self.old.group self.new.group self.old.line.items self.new.line.items self.old.count self.new.count
+            (shown K.written K.faults out.old) (shown K.written K.faults out.new)) }
+        ensures stands { OnOk result (S.faults script.new ≡ S.faults script.old) }
+        ensures source { IfErr result (λ stop. SourceAt stop (S.faults script.old) (S.faults script.new)) }
     {
         'pieces: loop {
             let n = match script.take(buffer) {
@@ -135,10 +139,14 @@ impl Run {
     /// Runs the last line, where the script ends in the middle of it.
     fn finish<K: Sink>(&mut self, alloc: Global, out: &mut K) -> Result<(), Stop>
         requires ready { IsReady self.old.group self.old.line.items self.old.count }
-        ensures ends { OnOk result ((more : List Entry) × Ends self.old.group self.new.group self.old.line.items self.old.count (K.written out.old) (K.written out.new) more) }
+        ensures ends { OnOk result ((more : List Entry) × Ends self.old.group self.new.group self.old.line.items self.old.count (shown K.written K.faults out.old) (shown K.written K.faults out.new) more) }
         ensures count { self.new.count ≤ 16384 }
-        ensures faulty { result ≡ Err Stop.Line → (length self.old.line.items ≤ 200) × (is_line self.old.line.items ≡ false) × (self.new.group ≡ self.old.group)
-            × (self.new.count ≡ self.old.count) × (K.written out.new ≡ K.written out.old) }
+        ensures breaks { IfErr result (λ stop. (more : List Entry) × BreaksOff (line_requests self.old.line.items) stop self.old.group self.new.group
+            (shown K.written K.faults out.old) (shown K.written K.faults out.new) more) }
+        ensures faulty { result ≡ Err Stop.Line → is_line self.old.line.items ≡ false }
+        ensures begun { OnErr result (self.old.count < 16384) }
+        ensures short { OnErr result (length self.old.line.items ≤ 200) }
+        ensures counted { OnErr result (self.new.count ≡ self.old.count) }
     {
         if self.line.is_empty() {
             return Ok(());
@@ -157,12 +165,20 @@ impl Run {
         requires line { self.old.line.items ≡ [] }
         requires count { self.old.count ≡ 0 }
         requires group { length self.old.group ≡ 1 }
-        ensures followed { OnOk result ((taken : List ℕ) × Consumes (S.left script.old) (S.left script.new) taken × TakesAll (S.left script.old) taken
-            × ((depth : ℕ) → Answers [] self.old.group (Create depth) → IsFollowed depth taken self.new.group (K.written out.old) (K.written out.new))) }
+        ensures whole { OnOk result ((depth : ℕ) → Answers [] self.old.group (Create depth) → IsWholeOf depth (S.left script.old) (S.left script.new) self.new.group) }
         ensures count { self.new.count ≤ 16384 }
+        ensures reached { OnOk result ((depth : ℕ) → Answers [] self.old.group (Create depth) →
+            IsReached Appends depth (S.left script.old) (S.left script.new) (K.written out.old) (K.written out.new) self.new.group) }
+        ensures cut { IfErr result (λ stop. (depth : ℕ) → Answers [] self.old.group (Create depth) →
+            IsReached (SaidAt stop) depth (S.left script.old) (S.left script.new) (K.written out.old) (K.written out.new) self.new.group) }
         ensures faulty { result ≡ Err Stop.Line → (depth : ℕ) → Answers [] self.old.group (Create depth) →
-            IsStoppedOf depth (S.left script.old) (S.left script.new) (self.new.count + 1) self.new.group
-            × Appends (K.written out.old) (K.written out.new) (entries_text self.new.group) }
+            IsStoppedOf depth (S.left script.old) (S.left script.new) (self.new.count + 1) self.new.group }
+        ensures lost { result ≡ Err Stop.Source → (depth : ℕ) → Answers [] self.old.group (Create depth) →
+            IsLostOf depth (S.left script.old) (S.left script.new) self.new.group }
+        ensures source_stands { OnOk result (S.faults script.new ≡ S.faults script.old) }
+        ensures source { IfErr result (λ stop. SourceAt stop (S.faults script.old) (S.faults script.new)) }
+        ensures sink_stands { OnOk result (K.faults out.new ≡ K.faults out.old) }
+        ensures sink { IfErr result (λ stop. FaultsAt stop (K.faults out.old) (K.faults out.new)) }
     {
         tell_last(alloc, &self.group, out)?;
         let mut buffer = vec![in alloc; 0; PIECE].map_err(NoMemory::from)?;

@@ -1,4 +1,4 @@
-ghost use Rattle.std.specs.Prelude.{◌<◌, ◌≤◌, ℕ, List, Option, length, take, IfOk, OnErr};
+ghost use Rattle.std.specs.Prelude.{◌≡◌, ◌<◌, ◌≤◌, ℕ, List, Option, length, take, IfOk, OnOk, OnErr};
 ghost use Rattle.std.specs.Io.KnownBytes.{Appends, Keeps};
 ghost use Rattle.gd_edges.specs.Faults.{Rose};
 
@@ -20,5 +20,6 @@ pub trait Sink {
             (λ n. Appends (written self.old) (written self.new) (take n piece.now)) }
         ensures failed { OnErr result (Keeps (written self.old) (written self.new)) }
         ensures cause { OnErr result (Rose (faults self.old) (faults self.new)) }
+        ensures stands { OnOk result (faults self.new ≡ faults self.old) }
         ensures counted { faults self.old ≤ faults self.new };
 }

@@ -1,4 +1,4 @@
-ghost use Rattle.std.specs.Prelude.{◌≡◌, ◌<◌, ◌≤◌, ℕ, List, Option, length, take, Ok, IfOk, OnErr};
+ghost use Rattle.std.specs.Prelude.{◌≡◌, ◌<◌, ◌≤◌, ℕ, List, Option, length, take, Ok, IfOk, OnOk, OnErr};
 ghost use Rattle.std.specs.Io.KnownBytes.{Consumes, Keeps, IsAtEnd};
 ghost use Rattle.gd_edges.specs.Faults.{Rose};
 
@@ -21,5 +21,6 @@ pub trait Source {
         ensures end { result ≡ Ok 0 → IsAtEnd (left self.old) }
         ensures failed { OnErr result (Keeps (left self.old) (left self.new)) }
         ensures cause { OnErr result (Rose (faults self.old) (faults self.new)) }
+        ensures stands { OnOk result (faults self.new ≡ faults self.old) }
         ensures counted { faults self.old ≤ faults self.new };
 }

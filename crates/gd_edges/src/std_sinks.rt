@@ -1,4 +1,4 @@
-ghost use Rattle.std.specs.Prelude.{◌≡◌, ◌<◌, ◌≤◌, None, length, take, is_err, IfOk, OnErr, if◌then◌else◌};
+ghost use Rattle.std.specs.Prelude.{◌≡◌, ◌<◌, ◌≤◌, None, length, take, is_err, IfOk, OnOk, OnErr, if◌then◌else◌};
 ghost use Rattle.std.specs.Io.KnownBytes.{Appends, Keeps};
 ghost use Rattle.gd_edges.specs.Faults.{Rose, one_more};
 ghost use Rattle.gd_edges.specs.Texts.{AppendsFront};
@@ -45,6 +45,7 @@ impl<T: Write> Sink for StdSink<T> {
         ensures appended { IfOk result (λ n. Appends None None (take n piece.now)) }
         ensures failed { OnErr result (Keeps None None) }
         ensures cause { OnErr result (Rose self.old.faults self.new.faults) }
+        ensures stands { OnOk result (self.new.faults ≡ self.old.faults) }
         ensures counted { self.old.faults ≤ self.new.faults }
         // What the writer tells of itself: these octets are behind those that it had.
         ensures reached { IfOk result

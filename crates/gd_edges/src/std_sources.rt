@@ -1,4 +1,4 @@
-ghost use Rattle.std.specs.Prelude.{◌≡◌, ◌<◌, ◌≤◌, length, take, Ok, is_err, IfOk, OnErr, if◌then◌else◌};
+ghost use Rattle.std.specs.Prelude.{◌≡◌, ◌<◌, ◌≤◌, length, take, Ok, is_err, IfOk, OnOk, OnErr, if◌then◌else◌};
 ghost use Rattle.std.specs.Io.KnownBytes.{Consumes, Keeps, IsAtEnd};
 ghost use Rattle.gd_edges.specs.Faults.{Rose, one_more};
 
@@ -46,6 +46,7 @@ impl<T: Read> Source for StdSource<T> {
         ensures failed { OnErr result
             (Keeps (T.remaining self.old.inner) (T.remaining self.new.inner)) }
         ensures cause { OnErr result (Rose self.old.faults self.new.faults) }
+        ensures stands { OnOk result (self.new.faults ≡ self.old.faults) }
         ensures counted { self.old.faults ≤ self.new.faults }
         ensures faults { self.new.faults ≡
             (if is_err result then one_more self.old.faults else self.old.faults) }

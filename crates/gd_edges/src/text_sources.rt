@@ -1,4 +1,4 @@
-ghost use Rattle.std.specs.Prelude.{◌≡◌, ◌<◌, ◌≤◌, min, length, take, drop, ◌++◌, Some, Ok, is_err, IfOk, OnErr, if◌then◌else◌};
+ghost use Rattle.std.specs.Prelude.{◌≡◌, ◌<◌, ◌≤◌, min, length, take, drop, ◌++◌, Some, Ok, is_err, IfOk, OnOk, OnErr, if◌then◌else◌};
 ghost use Rattle.std.specs.Io.KnownBytes.{Consumes, Keeps, IsAtEnd};
 ghost use Rattle.gd_edges.specs.Faults.{Rose, one_more, fails_next};
 
@@ -65,6 +65,7 @@ impl Source for TextSource {
         ensures end { result ≡ Ok 0 → IsAtEnd (Some self.old.left) }
         ensures failed { OnErr result (Keeps (Some self.old.left) (Some self.new.left)) }
         ensures cause { OnErr result (Rose self.old.faults self.new.faults) }
+        ensures stands { OnOk result (self.new.faults ≡ self.old.faults) }
         ensures counted { self.old.faults ≤ self.new.faults }
         ensures listed { is_err result ≡ fails_next self.old.calls self.old.fails }
         ensures all_that_fits { IfOk result

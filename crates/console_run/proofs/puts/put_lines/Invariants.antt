@@ -1,10 +1,10 @@
 use Rattle.std.proofs.Common.{◌≡◌, ℕ, List, ◌++◌, length}
-use Rattle.std.specs.Io.KnownBytes.{Appends}
+use Rattle.console_run.specs.Steps.{shown, Puts}
 use Rattle.console_run.proofs.puts.put_lines.Given as goal
 
 -- what was put so far, and what is left
 abbrev pub invariant-loop-rest : goal.invariant-loop-rest
-invariant-loop-rest g l = (done : List ℕ) × (l.fn.text ≡ done ++ l.rest) × Appends (g.K.Sink.written l.fn.out) (g.K.Sink.written l.out) done
+invariant-loop-rest g l = (done : List ℕ) × (l.fn.text ≡ done ++ l.rest) × Puts (shown g.K.Sink.written g.K.Sink.faults l.fn.out) (shown g.K.Sink.written g.K.Sink.faults l.out) done
 
 abbrev pub decreases-loop-rest : goal.decreases-loop-rest
 decreases-loop-rest g l = length l.rest

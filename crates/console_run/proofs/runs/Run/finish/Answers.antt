@@ -1,19 +1,19 @@
 use Rattle.std.proofs.Common.{[], length, subst}
-use Rattle.console_run.specs.Steps.{RunsLine}
+use Rattle.console_run.specs.Steps.{shown, RunsLine}
 use Rattle.console_run.proofs.ScriptLemmas.{none_of, some_of, Ends-none, Ends-line}
 use Rattle.console_run.proofs.runs.Run.finish.Goals as goal
 
 pub returns-then-is_empty-clause-ends : goal.returns-then-is_empty-clause-ends
 returns-then-is_empty-clause-ends g c =
     let was = c.args.self.now in
-    ([], Ends-none was.group was.line.items was.count (g.K.Sink.written c.args.out.now) (none_of was.line.items c.if-is_empty.ensures) c.requires.ready.lines)
+    ([], Ends-none was.group was.line.items was.count (shown g.K.Sink.written g.K.Sink.faults c.args.out.now) (none_of was.line.items c.if-is_empty.ensures) c.requires.ready.lines)
 
 pub returns-clause-ends : goal.returns-clause-ends
 returns-clause-ends g c =
     let was = c.args.self.now in
     let new = c.run_line.new.group in
-    let before = g.K.Sink.written c.args.out.now in
-    let after = g.K.Sink.written c.run_line.new.out in
+    let before = shown g.K.Sink.written g.K.Sink.faults c.args.out.now in
+    let after = shown g.K.Sink.written g.K.Sink.faults c.run_line.new.out in
     let some = some_of (length was.line.items) c.if-is_empty.ensures in
     let run = c.in_ok-run_line.ensures.ok in (
       run.0,
