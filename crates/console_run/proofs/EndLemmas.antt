@@ -8,7 +8,7 @@ use Rattle.std.proofs.lemmas.List.Concat.{flat_map-append}
 use Rattle.gd_edges.specs.Faults.{Rose}
 use Rattle.group_model.specs.declared.entries.Entry.{Entry}
 use Rattle.script_text.specs.Report.{entry_text, entries_text, end_text}
-use Rattle.console_run.specs.Clauses.{out_text, IsReached, AppendsPart, IsLostOf, IsDueOf, IsUnputOf, IsShortOf}
+use Rattle.console_run.specs.Clauses.{out_text, IsReached, AppendsPart, IsLostOf, IsDueOf, IsUnputOf, IsOutOfMemory}
 
 -- nothing more was put
 Appends-no_more : (u v w : Option (List ℕ)) (text : List ℕ) → Appends u v text → Appends v w [] → Appends u w text
@@ -19,8 +19,8 @@ abbrev pub Ended : ℕ → Option (List ℕ) → Option (List ℕ) → Type 0
 Ended status was now = Appends was now [] ⊎ ((status ≡ 5) × Appends was now (end_text 5 0))
 
 -- no memory for a group
-pub IsShortOf-begin : (depth : ℕ) (left was now : Option (List ℕ)) (faults : ℕ) → Ended 5 was now → IsShortOf depth left left was now faults faults []
-IsShortOf-begin depth left was now faults h = inl (
+pub IsOutOfMemory-begin : (depth : ℕ) (left was now : Option (List ℕ)) (faults : ℕ) → Ended 5 was now → IsOutOfMemory depth left left was now faults faults []
+IsOutOfMemory-begin depth left was now faults h = inl (
   refl,
   record {
     first = [];
@@ -48,8 +48,8 @@ module _ (depth : ℕ) (left rest was middle now : Option (List ℕ)) (old new :
   IsUnputOf-end status line due part = inr (record { status = status; line = line; due = due; known = middle; told = reached_text; part = part })
 
   -- no memory was found, at the latest for the end line
-  pub IsShortOf-end : (status : ℕ) → new ≡ old → Ended status middle now → IsShortOf depth left rest was now old new entries
-  IsShortOf-end status stands ended = inl (
+  pub IsOutOfMemory-end : (status : ℕ) → new ≡ old → Ended status middle now → IsOutOfMemory depth left rest was now old new entries
+  IsOutOfMemory-end status stands ended = inl (
     stands,
     record {
       first = h.first;
@@ -65,8 +65,8 @@ module _ (depth : ℕ) (left rest was middle now : Option (List ℕ)) (old new :
     },
   )
 
-  pub IsShortOf-lost : Rose old new → IsLostOf depth left rest entries → Ended 3 middle now → IsShortOf depth left rest was now old new entries
-  IsShortOf-lost rose lost ended = inr (
+  pub IsOutOfMemory-lost : Rose old new → IsLostOf depth left rest entries → Ended 3 middle now → IsOutOfMemory depth left rest was now old new entries
+  IsOutOfMemory-lost rose lost ended = inr (
     rose,
     lost,
     elim ended [
@@ -76,8 +76,8 @@ module _ (depth : ℕ) (left rest was middle now : Option (List ℕ)) (old new :
   )
 
 -- no memory for the report of the last entry
-pub IsShortOf-untold : (depth : ℕ) (left rest was now : Option (List ℕ)) (old new : ℕ) (entries : List Entry) → new ≡ old → IsReached (λ was now text. Appends was now []) depth left rest was now entries → IsShortOf depth left rest was now old new entries
-IsShortOf-untold depth left rest was now old new entries stands h = inl (
+pub IsOutOfMemory-untold : (depth : ℕ) (left rest was now : Option (List ℕ)) (old new : ℕ) (entries : List Entry) → new ≡ old → IsReached (λ was now text. Appends was now []) depth left rest was now entries → IsOutOfMemory depth left rest was now old new entries
+IsOutOfMemory-untold depth left rest was now old new entries stands h = inl (
   stands,
   record { first = h.first; last = h.last; history = h.history; run = h.run; known = h.known; told = h.told; says = inl h.says },
 )

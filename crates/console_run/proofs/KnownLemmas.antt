@@ -18,6 +18,6 @@ AppendsPart-behind was known now front line others text told parts h = record {
   part = front ++ h.part;
   unsaid = h.unsaid ++ others;
   parts = parts ∙ ap (λ line. front ++ (line ++ others)) h.parts ∙ ap (λ rest. front ++ rest) (append_assoc h.part h.unsaid others) ∙ sym (append_assoc front h.part (h.unsaid ++ others));
-  some = omega (arith, h.some, length-append h.unsaid others);
+  missing = omega (arith, h.missing, length-append h.unsaid others);
   told = Appends-trans was known now front h.part told h.told;
 }

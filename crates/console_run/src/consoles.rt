@@ -4,7 +4,7 @@ ghost use Rattle.std.specs.Io.KnownBytes.{Appends};
 ghost use Rattle.gd_edges.specs.Faults.{Rose};
 ghost use Rattle.script_text.specs.Report.{end_text};
 ghost use Rattle.console_run.specs.Words.{depth_of};
-ghost use Rattle.console_run.specs.Clauses.{TellsScript, IsWholeOf, IsStoppedOf, IsLostOf, IsUnputOf, IsShortOf, AppendsPart, out_text};
+ghost use Rattle.console_run.specs.Clauses.{TellsScript, IsWholeOf, IsStoppedOf, IsLostOf, IsUnputOf, IsOutOfMemory, AppendsPart, out_text};
 
 use crate::puts::put_lines;
 use crate::runs::Run;
@@ -32,9 +32,11 @@ pub struct Finished {
 /// The words are `--new DEPTH` or `--new=DEPTH`, with a depth from 1 to 4. Words of another form touch neither the source nor
 /// a group. The script has lines of at most 200 octets, at most 16,384 of them; the lines before one of another form are run.
 /// A line past a limit ends the run at the first octet past it, and one of another form at its end; the source is asked for
-/// nothing more then. At status 3 the lines that came whole are run. A batch that finds no memory is in the history and in the
-/// report as refused for that, and ends the run. What is written is the report of the history and an end line, or at status 4
-/// and 5 a part of that from its start.
+/// nothing more then. At status 3 the lines that came whole are run. A batch that finds no memory is in the history as refused
+/// for that, and ends the run. What is written is the report of the history and an end line. At status 4 it is a part of that
+/// from its start, with the report of all that was done before the last line that was begun; the end line would be that of the
+/// status that was due. At status 5 the end line is missing where there was no memory for it, or where the report of the last
+/// entry found none.
 pub fn console<S: Source, K: Sink>(
     alloc: Global,
     words: &[String],
@@ -54,13 +56,13 @@ pub fn console<S: Source, K: Sink>(
         (K.written out.old) (K.written out.new) (S.faults script.old) (S.faults script.new) result.history }
     ensures sink { result.status ≡ 4 → Rose (K.faults out.old) (K.faults out.new) }
     ensures sink_stands { (result.status ≡ 4 → ⊥) → K.faults out.new ≡ K.faults out.old }
-    ensures short { result.status ≡ 5 → (depth : ℕ) → depth_of (map string_bytes words.now) ≡ Some depth → IsShortOf depth (S.left script.old) (S.left script.new)
+    ensures memory { result.status ≡ 5 → (depth : ℕ) → depth_of (map string_bytes words.now) ≡ Some depth → IsOutOfMemory depth (S.left script.old) (S.left script.new)
         (K.written out.old) (K.written out.new) (S.faults script.old) (S.faults script.new) result.history }
     ensures complete { IsSome (depth_of (map string_bytes words.now)) → TellsScript (S.left script.old) → (Rose (S.faults script.old) (S.faults script.new) → ⊥) → (Rose (K.faults out.old) (K.faults out.new) → ⊥)
         → (result.status ≡ 0) ⊎ (result.status ≡ 5) }
     ensures other_words { depth_of (map string_bytes words.now) ≡ None → (result.history ≡ []) × (script.new ≡ script.old) × ((result.status ≡ 1) ⊎ (4 ≤ result.status)) }
     ensures other_unput { depth_of (map string_bytes words.now) ≡ None → result.status ≡ 4 → AppendsPart (K.written out.old) (K.written out.new) (end_text 1 0) }
-    ensures other_short { depth_of (map string_bytes words.now) ≡ None → result.status ≡ 5 → Appends (K.written out.old) (K.written out.new) [] }
+    ensures other_memory { depth_of (map string_bytes words.now) ≡ None → result.status ≡ 5 → Appends (K.written out.old) (K.written out.new) [] }
 {
     match read_words(words) {
         Some(depth) => run_script(alloc, depth, script, out),
@@ -85,7 +87,7 @@ fn run_script<S: Source, K: Sink>(alloc: Global, depth: u8, script: &mut S, out:
     ensures sink_stands { (result.status ≡ 4 → ⊥) → K.faults out.new ≡ K.faults out.old }
     ensures unput { result.status ≡ 4 → IsUnputOf depth (S.left script.old) (S.left script.new) (K.written out.old) (K.written out.new)
         (S.faults script.old) (S.faults script.new) result.history }
-    ensures short { result.status ≡ 5 → IsShortOf depth (S.left script.old) (S.left script.new) (K.written out.old) (K.written out.new)
+    ensures memory { result.status ≡ 5 → IsOutOfMemory depth (S.left script.old) (S.left script.new) (K.written out.old) (K.written out.new)
         (S.faults script.old) (S.faults script.new) result.history }
 {
     let mut run = match Run::begin(alloc, depth) {

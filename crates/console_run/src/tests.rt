@@ -1,9 +1,9 @@
 use crate::console;
-use gd_edges::{StdSource, TextSink, TextSource};
-use group_model::List;
+use gd_edges::{StdSink, StdSource, TextSink, TextSource};
+use group_model::{List, NoMemory, Octets};
 use std::alloc::Global;
 use std::io;
-use std::io::Read;
+use std::io::{ErrorKind, Read, Write};
 use std::test::Fail;
 
 const TWO_BATCHES: &str = "join a\njoin b\njoin c\nbatch\nleave b\nbatch\n";
@@ -98,6 +98,7 @@ fn pieces_of_any_size_make_the_same_report(rt: HostRuntime) -> Result<(), Fail> 
     for (script, report, status, left) in table {
         let mut reader = OneByOne {
             rest: script.as_bytes(),
+            calls_left: usize::MAX,
         };
         let mut sink = TextSink::new(alloc, List::new(alloc));
         let mut source = StdSource::new(&mut reader);
@@ -109,14 +110,106 @@ fn pieces_of_any_size_make_the_same_report(rt: HostRuntime) -> Result<(), Fail> 
     Ok(())
 }
 
-/// A reader that gives one octet a call.
+/// How many lines of the report of `TWO_BATCHES` there are when so many of its own lines were run.
+const REPORTED: [usize; 7] = [1, 2, 3, 4, 5, 6, 11];
+
+/// Each call of a source of one octet a call fails in turn; the lines whose line feed came before are run.
+#[test]
+fn a_source_may_fail_at_any_call(rt: HostRuntime) -> Result<(), Fail> {
+    let alloc = rt.alloc();
+    let script = TWO_BATCHES.as_bytes();
+    for call in 1..=script.len() + 2 {
+        let mut reader = OneByOne {
+            rest: script,
+            calls_left: call - 1,
+        };
+        let mut sink = TextSink::new(alloc, List::new(alloc));
+        let mut source = StdSource::new(&mut reader);
+        let finished = console(alloc, &words_of(alloc, "--new 2")?, &mut source, &mut sink);
+        if call == script.len() + 2 {
+            assert_eq!(rt; sink.octets(), TWO_EPOCHS.as_bytes());
+            assert_eq!(rt; finished.status, 0);
+            break;
+        }
+        let run = script[..call - 1]
+            .iter()
+            .filter(|octet| **octet == b'\n')
+            .count();
+        let mut report = first_lines(alloc, TWO_EPOCHS, REPORTED[run.min(6)])?;
+        report.extend(b"end 3\n")?;
+        assert_eq!(rt; sink.octets(), report.as_slice(), "call {call}");
+        assert_eq!(rt; (finished.status, finished.line), (3, 0));
+        assert_eq!(rt; finished.history.len(), run + 1);
+    }
+    Ok(())
+}
+
+/// Each put of a line fails in turn, that of the end line too; the lines before it stand, and the entry of this one is there.
+#[test]
+fn a_sink_of_whole_lines_may_fail_at_any_call(rt: HostRuntime) -> Result<(), Fail> {
+    let alloc = rt.alloc();
+    let entries = [1, 2, 3, 4, 5, 6, 7, 7, 7, 7, 7, 7];
+    for (lines, entries) in entries.into_iter().enumerate() {
+        let mut source = source_of(alloc, TWO_BATCHES.as_bytes(), &[])?;
+        let fails = List::copy_of(alloc, &[lines as u64 + 1])?;
+        let mut sink = TextSink::new(alloc, fails);
+        let finished = console(alloc, &words_of(alloc, "--new 2")?, &mut source, &mut sink);
+        let written = first_lines(alloc, TWO_EPOCHS, lines)?;
+        assert_eq!(rt; sink.octets(), written.as_slice());
+        assert_eq!(rt; (finished.status, finished.line), (4, 0));
+        assert_eq!(rt; finished.history.len(), entries);
+    }
+    Ok(())
+}
+
+/// A sink may take one octet a call, and fail at any of them.
+#[test]
+fn a_sink_of_single_octets_may_fail_at_any_call(rt: HostRuntime) -> Result<(), Fail> {
+    let alloc = rt.alloc();
+    let script = "join a\nbatch\njoin A\n";
+    let report = "new depth 2\na queued\nepoch 1 sequence 0 members 1\nend 2 line 3\n".as_bytes();
+    for most in 0..=report.len() {
+        let mut written = Vec::new(alloc);
+        let mut source = source_of(alloc, script.as_bytes(), &[])?;
+        let mut writer = OctetByOctet {
+            written: &mut written,
+            calls_left: most,
+        };
+        let mut sink = StdSink::new(&mut writer);
+        let finished = console(alloc, &words_of(alloc, "--new 2")?, &mut source, &mut sink);
+        assert_eq!(rt; written.as_slice(), &report[..most]);
+        let ends_with = if most == report.len() { (2, 3) } else { (4, 0) };
+        assert_eq!(rt;
+            (finished.status, finished.line),
+            ends_with,
+            "{most} octets"
+        );
+    }
+    Ok(())
+}
+
+/// So many lines from the start of a text.
+fn first_lines(alloc: Global, text: &str, lines: usize) -> Result<Octets, NoMemory> {
+    let mut first = List::new(alloc);
+    for line in text.split_inclusive('\n').take(lines) {
+        first.extend(line.as_bytes())?;
+    }
+    Ok(first)
+}
+
+/// A reader that gives one octet a call, and fails when no call is left.
 #[derive(Drop)]
 struct OneByOne<'a> {
     rest: &'a [u8],
+    calls_left: usize,
 }
 
 impl Read for OneByOne<'_> {
     fn read(&mut self, buf: &mut [u8]) -> io::Result<usize> {
+        if self.calls_left == 0 {
+            return Err(io::Error::new(ErrorKind::BrokenPipe, "no reader"));
+        }
+        self.calls_left -= 1;
         if buf.is_empty() || self.rest.is_empty() {
             return Ok(0);
         }
@@ -126,25 +219,25 @@ impl Read for OneByOne<'_> {
     }
 }
 
-/// The calls of the source and the sink that fail, and what comes of it.
-#[test]
-fn a_source_or_a_sink_that_fails_ends_the_run(rt: HostRuntime) -> Result<(), Fail> {
-    let alloc = rt.alloc();
-    let none = [].as_slice();
-    let table = [
-        ([1].as_slice(), none, "new depth 2\nend 3\n", 3, 1),
-        (none, [1].as_slice(), "", 4, 1),
-        (none, [3].as_slice(), "new depth 2\na queued\n", 4, 3),
-    ];
-    for (source_fails, sink_fails, report, status, entries) in table {
-        let mut source = source_of(alloc, TWO_BATCHES.as_bytes(), source_fails)?;
-        let mut sink = TextSink::new(alloc, List::copy_of(alloc, sink_fails)?);
-        let finished = console(alloc, &words_of(alloc, "--new 2")?, &mut source, &mut sink);
-        assert_eq!(rt; sink.octets(), report.as_bytes());
-        assert_eq!(rt; (finished.status, finished.line), (status, 0));
-        assert_eq!(rt; finished.history.len(), entries);
+/// A writer that takes one octet a call, and fails when no call is left.
+#[derive(Drop)]
+struct OctetByOctet<'a> {
+    written: &'a mut Vec<u8>,
+    calls_left: usize,
+}
+
+impl Write for OctetByOctet<'_> {
+    fn write(&mut self, buf: &[u8]) -> io::Result<usize> {
+        if self.calls_left == 0 || buf.is_empty() {
+            return Err(io::Error::new(ErrorKind::BrokenPipe, "no writer"));
+        }
+        self.calls_left -= 1;
+        self.written.write(&buf[..1])
     }
-    Ok(())
+
+    fn flush(&mut self) -> io::Result<()> {
+        Ok(())
+    }
 }
 
 /// Lines have at most 200 octets, and there are at most 16,384 of them.
