@@ -68,6 +68,60 @@ fn a_writer_of_std_is_a_sink(rt: HostRuntime) {
     }
 }
 
+/// A call that failed is not made again: the next one goes through.
+#[test]
+fn a_fault_is_answered_and_not_tried_again(rt: HostRuntime) {
+    let mut calls = FailsOnce { failed: false };
+    let mut source = StdSource::new(&mut calls);
+    let mut room = [b'-'; 2];
+    assert_eq!(rt; source.take(&mut room), Err(Failed));
+    assert_eq!(rt; source.take(&mut room), Ok(1));
+    let mut calls = FailsOnce { failed: false };
+    let mut sink = StdSink::new(&mut calls);
+    assert_eq!(rt; sink.put(b"ab"), Err(Failed));
+    assert_eq!(rt; sink.put(b"ab"), Ok(1));
+}
+
+/// A reader and writer whose first call fails; each other one moves an octet.
+#[derive(Drop)]
+struct FailsOnce {
+    failed: bool,
+}
+
+impl FailsOnce {
+    fn call(&mut self) -> io::Result<()> {
+        if self.failed {
+            return Ok(());
+        }
+        self.failed = true;
+        Err(io::Error::new(ErrorKind::BrokenPipe, "the first call"))
+    }
+}
+
+impl Read for FailsOnce {
+    fn read(&mut self, buf: &mut [u8]) -> io::Result<usize> {
+        if buf.is_empty() {
+            return Ok(0);
+        }
+        self.call()?;
+        Ok(1)
+    }
+}
+
+impl Write for FailsOnce {
+    fn write(&mut self, buf: &[u8]) -> io::Result<usize> {
+        if buf.is_empty() {
+            return Ok(0);
+        }
+        self.call()?;
+        Ok(1)
+    }
+
+    fn flush(&mut self) -> io::Result<()> {
+        Ok(())
+    }
+}
+
 /// What goes wrong at a reader or writer.
 #[derive(Clone, Copy, Debug)]
 enum Trouble {

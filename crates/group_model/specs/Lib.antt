@@ -1,3 +1,4 @@
+pub mod Derivations
 pub mod Fresh
 pub mod Groups
 pub mod Histories

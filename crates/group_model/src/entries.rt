@@ -126,3 +126,9 @@ pub struct Standing {
     pub leaf: LkhId,
     pub member: MemberName,
 }
+
+/// Keys in an order in which each follows from what is held and from those before it.
+#[derive(Debug, Drop)]
+pub struct Derivation {
+    pub names: List<KeyName>,
+}

@@ -3,8 +3,8 @@
 #![tactic(auto)]
 
 pub use entries::{
-    Answer, Asked, Entry, GroupSeen, Output, Outside, PushPair, Refusal, SentReply, Standing,
-    SymReply,
+    Answer, Asked, Derivation, Entry, GroupSeen, Output, Outside, PushPair, Refusal, SentReply,
+    Standing, SymReply,
 };
 pub use fits::{count_joiners, count_leavers};
 pub use group_terms::{

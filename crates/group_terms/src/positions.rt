@@ -4,7 +4,7 @@ ghost use Rattle.group_terms.specs.Positions.{IsBelow, is_below};
 use std::marker::Model;
 
 /// A position of the key tree: RFC 6407's LKH ID (section 5.6.3). The root is 1, and 0 is none.
-#[derive(Clone, Copy, Debug, PartialEq, Eq)]
+#[derive(Clone, Copy, Debug, PartialEq, Eq, Hash)]
 pub struct LkhId {
     number: u16,
 }

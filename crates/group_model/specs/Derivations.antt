@@ -1,0 +1,53 @@
+-- Which keys follow from which, by their names alone (Wong, Gouda and Lam: who holds a key learns each that is encrypted under it).
+use Rattle.std.specs.Prelude.{◌≡◌, ◌⊎◌, List, [], ◌∷◌, ◌++◌, map, Contains, if◌then◌else◌}
+use Rattle.std.specs.List.{flat_map, list_any}
+use Rattle.group_terms.specs.Names.{Name, same_name}
+use Rattle.group_terms.specs.declared.keys.KeyName.{KeyName}
+use Rattle.group_terms.specs.declared.keys.KeyName.TheVariants.{Phase}
+use Rattle.group_terms.specs.declared.keys.Wrap.{Wrap}
+use Rattle.group_model.specs.declared.entries.Entry.{Entry}
+use Rattle.group_model.specs.declared.entries.SentReply.{SentReply}
+use Rattle.group_model.specs.declared.entries.Answer.{Answer}
+use Rattle.group_model.specs.declared.entries.Answer.TheVariants.{Batched}
+
+-- a key is at hand behind those that came earlier: it is held, or a pair gives it under one of them
+abbrev pub IsAtHand : List KeyName → List Wrap → List KeyName → KeyName → Type 0
+IsAtHand have pairs earlier name = Contains have name ⊎ ((pair : Wrap) × Contains pairs pair × Contains earlier pair.by × (pair.gives ≡ name))
+
+-- each key is at hand when it comes
+abbrev pub AreAtHand : List KeyName → List Wrap → List KeyName → List KeyName → Type 0
+AreAtHand have pairs earlier [] = Unit {0}
+AreAtHand have pairs earlier (name ∷ names) = IsAtHand have pairs earlier name × AreAtHand have pairs (earlier ++ name ∷ []) names
+
+-- keys in an order in which each follows from what is held and those before it
+abbrev pub IsDerivation : List KeyName → List Wrap → List KeyName → Type 0
+IsDerivation have pairs names = AreAtHand have pairs [] names
+
+-- the goal can be derived: it stands in some derivation
+abbrev pub CanDerive : List KeyName → List Wrap → KeyName → Type 0
+CanDerive have pairs goal = (names : List KeyName) × IsDerivation have pairs names × Contains names goal
+
+-- the replies that an answer sent
+abbrev pub replies_in : Answer → List SentReply
+replies_in (Batched output) = output.replies
+replies_in answer = []
+
+-- the keys of a reply, where it went to one of these members
+abbrev pub names_to : List Name → SentReply → List KeyName
+names_to members reply = if list_any (same_name reply.says.member) members then reply.says.names else []
+
+-- what these members hold: their phase 1 keys, and the keys of each reply that was sent to one of them
+abbrev pub held_names : List Entry → List Name → List KeyName
+held_names entries members = map Phase members ++ flat_map (λ (entry : Entry). flat_map (names_to members) (replies_in entry.answer)) entries
+
+-- what a reply encrypts: each of its keys under the phase 1 key of its member
+abbrev pub reply_pairs : SentReply → List Wrap
+reply_pairs reply = map (λ name. record { by = Phase reply.says.member; gives = name }) reply.says.names
+
+-- all that an answer sent: the wraps of a batch, and then what its replies encrypt
+abbrev pub pairs_in : Answer → List Wrap
+pairs_in (Batched output) = output.wraps ++ flat_map reply_pairs output.replies
+pairs_in answer = []
+
+abbrev pub pairs_sent : List Entry → List Wrap
+pairs_sent entries = flat_map (λ (entry : Entry). pairs_in entry.answer) entries

@@ -1,0 +1,84 @@
+-- Lists that grow by what they did not have.
+use Rattle.std.proofs.Common.{◌≡◌, ℕ, ◌<◌, List, [], ◌∷◌, ◌++◌, Bool, true, length, map, take, get_or, ◌+◌, sym, refl, ap, ◌∙◌, subst, inl, inr, arith}
+use Rattle.std.specs.Prelude.{Contains, Decides}
+use Rattle.std.specs.List.{list_any, flat_map}
+use Rattle.std.proofs.lemmas.Bool.{or_left, or_right, or_cases, false≢true}
+use Rattle.std.proofs.lemmas.List.Elements.{Contains-append_right, Contains-append_cases, Contains-push_cases}
+use Rattle.std.proofs.lemmas.List.{append_assoc, append-nil, take_more, map_more}
+use Rattle.std.proofs.lemmas.List.Concat.{flat_map-append}
+use Rattle.sym_closure.specs.Firsts.{AreFirsts, Gains}
+
+pub AreFirsts-then : {X : Type 0} (seen a b firsts others : List X) → AreFirsts seen a firsts → AreFirsts (seen ++ firsts) b others → AreFirsts seen (a ++ b) (firsts ++ others)
+AreFirsts-then seen [] b firsts others h k =
+    subst (λ front. AreFirsts seen b (front ++ others)) (sym h) (subst (λ all. AreFirsts all b others) (ap (λ front. seen ++ front) h ∙ append-nil seen) k)
+AreFirsts-then seen (item ∷ a) b firsts others h k = elim h [
+  | inl there ↦ inl (there.0, AreFirsts-then seen a b firsts others there.1 k)
+  | inr new ↦ (
+      let rest = new.1 in
+      inr (
+        new.0,
+        (
+          rest.0 ++ others,
+          ap (λ front. front ++ others) rest.1,
+          AreFirsts-then (seen ++ item ∷ []) a b rest.0 others rest.2 (subst (λ all. AreFirsts all b others) (ap (λ front. seen ++ front) rest.1 ∙ sym (append_assoc seen (item ∷ []) rest.0)) k),
+        ),
+      )
+      )
+]
+
+pub Gains-none : {X : Type 0} (items : List X) → Gains items [] items
+Gains-none items = ([], sym (append-nil items), refl)
+
+pub Gains-then : {X : Type 0} (first second third a b : List X) → Gains first a second → Gains second b third → Gains first (a ++ b) third
+Gains-then first second third a b h k = (
+  h.0 ++ k.0,
+  k.1 ∙ ap (λ front. front ++ k.0) h.1 ∙ append_assoc first h.0 k.0,
+  AreFirsts-then first a b h.0 k.0 h.2 (subst (λ all. AreFirsts all b k.0) h.1 k.2),
+)
+
+pub no_item : {X : Type 0} (x : X) → Contains [] x → ⊥
+no_item x h = omega (arith, h.1)
+
+pub Contains-first : {X : Type 0} (x : X) (xs : List X) → Contains (x ∷ xs) x
+Contains-first x xs = (0, omega arith, refl)
+
+-- the only item of a list
+pub only_item : {X : Type 0} (y x : X) → Contains (y ∷ []) x → y ≡ x
+only_item y x h = elim (Contains-push_cases [] y x h) [
+  | inl none ↦ absurd (no_item x none)
+  | inr same ↦ same
+]
+
+-- where items are equal if they are the same, a search for one finds it if it is there
+module _ {X : Type 0} (eq : X → X → Bool) (exact : (a b : X) → Decides (eq a b) (a ≡ b)) (x : X) where
+  found : (xs : List X) → list_any (eq x) xs ≡ true → Contains xs x
+  found [] h = absurd (false≢true h)
+  found (y ∷ ys) h = elim (or_cases (eq x y) (list_any (eq x) ys) h) [
+    | inl here ↦ subst (Contains (y ∷ ys)) (sym ((exact x y).0 here)) (Contains-first y ys)
+    | inr later ↦ Contains-append_right (y ∷ []) ys x (found ys later)
+  ]
+
+  finds : (xs : List X) → Contains xs x → list_any (eq x) xs ≡ true
+  finds [] h = absurd (no_item x h)
+  finds (y ∷ ys) h = elim (Contains-append_cases (y ∷ []) ys x h) [
+    | inl here ↦ or_left (eq x y) (list_any (eq x) ys) ((exact x y).1 (sym (only_item y x here)))
+    | inr later ↦ or_right (eq x y) (list_any (eq x) ys) (finds ys later)
+  ]
+
+  pub any_decides : (xs : List X) → Decides (list_any (eq x) xs) (Contains xs x)
+  any_decides xs = (found xs, finds xs)
+
+-- the items of one more element
+pub Gains-next : {X Y : Type 0} (f : Y → List X) (first second third start : List X) (items : List Y) (place : ℕ) (item : Y) → place < length items → item ≡ get_or items place item → Gains first (start ++ flat_map f (take place items)) second → Gains second (f item) third → Gains first (start ++ flat_map f (take (place + 1) items)) third
+Gains-next f first second third start items place item within is h k =
+    let front : take place items ++ item ∷ [] ≡ take (place + 1) items = ap (λ one. take place items ++ one ∷ []) is ∙ sym (take_more items place item within) in
+    subst (λ all. Gains first all third)
+    (append_assoc start (flat_map f (take place items)) (f item)
+    ∙ ap (λ more. start ++ (flat_map f (take place items) ++ more)) (sym (append-nil (f item)))
+    ∙ ap (λ more. start ++ more) (sym (flat_map-append f (take place items) (item ∷ [])) ∙ ap (flat_map f) front))
+    (Gains-then first second third (start ++ flat_map f (take place items)) (f item) h k)
+
+pub Gains-next_one : {X Y : Type 0} (f : Y → X) (first second third : List X) (items : List Y) (place : ℕ) (item : Y) → place < length items → item ≡ get_or items place item → Gains first (map f (take place items)) second → Gains second (f item ∷ []) third → Gains first (map f (take (place + 1) items)) third
+Gains-next_one f first second third items place item within is h k =
+    subst (λ all. Gains first all third) (ap (λ one. map f (take place items) ++ f one ∷ []) is ∙ sym (map_more f items place item within))
+    (Gains-then first second third (map f (take place items)) (f item ∷ []) h k)

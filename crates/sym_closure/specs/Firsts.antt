@@ -1,0 +1,13 @@
+-- Lists in which nothing stands twice.
+use Rattle.std.specs.Prelude.{◌≡◌, ◌⊎◌, List, [], ◌∷◌, ◌++◌, Contains}
+
+-- the items of a list that are not among those seen, each once, in the order in which they come first
+abbrev pub AreFirsts : {X : Type 0} → List X → List X → List X → Type 0
+AreFirsts seen [] firsts = firsts ≡ []
+AreFirsts {X} seen (item ∷ items) firsts =
+    (Contains seen item × AreFirsts seen items firsts)
+    ⊎ ((Contains seen item → ⊥) × ((others : List X) × (firsts ≡ item ∷ others) × AreFirsts (seen ++ item ∷ []) items others))
+
+-- a list grew by those of the items that it did not have
+abbrev pub Gains : {X : Type 0} → List X → List X → List X → Type 0
+Gains {X} old items new = (firsts : List X) × (new ≡ old ++ firsts) × AreFirsts old items firsts
