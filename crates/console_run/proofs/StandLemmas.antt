@@ -1,12 +1,15 @@
 -- A group that stands has room for what it grants.
-use Rattle.std.proofs.Common.{◌≡◌, ℕ, ◌+◌, ◌-◌, ◌^◌, ◌<◌, ◌≤◌, true, false, List, [], ◌∷◌, Option, length, sym, refl, ap, ◌∙◌, subst, arith}
-use Rattle.std.proofs.lemmas.List.{take_all}
+use Rattle.std.proofs.Common.{◌≡◌, ℕ, ◌+◌, ◌-◌, ◌^◌, ◌<◌, ◌≤◌, true, false, List, [], ◌∷◌, ◌++◌, map, Option, length, sym, refl, ap, ◌∙◌, subst, arith}
+use Rattle.std.proofs.lemmas.List.{take_all, map-append}
+use Rattle.std.proofs.lemmas.List.Elements.{filter_map-append}
 use Rattle.std.proofs.Math.Pow.{pow_mono}
 use Rattle.group_terms.specs.Names.{Name}
 use Rattle.group_terms.specs.declared.changes.Change.{Change}
 use Rattle.group_terms.specs.declared.changes.Change.TheVariants.{Out, In}
-use Rattle.group_model.specs.Places.{Holders, is_member, member_count, leavers, joiners, holders_of, holders_at, Fits}
+use Rattle.group_model.specs.Places.{Holders, is_member, member_count, leavers, joiner, joiners, holders_of, holders_at, Fits}
 use Rattle.group_model.specs.Legal.{is_pending}
+use Rattle.group_model.specs.Replies.{reply_at, replies_to}
+use Rattle.group_model.specs.declared.entries.SentReply.{SentReply}
 use Rattle.group_model.specs.Stayed.{sequence_at}
 use Rattle.group_model.specs.Histories.{Batches}
 use Rattle.group_model.specs.Groups.{no_group, after_answer, group_after}
@@ -59,3 +62,9 @@ Stands-created history queue entries entry depth seen resent deep none idle shal
   few = omega (arith, ap length none);
   low = omega arith;
 }
+
+-- one change more, and its reply
+pub replies_to-more : (depth : ℕ) (batches : List (List Change)) (batch : List Change) (change : Change) → replies_to depth batches (batch ++ change ∷ []) ≡ replies_to depth batches batch ++ replies_to depth batches (change ∷ [])
+replies_to-more depth batches batch change =
+    let reply : Name → SentReply = λ m. record { says = reply_at depth batches (length batches) m; datagram = [] } in
+    ap (map reply) (filter_map-append joiner batch (change ∷ [])) ∙ map-append reply (joiners batch) (joiners (change ∷ []))

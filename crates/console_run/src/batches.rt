@@ -3,10 +3,12 @@ ghost use Rattle.std.specs.Prelude.{◌≡◌, ◌+◌, ◌^◌, ◌<◌, ◌≤
 ghost use Rattle.group_model.specs.Places.{Fits, holders_of};
 ghost use Rattle.group_model.specs.Stayed.{sequence_at};
 ghost use Rattle.group_model.specs.Wraps.{is_nil};
+ghost use Rattle.group_model.specs.Replies.{reply_at, replies_to};
 ghost use Rattle.group_model.specs.Legal.{is_pending, output_of};
 
 use group_model::{
-    Batch, History, List, MemberName, NoMemory, Output, Wrap, a_batch_that_wraps_uses_two_numbers,
+    Batch, Change, History, KeyName, List, MemberName, NoMemory, Output, SentReply, SymReply, Wrap,
+    a_batch_that_wraps_uses_two_numbers,
 };
 use std::alloc::Global;
 
@@ -31,7 +33,7 @@ pub(crate) fn close(
     requires fits { Fits (holders_of history.old.depth history.old.batches) pending.old }
     requires numbered { sequence.old ≡ sequence_at history.old.depth history.old.batches (length history.old.batches) }
     requires low { sequence.old < 2 ^ 31 }
-    ensures output { IfOk result (λ output. output ≡ output_of history.old.depth (history.old.batches ++ pending.old ∷ [])) }
+    ensures output { IfOk result (λ output. output ≡ output_of history.old.depth (history.old.batches ++ pending.old ∷ []) pending.old) }
     ensures depth { history.new.depth ≡ history.old.depth }
     ensures batches { OnOk result (history.new.batches ≡ history.old.batches ++ pending.old ∷ []) }
     ensures pending { OnOk result (pending.new ≡ []) }
@@ -49,15 +51,23 @@ pub(crate) fn close(
             return Err(NoMemory);
         }
     };
-    *sequence = sequence_after(*sequence, &wraps);
+    let number = sequence_after(*sequence, &wraps);
+    let replies = match replies(alloc, history, number, pending.changes()) {
+        Ok(replies) => replies,
+        Err(NoMemory) => {
+            history.undo();
+            return Err(NoMemory);
+        }
+    };
+    *sequence = number;
     *pending = Batch::new();
     Ok(Output {
         epoch,
-        sequence: *sequence,
+        sequence: number,
         members: history.members(epoch),
         wraps,
         pushes: None,
-        replies: List::new(alloc),
+        replies,
     })
 }
 
@@ -72,4 +82,66 @@ fn sequence_after(sequence: u32, wraps: &List<Wrap>) -> u32
     } else {
         sequence + 2
     }
+}
+
+/// The replies to those who come in with the last batch, in their order.
+fn replies(
+    alloc: Global,
+    history: &History,
+    sequence: u32,
+    batch: &[Change],
+) -> Result<List<SentReply>, NoMemory>
+    requires { sequence ≡ sequence_at history.now.depth history.now.batches (length history.now.batches) }
+    ensures { IfOk result (λ replies. replies ≡ replies_to history.now.depth history.now.batches batch.now) }
+{
+    let mut replies = List::new(alloc);
+    for change in batch {
+        push_reply(alloc, history, sequence, change, &mut replies)?;
+    }
+    Ok(replies)
+}
+
+/// Adds the reply to who comes in with a change.
+fn push_reply(
+    alloc: Global,
+    history: &History,
+    sequence: u32,
+    change: &Change,
+    replies: &mut List<SentReply>,
+) -> Result<(), NoMemory>
+    requires { sequence ≡ sequence_at history.now.depth history.now.batches (length history.now.batches) }
+    ensures { OnOk result (replies.new ≡ replies.old ++ replies_to history.now.depth history.now.batches (change.now ∷ [])) }
+{
+    match change {
+        Change::In { member } => {
+            replies.push(reply(alloc, history, sequence, member)?)?;
+            Ok(())
+        }
+        Change::Out { .. } => Ok(()),
+    }
+}
+
+/// The reply to a member of the present epoch, without its datagram.
+fn reply(
+    alloc: Global,
+    history: &History,
+    sequence: u32,
+    member: &MemberName,
+) -> Result<SentReply, NoMemory>
+    requires { sequence ≡ sequence_at history.now.depth history.now.batches (length history.now.batches) }
+    ensures { IfOk result (λ reply. reply ≡ record { says = reply_at history.now.depth history.now.batches (length history.now.batches) member.now; datagram = [] }) }
+{
+    let epoch = history.epoch();
+    let mut names = history.path(alloc, epoch, member)?;
+    names.push(KeyName::Traffic { made: epoch })?;
+    let says = SymReply {
+        member: *member,
+        keyed_epoch: epoch,
+        sequence,
+        names,
+    };
+    Ok(SentReply {
+        says,
+        datagram: List::new(alloc),
+    })
 }

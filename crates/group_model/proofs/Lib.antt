@@ -1,6 +1,7 @@
 pub mod EpochLemmas
 pub mod FitLemmas
 pub mod HolderLemmas
+pub mod PathLemmas
 pub mod PlaceLemmas
 pub mod SequenceLemmas
 pub mod StayedLemmas

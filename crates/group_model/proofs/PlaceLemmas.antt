@@ -15,7 +15,7 @@ use Rattle.group_model.proofs.EpochLemmas.{length-holders_after, FitInTurn-at}
 use Rattle.group_model.proofs.StayedLemmas.{same_name-is, none_of, held_after}
 
 -- the place in the list of a member's leaf
-place_found : (depth : ℕ) (holders : Holders) (m : Name) (leaf : ℕ) → place_in depth holders m ≡ Some leaf → (i : ℕ) × (2 ^ depth + i ≡ leaf) × (is_held_by m (get_or holders i None) ≡ true)
+pub place_found : (depth : ℕ) (holders : Holders) (m : Name) (leaf : ℕ) → place_in depth holders m ≡ Some leaf → (i : ℕ) × (2 ^ depth + i ≡ leaf) × (is_held_by m (get_or holders i None) ≡ true)
 place_found depth holders m leaf h = found (position (is_held_by m) holders) refl h
   where
     found : (at : Option ℕ) → position (is_held_by m) holders ≡ at → option_map (λ i. 2 ^ depth + i) at ≡ Some leaf → (i : ℕ) × (2 ^ depth + i ≡ leaf) × (is_held_by m (get_or holders i None) ≡ true)

@@ -15,6 +15,7 @@ use Rattle.group_model.specs.declared.entries.Refusal.TheVariants.{NotMember, Al
 use Rattle.group_model.specs.Places.{is_member, member_count, holders_of, leavers, joiners}
 use Rattle.group_model.specs.Stayed.{sequence_at}
 use Rattle.group_model.specs.Wraps.{wraps_at}
+use Rattle.group_model.specs.Replies.{replies_to}
 use Rattle.group_model.specs.Groups.{Group, no_group, present_holders, with_batch, after_entry}
 
 -- whether a change of m is pending
@@ -40,14 +41,14 @@ leave_answer group m =
     else Refused NotMember
 
 -- what the last batch of a list puts out
-abbrev pub output_of : ℕ → List (List Change) → Output
-output_of depth batches = record {
+abbrev pub output_of : ℕ → List (List Change) → List Change → Output
+output_of depth batches batch = record {
   epoch = length batches;
   sequence = sequence_at depth batches (length batches);
   members = member_count (holders_of depth batches);
   wraps = wraps_at depth batches (length batches);
   pushes = None;
-  replies = [];
+  replies = replies_to depth batches batch;
 }
 
 -- the one answer that is due
@@ -55,7 +56,7 @@ abbrev pub answer_due : Group → Asked → Answer
 answer_due group (Create depth) = Opened (record { depth = depth; epoch = 0; sequence = 0; members = [] }) None
 answer_due group (Join m) = join_answer group m
 answer_due group (Leave m) = leave_answer group m
-answer_due group Batch = Batched (output_of group.depth (with_batch group).batches)
+answer_due group Batch = Batched (output_of group.depth (with_batch group).batches group.queue)
 
 -- the epoch at which an opening stands
 abbrev pub found_by : Asked → Option ℕ

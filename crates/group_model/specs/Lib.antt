@@ -4,6 +4,7 @@ pub mod Groups
 pub mod Histories
 pub mod Legal
 pub mod Places
+pub mod Replies
 pub mod Rows
 pub mod Stayed
 pub mod Suits

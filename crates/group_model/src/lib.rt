@@ -21,6 +21,7 @@ mod fits;
 mod history;
 mod holders;
 mod laws;
+mod paths;
 #[cfg(test)]
 mod tests;
 mod trees;

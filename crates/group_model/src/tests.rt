@@ -28,6 +28,31 @@ fn histories_are_as_key_servers_show_them(rt: HostRuntime) -> Result<(), Fail> {
     Ok(())
 }
 
+/// The keys of a member at an epoch, from its leaf up.
+#[test]
+fn paths_have_the_keys_of_their_epoch(rt: HostRuntime) -> Result<(), Fail> {
+    let alloc = rt.alloc();
+    let mut history = History::new(alloc, 2);
+    add(&rt, alloc, &mut history, "", "abc")?;
+    add(&rt, alloc, &mut history, "b", "")?;
+    for (epoch, letter, want) in [
+        (0, b'a', ""),
+        (1, b'a', " 4.1 2.1 1.1"),
+        (1, b'b', " 5.1 2.1 1.1"),
+        (2, b'a', " 4.1 2.2 1.2"),
+        (2, b'b', ""),
+        (2, b'c', " 6.1 3.1 1.2"),
+    ] {
+        assert!(rt; epoch <= history.epoch());
+        let mut text = String::new(alloc);
+        for name in history.path(alloc, epoch, &named(letter)?)?.as_slice() {
+            push_key(&mut text, *name)?;
+        }
+        assert_eq!(rt; text.as_str(), want, "{letter} at {epoch}");
+    }
+    Ok(())
+}
+
 /// Adds a batch in which some members go out and others come in; each is called by one letter.
 fn add(
     rt: &impl Abort,
