@@ -1,4 +1,5 @@
 pub mod CompleteLemmas
+pub mod DeriveLemmas
 pub mod EndLemmas
 pub mod FitLemmas
 pub mod KnownLemmas

@@ -12,12 +12,11 @@ use Rattle.std.proofs.lemmas.List.Sums.{fold-append}
 use Rattle.group_model.specs.declared.entries.Entry.{Entry}
 use Rattle.group_model.specs.declared.entries.Asked.{Asked}
 use Rattle.group_model.specs.declared.entries.Asked.TheVariants.{Create}
-use Rattle.group_model.specs.Groups.{Group, no_group, after_entry, group_after}
 use Rattle.group_model.specs.Legal.{AreSteps, IsLegal, is_want, wants_memory}
 use Rattle.script_text.specs.Report.{entry_text, entries_text}
 use Rattle.console_run.specs.Scripts.{are_octets, ends_line, unfinished, lines_of_parts, script_lines, is_line, line_requests, requests_in, IsRunOf, IsTriedOf}
 use Rattle.console_run.specs.Stands.{IsAnswered, Answers}
-use Rattle.console_run.specs.Steps.{Shown, Puts, SaidAt, SourceAt, GivesAt, Cut, cut_more, cut_of, Tells, RunsLine, BreaksOff, IsSoFar, GoesOn, GoesOrHalts, Ends, StopsAt, Halts}
+use Rattle.console_run.specs.Steps.{Shown, Puts, Tries, IsOfReport, SaidAt, SourceAt, GivesAt, Cut, cut_more, cut_of, Tells, RunsLine, BreaksOff, IsSoFar, GoesOn, GoesOrHalts, Ends, StopsAt, Halts}
 use Rattle.console_run.specs.Clauses.{TakesAll, IsOver, IsFaulty, HasTaken, IsWholeOf, IsStoppedOf, IsLostOf, IsUpTo, IsReached}
 use Rattle.console_run.specs.declared.stops.Stop.{Stop}
 use Rattle.console_run.specs.declared.stops.Stop.TheVariants.{Line, Source, Sink, Memory, Untold}
@@ -28,9 +27,9 @@ use Rattle.std.proofs.KnownBytes.{Appends-nil, Consumes-nil}
 use Rattle.console_run.proofs.KnownLemmas.{Puts-none, Puts-then}
 
 -- steps go on from what the earlier ones made
-pub AreSteps-append : (group : Group) (entries more : List Entry) → AreSteps group entries → AreSteps (group_after group entries) more → AreSteps group (entries ++ more)
-AreSteps-append group [] more h k = k
-AreSteps-append group (entry ∷ entries) more h k = (h.0, AreSteps-append (after_entry group entry) entries more h.1 k)
+pub AreSteps-append : (before entries more : List Entry) → AreSteps before entries → AreSteps (before ++ entries) more → AreSteps before (entries ++ more)
+AreSteps-append before [] more h k = subst (λ before. AreSteps before more) (append-nil before) k
+AreSteps-append before (entry ∷ entries) more h k = (h.0, AreSteps-append (before ++ entry ∷ []) entries more h.1 (subst (λ before. AreSteps before more) (sym (append_assoc before (entry ∷ []) entries)) k))
 
 -- one entry answers one request
 pub Tells-one : (old new : List Entry) (was now : Shown) (request : Asked) (entry : Entry) → IsAnswered old new request entry → Puts was now (entry_text entry) → Tells old new was now (request ∷ []) (entry ∷ [])
@@ -45,11 +44,29 @@ Tells-one old new was now request entry h told = record {
 pub Tells-none : (entries : List Entry) (known : Shown) → Tells entries entries known known [] []
 Tells-none entries known = record { grown = sym (append-nil entries); told = Puts-none known; asked = refl; steps = tt; granted = refl }
 
+-- a stop in the report of an entry is at no line and of no source
+gives_at_report : (stop : Stop) (more : List Entry) → IsOfReport stop → GivesAt stop more
+gives_at_report Line more h = absurd h
+gives_at_report Source more h = absurd h
+gives_at_report Sink more h = tt
+gives_at_report Memory more h = absurd h
+gives_at_report Untold more h = tt
+
+-- one entry answered one request, and its report broke off
+pub BreaksOff-one : (stop : Stop) (old new : List Entry) (was now : Shown) (request : Asked) (entry : Entry) → IsAnswered old new request entry → IsOfReport stop → Tries stop was now (entry_text entry) → BreaksOff (request ∷ []) stop old new was now (entry ∷ [])
+BreaksOff-one stop old new was now request entry h cause tries = record {
+  grown = h.appended;
+  asked = inr (ap (λ asked. asked ∷ []) h.asked);
+  steps = (h.step, tt);
+  gives = gives_at_report stop (entry ∷ []) cause;
+  tries = subst (Tries stop was now) (sym (append-nil (entry_text entry))) tries;
+}
+
 -- a legal history goes on
-IsLegal-append : (requests next : List Asked) (entries more : List Entry) → IsLegal requests entries → map (λ (entry : Entry). entry.asked) more ≡ next → AreSteps (group_after no_group entries) more → IsLegal (requests ++ next) (entries ++ more)
+IsLegal-append : (requests next : List Asked) (entries more : List Entry) → IsLegal requests entries → map (λ (entry : Entry). entry.asked) more ≡ next → AreSteps entries more → IsLegal (requests ++ next) (entries ++ more)
 IsLegal-append requests next entries more h asked steps = record {
   asked = map-append (λ (entry : Entry). entry.asked) entries more ∙ ap (λ rs. rs ++ map (λ (entry : Entry). entry.asked) more) h.asked ∙ ap (λ rs. requests ++ rs) asked;
-  steps = AreSteps-append no_group entries more h.steps steps;
+  steps = AreSteps-append [] entries more h.steps steps;
 }
 
 wants-append : (entries more : List Entry) → wants_memory entries ≡ false → wants_memory more ≡ false → wants_memory (entries ++ more) ≡ false
@@ -244,7 +261,7 @@ first_so_far depth entries h = record {
   grammar = refl;
   legal = record {
     asked = ap (map (λ (entry : Entry). entry.asked)) h.1.appended ∙ ap (λ asked. asked ∷ []) h.1.asked;
-    steps = subst (AreSteps no_group) (sym h.1.appended) (h.1.step, tt);
+    steps = subst (AreSteps []) (sym h.1.appended) (h.1.step, tt);
   };
   granted = ap wants_memory h.1.appended ∙ ap (λ want. want || false) h.1.granted;
   start = [];
@@ -367,7 +384,7 @@ module _ (depth : ℕ) (left rest : Option (List ℕ)) (taken : List ℕ) (entri
   }
 
   -- the line behind was over and gave these entries, or it gave none
-  module _ (more : List Entry) (steps : AreSteps (group_after no_group entries) more) where
+  module _ (more : List Entry) (steps : AreSteps entries more) where
     IsTriedOf-next : is_line text ≡ true → counted < 16384 → map (λ (entry : Entry). entry.asked) more ≡ line_requests text → IsTriedOf depth (script_lines so.start ++ text ∷ []) (entries ++ more)
     IsTriedOf-next good low asked =
         let lines = script_lines so.start in
@@ -459,7 +476,7 @@ module _ (depth : ℕ) (left rest : Option (List ℕ)) (taken : List ℕ) (first
         IsStoppedOf-from depth left rest taken second counted source goes.small few taken next [] end_so_far end_parts short (omega arith) within (inr (inr (bad, inr (refl, whole))))
 
     -- and what stands behind the last line end may have had its turn
-    pub IsReached-end : (Says : Option (List ℕ) → Option (List ℕ) → List ℕ → Type 0) (more : List Entry) → new ≡ second ++ more → AreSteps (group_after no_group second) more → (more ≡ []) ⊎ (map (λ (entry : Entry). entry.asked) more ≡ line_requests next) → (more ≡ []) ⊎ (TakesAll left taken × (counted < 16384)) → Says known.written now.written (entries_text more) → IsReached Says depth left rest was.written now.written new
+    pub IsReached-end : (Says : Option (List ℕ) → Option (List ℕ) → List ℕ → Type 0) (more : List Entry) → new ≡ second ++ more → AreSteps second more → (more ≡ []) ⊎ (map (λ (entry : Entry). entry.asked) more ≡ line_requests next) → (more ≡ []) ⊎ (TakesAll left taken × (counted < 16384)) → Says known.written now.written (entries_text more) → IsReached Says depth left rest was.written now.written new
     IsReached-end Says more grown steps asked whole says =
         let over : (more ≡ []) ⊎ (IsOver left taken [] × (counted < 16384)) = elim whole [
           | inl nothing ↦ inl nothing

@@ -27,7 +27,7 @@ pub record HasRoom (holders : Holders) (queue : List Change) (change : Change) :
 pub record IsAdded (old new : List Entry) (request : Asked) (entry : Entry) : Type 0 where
   pub appended : new ≡ old ++ entry ∷ []
   pub asked : entry.asked ≡ request
-  pub step : IsStep (group_after no_group old) entry
+  pub step : IsStep old entry
 
 abbrev pub Adds : List Entry → List Entry → Asked → Type 0
 Adds old new request = (entry : Entry) × IsAdded old new request entry
@@ -36,7 +36,7 @@ Adds old new request = (entry : Entry) × IsAdded old new request entry
 pub record IsAnswered (old new : List Entry) (request : Asked) (entry : Entry) : Type 0 where
   pub appended : new ≡ old ++ entry ∷ []
   pub asked : entry.asked ≡ request
-  pub step : IsStep (group_after no_group old) entry
+  pub step : IsStep old entry
   pub granted : is_want entry.answer ≡ false
 
 abbrev pub Answers : List Entry → List Entry → Asked → Type 0

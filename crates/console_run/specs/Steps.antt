@@ -5,7 +5,6 @@ use Rattle.std.specs.Io.KnownBytes.{Appends}
 use Rattle.group_model.specs.declared.entries.Entry.{Entry}
 use Rattle.group_model.specs.declared.entries.Asked.{Asked}
 use Rattle.group_model.specs.declared.entries.Asked.TheVariants.{Create}
-use Rattle.group_model.specs.Groups.{no_group, group_after}
 use Rattle.group_model.specs.Legal.{AreSteps, IsLegal, wants_memory}
 use Rattle.script_text.specs.Report.{entries_text}
 use Rattle.gd_edges.specs.Faults.{Rose}
@@ -59,7 +58,7 @@ pub record Tells (old new : List Entry) (was now : Shown) (requests : List Asked
   pub grown : new ≡ old ++ more
   pub told : Puts was now (entries_text more)
   pub asked : map (λ (entry : Entry). entry.asked) more ≡ requests
-  pub steps : AreSteps (group_after no_group old) more
+  pub steps : AreSteps old more
   pub granted : wants_memory more ≡ false
 
 -- a line of the grammar was run
@@ -77,7 +76,7 @@ GivesAt stop more = Unit {0}
 pub record BreaksOff (requests : List Asked) (stop : Stop) (old new : List Entry) (was now : Shown) (more : List Entry) : Type 0 where
   pub grown : new ≡ old ++ more
   pub asked : (more ≡ []) ⊎ (map (λ (entry : Entry). entry.asked) more ≡ requests)
-  pub steps : AreSteps (group_after no_group old) more
+  pub steps : AreSteps old more
   pub gives : GivesAt stop more
   pub tries : Tries stop was now (entries_text more)
 
@@ -160,7 +159,7 @@ pub record Ends (old new : List Entry) (line : List ℕ) (count : ℕ) (was now 
   pub told : Puts was now (entries_text more)
   pub run : (depth : ℕ) (before : List ℕ) → IsSoFar depth before old line count → IsRunOf depth (script_lines before) new
   pub asked : (more ≡ []) ⊎ (map (λ (entry : Entry). entry.asked) more ≡ line_requests line)
-  pub steps : AreSteps (group_after no_group old) more
+  pub steps : AreSteps old more
   pub begun : (more ≡ []) ⊎ (count < 16384)
 
 -- what was taken is run up to its end, or to where the run stopped

@@ -1,6 +1,7 @@
 //! Running one line of a script.
 ghost use Rattle.std.specs.Prelude.{◌≡◌, ◌+◌, ◌^◌, ◌<◌, ◌≤◌, List, [], ◌∷◌, ◌++◌, length, false, Err, IfErr, OnOk};
 ghost use Rattle.group_model.specs.declared.entries.Entry.{Entry};
+ghost use Rattle.group_model.specs.declared.entries.Asked.TheVariants.{Derive};
 ghost use Rattle.script_text.specs.Report.{entry_text};
 ghost use Rattle.script_text.specs.Requests.{requests_of};
 ghost use Rattle.console_run.specs.Scripts.{is_line, line_requests};
@@ -10,6 +11,7 @@ use crate::groups::Group;
 use crate::puts::tell;
 use crate::stops::Stop;
 use gd_edges::Sink;
+use group_model::MemberNames;
 use script_text::{Line, read_line};
 use std::alloc::Global;
 
@@ -59,7 +61,26 @@ fn run<K: Sink>(alloc: Global, line: Line, group: &mut Group, out: &mut K) -> Re
             tell_last(alloc, group, out)?;
             if made { Ok(()) } else { Err(Stop::Memory) }
         }
+        Line::Derive { epoch, members } => derive(alloc, epoch, members, group, out),
     }
+}
+
+/// Asks whether members derive the traffic key of an epoch, and reports it.
+fn derive<K: Sink>(
+    alloc: Global,
+    epoch: u32,
+    members: MemberNames,
+    group: &mut Group,
+    out: &mut K,
+) -> Result<(), Stop>
+    ensures ok { OnOk result ((more : List Entry) × Tells group.old group.new (shown K.written K.faults out.old) (shown K.written K.faults out.new) (Derive epoch members ∷ []) more) }
+    ensures one { length group.new ≤ length group.old + 1 }
+    ensures breaks { IfErr result (λ stop. (more : List Entry) × BreaksOff (Derive epoch members ∷ []) stop group.old group.new (shown K.written K.faults out.old) (shown K.written K.faults out.new) more) }
+    ensures cause { result ≡ Err Stop.Line → ⊥ }
+{
+    group.derive(alloc, epoch, members)?;
+    tell_last(alloc, group, out)?;
+    Ok(())
 }
 
 /// Reports the last entry of a group's history.

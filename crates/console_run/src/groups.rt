@@ -1,17 +1,20 @@
 //! A group that is kept as a list of batches, and answers requests.
-ghost use Rattle.std.specs.Prelude.{◌≡◌, ◌+◌, ◌^◌, ◌<◌, ◌≤◌, List, [], ◌∷◌, ◌++◌, length, MatchOption, IfOk, OnOk, OnErr, IsTrue};
+ghost use Rattle.std.specs.Prelude.{◌≡◌, ◌+◌, ◌^◌, ◌<◌, ◌≤◌, List, [], ◌∷◌, ◌++◌, length, Decides, MatchOption, IfOk, OnOk, OnErr, IsTrue};
 ghost use Rattle.group_model.specs.declared.entries.Entry.{Entry};
+ghost use Rattle.group_terms.specs.declared.keys.KeyName.TheVariants.{Traffic};
+ghost use Rattle.group_model.specs.Derivations.{CanDerive, held_names, pairs_sent};
 ghost use Rattle.group_model.specs.Legal.{outside_of};
 ghost use Rattle.console_run.specs.Stands.{Adds, Answers};
 
 use crate::answers::{answer_join, answer_leave};
 use crate::batches::close;
 use group_model::{
-    Answer, Asked, Batch, Change, Entry, GroupSeen, History, List, Log, MemberName, NoMemory,
-    Outside, Refusal,
+    Answer, Asked, Batch, Change, Entry, GroupSeen, History, KeyName, List, Log, MemberName,
+    MemberNames, NoMemory, Outside, Refusal,
 };
 use std::alloc::Global;
 use std::marker::Model;
+use sym_closure::{derive, held, sent_pairs};
 
 /// A group with the history of all that was asked of it. Contracts see the history.
 #[derive(Debug, Drop)]
@@ -124,6 +127,23 @@ impl Group {
         }
     }
 
+    /// Asks whether members derive the traffic key of an epoch from what they hold and what was sent so far.
+    pub(crate) fn derive(
+        &mut self,
+        alloc: Global,
+        epoch: u32,
+        members: MemberNames,
+    ) -> Result<(), NoMemory>
+        ensures ok { OnOk result (Answers self.old self.new (Asked.Derive epoch members)) }
+        ensures err { OnErr result (self.new ≡ self.old) }
+    {
+        self.entries.reserve(1)?;
+        let yes = can_derive(alloc, self.entries.items(), epoch, members.names())?;
+        let asked = Asked::Derive { epoch, members };
+        self.entries.add(entry(asked, Answer::Derived { yes }));
+        Ok(())
+    }
+
     /// The last entry of the history.
     pub(crate) fn last(&self) -> Option<&Entry>
         ensures { MatchOption result (self.now ≡ []) (λ entry. (front : List Entry) × (self.now ≡ front ++ entry.now ∷ [])) }
@@ -145,6 +165,23 @@ impl Group {
     }
 }
 
+fn can_derive(
+    alloc: Global,
+    history: &[Entry],
+    epoch: u32,
+    members: &[MemberName],
+) -> Result<bool, NoMemory>
+    ensures { IfOk result (λ yes. Decides yes (CanDerive (held_names history.now members.now) (pairs_sent history.now) (Traffic epoch))) }
+{
+    let have = held(alloc, history, members)?;
+    let pairs = sent_pairs(alloc, history)?;
+    let goal = KeyName::Traffic { made: epoch };
+    match derive(alloc, have.as_slice(), pairs.as_slice(), &goal)? {
+        Some(_) => Ok(true),
+        None => Ok(false),
+    }
+}
+
 fn entry(asked: Asked, answer: Answer) -> Entry
     ensures asked { result.asked ≡ asked }
     ensures answer { result.answer ≡ answer }
@@ -152,7 +189,7 @@ fn entry(asked: Asked, answer: Answer) -> Entry
 {
     let found = match &asked {
         Asked::Create { .. } => Some(0),
-        Asked::Join { .. } | Asked::Leave { .. } | Asked::Batch => None,
+        Asked::Join { .. } | Asked::Leave { .. } | Asked::Batch | Asked::Derive { .. } => None,
     };
     let outside = Outside {
         disk_failed: false,

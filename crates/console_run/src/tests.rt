@@ -36,6 +36,45 @@ c refused not-member
 end 0
 ";
 
+const DERIVED: &str = "\
+derive 2 b
+derive 2 a
+derive 1 b
+derive 7 a
+derive 0 a
+derive 1 stranger
+derive 2 b b
+derive 2 b c d e f g h i
+";
+
+const TOLD_DERIVED: &str = "\
+derive 2 b none
+derive 2 a yes
+derive 1 b yes
+derive 7 a none
+derive 0 a none
+derive 1 stranger none
+derive 2 b b none
+derive 2 b c d e f g h i yes
+end 0
+";
+
+/// The script of two batches, and then what can be derived.
+#[test]
+fn members_derive_the_keys_of_their_epochs(rt: HostRuntime) -> Result<(), Fail> {
+    let alloc = rt.alloc();
+    let mut script = List::copy_of(alloc, TWO_BATCHES.as_bytes())?;
+    script.extend(DERIVED.as_bytes())?;
+    let mut report = first_lines(alloc, TWO_EPOCHS, 11)?;
+    report.extend(TOLD_DERIVED.as_bytes())?;
+    let mut source = TextSource::new(script, List::new(alloc));
+    let mut sink = TextSink::new(alloc, List::new(alloc));
+    let finished = console(alloc, &words_of(alloc, "--new 2")?, &mut source, &mut sink);
+    assert_eq!(rt; sink.octets(), report.as_slice());
+    assert_eq!(rt; (finished.status, finished.history.len()), (0, 15));
+    Ok(())
+}
+
 /// Words and a script, and the report, status and line that they end with.
 #[test]
 fn scripts_end_as_their_words_and_lines_say(rt: HostRuntime) -> Result<(), Fail> {

@@ -5,7 +5,7 @@ use Rattle.group_terms.specs.declared.changes.Change.{Change}
 use Rattle.group_terms.specs.declared.changes.Change.TheVariants.{Out, In}
 use Rattle.group_model.specs.declared.entries.Entry.{Entry}
 use Rattle.group_model.specs.declared.entries.Asked.{Asked}
-use Rattle.group_model.specs.declared.entries.Asked.TheVariants.{Create, Join, Leave, Batch}
+use Rattle.group_model.specs.declared.entries.Asked.TheVariants.{Create, Join, Leave, Batch, Derive}
 use Rattle.group_model.specs.declared.entries.Answer.{Answer}
 use Rattle.group_model.specs.declared.entries.Answer.TheVariants.{Opened, Queued, Done, Batched}
 use Rattle.group_model.specs.Places.{Holders, holders_of}
@@ -41,6 +41,7 @@ after_answer group (Leave m) Done = with_change group (Out m)
 after_answer group (Leave m) answer = group
 after_answer group Batch (Batched output) = with_batch group
 after_answer group Batch answer = group
+after_answer group (Derive epoch members) answer = group
 
 abbrev pub after_entry : Group → Entry → Group
 after_entry group entry = after_answer group entry.asked entry.answer

@@ -1,5 +1,5 @@
 -- Which answers the group may give: legal histories.
-use Rattle.std.specs.Prelude.{◌≡◌, ℕ, ◌+◌, ◌-◌, ◌^◌, ◌==◌, ◌⊎◌, Bool, true, false, List, [], ◌∷◌, length, map, Option, None, Some, if◌then◌else◌}
+use Rattle.std.specs.Prelude.{◌≡◌, ℕ, ◌+◌, ◌-◌, ◌^◌, ◌==◌, ◌⊎◌, Bool, true, false, List, [], ◌∷◌, ◌++◌, length, map, Decides, Option, None, Some, if◌then◌else◌}
 use Rattle.std.specs.List.{list_any}
 use Rattle.group_terms.specs.Names.{Name, same_name}
 use Rattle.group_terms.specs.Changes.{member_of}
@@ -8,15 +8,17 @@ use Rattle.group_model.specs.declared.entries.Entry.{Entry}
 use Rattle.group_model.specs.declared.entries.Outside.{Outside}
 use Rattle.group_model.specs.declared.entries.Output.{Output}
 use Rattle.group_model.specs.declared.entries.Asked.{Asked}
-use Rattle.group_model.specs.declared.entries.Asked.TheVariants.{Create, Join, Leave, Batch}
+use Rattle.group_model.specs.declared.entries.Asked.TheVariants.{Create, Join, Leave, Batch, Derive}
 use Rattle.group_model.specs.declared.entries.Answer.{Answer}
-use Rattle.group_model.specs.declared.entries.Answer.TheVariants.{Opened, Queued, Done, Nothing, Batched, Refused}
+use Rattle.group_model.specs.declared.entries.Answer.TheVariants.{Opened, Queued, Done, Nothing, Batched, Derived, Refused}
 use Rattle.group_model.specs.declared.entries.Refusal.TheVariants.{NotMember, AlreadyPending, TreeFull, NoMemory}
 use Rattle.group_model.specs.Places.{is_member, member_count, holders_of, leavers, joiners}
 use Rattle.group_model.specs.Stayed.{sequence_at}
 use Rattle.group_model.specs.Wraps.{wraps_at}
 use Rattle.group_model.specs.Replies.{replies_to}
-use Rattle.group_model.specs.Groups.{Group, no_group, present_holders, with_batch, after_entry}
+use Rattle.group_model.specs.Groups.{Group, no_group, group_after, present_holders, with_batch}
+use Rattle.group_model.specs.Derivations.{CanDerive, held_names, pairs_sent}
+use Rattle.group_terms.specs.declared.keys.KeyName.TheVariants.{Traffic}
 
 -- whether a change of m is pending
 abbrev pub is_pending : List Change → Name → Bool
@@ -51,19 +53,22 @@ output_of depth batches batch = record {
   replies = replies_to depth batches batch;
 }
 
--- the one answer that is due
-abbrev pub answer_due : Group → Asked → Answer
-answer_due group (Create depth) = Opened (record { depth = depth; epoch = 0; sequence = 0; members = [] }) None
-answer_due group (Join m) = join_answer group m
-answer_due group (Leave m) = leave_answer group m
-answer_due group Batch = Batched (output_of group.depth (with_batch group).batches group.queue)
+-- the pending changes make the next epoch
+abbrev pub batch_answer : Group → Answer
+batch_answer group = Batched (output_of group.depth (with_batch group).batches group.queue)
+
+-- The answer is the one that is due after these entries. What can be derived follows from what was held and sent before.
+abbrev pub IsDue : List Entry → Asked → Answer → Type 0
+IsDue before (Create depth) answer = answer ≡ Opened (record { depth = depth; epoch = 0; sequence = 0; members = [] }) None
+IsDue before (Join m) answer = answer ≡ join_answer (group_after no_group before) m
+IsDue before (Leave m) answer = answer ≡ leave_answer (group_after no_group before) m
+IsDue before Batch answer = answer ≡ batch_answer (group_after no_group before)
+IsDue before (Derive epoch members) answer = (yes : Bool) × (answer ≡ Derived yes) × Decides yes (CanDerive (held_names before members) (pairs_sent before) (Traffic epoch))
 
 -- the epoch at which an opening stands
 abbrev pub found_by : Asked → Option ℕ
 found_by (Create depth) = Some 0
-found_by (Join m) = None
-found_by (Leave m) = None
-found_by Batch = None
+found_by asked = None
 
 -- no disk is asked, and nothing is drawn
 abbrev pub outside_of : Asked → Outside
@@ -72,24 +77,22 @@ outside_of asked = record { disk_failed = false; found = found_by asked; place =
 -- want of memory may refuse a batch, and nothing else asks for memory
 abbrev pub IsWantOfMemory : Asked → Answer → Type 0
 IsWantOfMemory Batch answer = answer ≡ Refused NoMemory
-IsWantOfMemory (Create depth) answer = ⊥
-IsWantOfMemory (Join m) answer = ⊥
-IsWantOfMemory (Leave m) answer = ⊥
+IsWantOfMemory asked answer = ⊥
 
--- an entry may follow on what the group is
-pub record IsStep (group : Group) (entry : Entry) : Type 0 where
-  pub answered : (entry.answer ≡ answer_due group entry.asked) ⊎ IsWantOfMemory entry.asked entry.answer
+-- an entry may follow on those before it
+pub record IsStep (before : List Entry) (entry : Entry) : Type 0 where
+  pub answered : IsDue before entry.asked entry.answer ⊎ IsWantOfMemory entry.asked entry.answer
   pub beside : entry.outside ≡ outside_of entry.asked
 
--- each entry is a step from what those before it made
-abbrev pub AreSteps : Group → List Entry → Type 0
-AreSteps group [] = Unit {0}
-AreSteps group (entry ∷ entries) = IsStep group entry × AreSteps (after_entry group entry) entries
+-- each entry is a step from those before it
+abbrev pub AreSteps : List Entry → List Entry → Type 0
+AreSteps before [] = Unit {0}
+AreSteps before (entry ∷ entries) = IsStep before entry × AreSteps (before ++ entry ∷ []) entries
 
 -- the history of a group of which this was asked, in this order; the first request is to create it
 pub record IsLegal (requests : List Asked) (entries : List Entry) : Type 0 where
   pub asked : map (λ (entry : Entry). entry.asked) entries ≡ requests
-  pub steps : AreSteps no_group entries
+  pub steps : AreSteps [] entries
 
 -- whether want of memory refused a request
 abbrev pub is_want : Answer → Bool

@@ -1,4 +1,4 @@
-use crate::{KeyName, List, LkhId, MemberName, Octets, Wrap};
+use crate::{KeyName, List, LkhId, MemberName, MemberNames, Octets, Wrap};
 
 /// One event of a history: what was asked of the key server, what the outside did meanwhile, and what was answered.
 #[derive(Debug, Drop)]
@@ -19,6 +19,8 @@ pub enum Asked {
     Leave { member: MemberName },
     /// To close the batch: the pending changes make the next epoch.
     Batch,
+    /// Whether these members derive the traffic key of an epoch from what they hold and what was sent.
+    Derive { epoch: u32, members: MemberNames },
 }
 
 /// What the outside did during a request.
@@ -48,6 +50,10 @@ pub enum Answer {
     },
     /// The request changes nothing.
     Nothing,
+    /// Whether the key can be derived.
+    Derived {
+        yes: bool,
+    },
     Refused {
         why: Refusal,
     },

@@ -8,7 +8,8 @@ pub use entries::{
 };
 pub use fits::{count_joiners, count_leavers};
 pub use group_terms::{
-    Batch, Change, KeyName, List, LkhId, Log, MOST_CHANGES, MemberName, NoMemory, Octets, Wrap,
+    Batch, Change, KeyName, List, LkhId, Log, MOST_CHANGES, MOST_MEMBERS, MemberName, MemberNames,
+    NoMemory, Octets, Wrap,
 };
 pub use history::History;
 pub use laws::{

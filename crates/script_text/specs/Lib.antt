@@ -1,4 +1,5 @@
 pub mod Lines
+pub mod Numbers
 pub mod Report
 pub mod Requests
 pub mod Words

@@ -1,12 +1,18 @@
 -- What a line of a script says.
-use Rattle.std.specs.Prelude.{ℕ, nat_lt, nat_eq, List, [], ◌∷◌, length, Option, None, Some, if◌then◌else◌, codes}
-use Rattle.std.specs.List.{starts_with}
-use Rattle.std.specs.Option.{option_map}
+use Rattle.std.specs.Prelude.{ℕ, ◌^◌, ◌&&◌, nat_lt, nat_le, nat_eq, Bool, true, false, List, [], ◌∷◌, length, Option, None, Some, if◌then◌else◌, codes}
+use Rattle.std.specs.List.{starts_with, list_all}
+use Rattle.std.specs.Option.{option_map, option_and_then}
 use Rattle.std.specs.Str.{bytes_eq}
-use Rattle.group_terms.specs.Names.{name_of}
+use Rattle.group_terms.specs.Names.{Name, name_of}
 use Rattle.script_text.specs.Words.{words_of}
+use Rattle.script_text.specs.Numbers.{is_digit, number_of}
 use Rattle.script_text.specs.declared.lines.Line.{Line}
-use Rattle.script_text.specs.declared.lines.Line.TheVariants.{Nothing, Join, Leave, Batch}
+use Rattle.script_text.specs.declared.lines.Line.TheVariants.{Nothing, Join, Leave, Batch, Derive}
+
+-- whether there is no word
+abbrev pub is_nil : List (List ℕ) → Bool
+is_nil [] = true
+is_nil (word ∷ words) = false
 
 -- a command of one word
 abbrev pub lone_command : List ℕ → Option Line
@@ -19,11 +25,31 @@ command_with command name =
     else (if bytes_eq command (codes "leave") then option_map Leave (name_of name)
     else None)
 
+-- a number of 1 to 10 decimal digits, below 2^32
+abbrev pub number_in : List ℕ → Option ℕ
+number_in text =
+    if nat_le 1 (length text) && (nat_le (length text) 10 && (list_all is_digit text && nat_lt (number_of text) (2 ^ 32)))
+    then Some (number_of text) else None
+
+-- the names that words are, where each is one
+abbrev pub names_of : List (List ℕ) → Option (List Name)
+names_of [] = Some []
+names_of (word ∷ words) = option_and_then (λ name. option_map (λ names. name ∷ names) (names_of words)) (name_of word)
+
+-- 1 to 8 names
+abbrev pub members_of : List (List ℕ) → Option (List Name)
+members_of words = if nat_le 1 (length words) && nat_le (length words) 8 then names_of words else None
+
+-- the key of which epoch, and whether these members derive it
+abbrev pub derive_of : List ℕ → List (List ℕ) → Option Line
+derive_of number names = option_and_then (λ epoch. option_map (λ members. Derive epoch members) (members_of names)) (number_in number)
+
 -- a command, by the words behind it
 abbrev pub command_of : List ℕ → List (List ℕ) → Option Line
 command_of command [] = lone_command command
-command_of command (first ∷ []) = command_with command first
-command_of command (first ∷ second ∷ others) = None
+command_of command (first ∷ others) =
+    if bytes_eq command (codes "derive") then derive_of first others
+    else (if is_nil others then command_with command first else None)
 
 -- empty lines and comments: no word, or a number sign at the first word
 abbrev pub line_of_words : List (List ℕ) → Option Line

@@ -1,5 +1,5 @@
 -- The lines that report what the key server answered, and the line that ends a run.
-use Rattle.std.specs.Prelude.{ℕ, ◌==◌, List, [], ◌∷◌, ◌++◌, if◌then◌else◌, codes}
+use Rattle.std.specs.Prelude.{ℕ, ◌==◌, Bool, List, [], ◌∷◌, ◌++◌, if◌then◌else◌, codes}
 use Rattle.std.specs.List.{flat_map, join_with_byte}
 use Rattle.std.specs.Fmt.{decimal}
 use Rattle.group_terms.specs.Names.{Name}
@@ -9,9 +9,9 @@ use Rattle.group_terms.specs.declared.keys.Wrap.{Wrap}
 use Rattle.group_model.specs.declared.entries.Entry.{Entry}
 use Rattle.group_model.specs.declared.entries.Output.{Output}
 use Rattle.group_model.specs.declared.entries.Asked.{Asked}
-use Rattle.group_model.specs.declared.entries.Asked.TheVariants.{Create, Join, Leave, Batch}
+use Rattle.group_model.specs.declared.entries.Asked.TheVariants.{Create, Join, Leave, Batch, Derive}
 use Rattle.group_model.specs.declared.entries.Answer.{Answer}
-use Rattle.group_model.specs.declared.entries.Answer.TheVariants.{Opened, Queued, Done, Nothing, Batched, Refused}
+use Rattle.group_model.specs.declared.entries.Answer.TheVariants.{Opened, Queued, Done, Nothing, Batched, Derived, Refused}
 use Rattle.group_model.specs.declared.entries.Refusal.{Refusal}
 use Rattle.group_model.specs.declared.entries.Refusal.TheVariants.{NotMember, AlreadyPending, TreeFull, NoMemory}
 
@@ -72,12 +72,21 @@ batch_text (Batched output) = epoch_line output ++ flat_map wrap_line output.wra
 batch_text (Refused why) = refusal_line (codes "batch") why
 batch_text answer = []
 
+abbrev pub derived_word : Bool → List ℕ
+derived_word derived = if derived then codes "yes" else codes "none"
+
+-- of which epoch, who, and whether they derive its traffic key
+abbrev pub derive_text : ℕ → List Name → Answer → List ℕ
+derive_text epoch members (Derived derived) = line_with (codes "derive" ∷ decimal epoch ∷ (members ++ derived_word derived ∷ []))
+derive_text epoch members answer = []
+
 -- what is reported of an answer, by what was asked
 abbrev pub answer_text : Asked → Answer → List ℕ
 answer_text (Create depth) answer = create_text depth answer
 answer_text (Join m) answer = join_text m answer
 answer_text (Leave m) answer = leave_text m answer
 answer_text Batch answer = batch_text answer
+answer_text (Derive epoch members) answer = derive_text epoch members answer
 
 -- what is reported of an entry; where its answer is none that the request can have, no line
 unfoldable pub entry_text : Entry → List ℕ

@@ -8,6 +8,7 @@ pub use requests::request_of;
 
 mod ends;
 mod lines;
+mod members;
 mod numbers;
 mod refusals;
 mod reports;

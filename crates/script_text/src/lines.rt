@@ -1,15 +1,17 @@
 ghost use Rattle.std.specs.Prelude.{◌≡◌};
 ghost use Rattle.script_text.specs.Words.{words_of};
-ghost use Rattle.script_text.specs.Lines.{line_of, command_of, command_with, lone_command};
+ghost use Rattle.script_text.specs.Lines.{line_of, command_of, command_with, derive_of, lone_command};
 
+use crate::members::read_members;
+use crate::numbers::read_number;
 use crate::words::next_word;
-use group_model::MemberName;
+use group_model::{MemberName, MemberNames};
 
 /// How many octets a line has at the most.
 pub const MOST_LINE_OCTETS: usize = 200;
 
 /// What a line of a script says.
-#[derive(Clone, Copy, Debug, PartialEq, Eq)]
+#[derive(Debug, PartialEq, Drop)]
 pub enum Line {
     /// A comment, or a line without words.
     Nothing,
@@ -19,12 +21,14 @@ pub enum Line {
     Leave { member: MemberName },
     /// The pending changes are to make the next epoch.
     Batch,
+    /// Whether these members derive the traffic key of an epoch.
+    Derive { epoch: u32, members: MemberNames },
 }
 
 /// What a line says, without its end of line; `None` where it is none of the grammar.
 ///
-/// Spaces alone part words, so that a tab or a carriage return is an octet of one. A line is `join NAME`, `leave NAME` or
-/// `batch`; or it has no word, or one that begins with `#` first, and says nothing.
+/// Spaces alone part words, so that a tab or a carriage return is an octet of one. A line is `join NAME`, `leave NAME`, `batch`
+/// or `derive NUMBER NAME..` with 1 to 8 names; or it has no word, or one that begins with `#` first, and says nothing.
 #[tactic(auto, unfolding(crate::specs::Lines::line_of))]
 pub fn read_line(text: &[u8]) -> Option<Line>
     ensures { result ≡ line_of text.now }
@@ -47,6 +51,9 @@ fn read_command(command: &[u8], behind: &[u8]) -> Option<Line>
     let Some((first, behind)) = next_word(behind) else {
         return read_lone_command(command);
     };
+    if command == b"derive".as_slice() {
+        return read_derive(first, behind);
+    }
     match next_word(behind) {
         None => read_command_with(command, first),
         Some(_) => None,
@@ -75,4 +82,12 @@ fn read_command_with(command: &[u8], name: &[u8]) -> Option<Line>
     } else {
         None
     }
+}
+
+fn read_derive(number: &[u8], names: &[u8]) -> Option<Line>
+    ensures { result ≡ derive_of number.now (words_of names.now) }
+{
+    let epoch = read_number(number)?;
+    let members = read_members(names)?;
+    Some(Line::Derive { epoch, members })
 }

@@ -1,10 +1,11 @@
-ghost use Rattle.std.specs.Prelude.{◌≡◌, ◌++◌, OnOk, OnErr};
-ghost use Rattle.script_text.specs.Report.{entry_text, answer_text, create_text, join_text, leave_text, batch_text, epoch_line};
+ghost use Rattle.std.specs.Prelude.{◌≡◌, [], ◌∷◌, ◌++◌, OnOk, OnErr};
+ghost use Rattle.std.specs.List.{flat_map};
+ghost use Rattle.script_text.specs.Report.{entry_text, answer_text, create_text, join_text, leave_text, batch_text, derive_text, derived_word, epoch_line};
 
 use crate::numbers::append_number;
 use crate::refusals::append_refusal;
 use crate::wraps::append_wraps;
-use group_model::{Answer, Asked, Entry, List, MemberName, NoMemory, Octets, Output};
+use group_model::{Answer, Asked, Entry, List, MemberName, MemberNames, NoMemory, Octets, Output};
 use std::alloc::Global;
 
 /// Puts the lines that report an entry at the end of a text. Where there is no memory for that, the text stays as it was.
@@ -32,6 +33,7 @@ fn append_answer(
         Asked::Join { member } => append_join(alloc, member, answer, out),
         Asked::Leave { member } => append_leave(alloc, member, answer, out),
         Asked::Batch => append_batch(alloc, answer, out),
+        Asked::Derive { epoch, members } => append_derive(alloc, *epoch, members, answer, out),
     }
 }
 
@@ -51,7 +53,11 @@ fn append_create(
             Ok(())
         }
         Answer::Refused { why } => append_refusal(alloc, b"new", why, out),
-        Answer::Done | Answer::Queued | Answer::Batched { .. } | Answer::Nothing => Ok(()),
+        Answer::Done
+        | Answer::Queued
+        | Answer::Batched { .. }
+        | Answer::Nothing
+        | Answer::Derived { .. } => Ok(()),
     }
 }
 
@@ -75,7 +81,8 @@ fn append_join(
             Ok(())
         }
         Answer::Refused { why } => append_refusal(alloc, member.text(), why, out),
-        Answer::Done | Answer::Batched { .. } | Answer::Opened { .. } => Ok(()),
+        Answer::Done | Answer::Batched { .. } | Answer::Opened { .. } | Answer::Derived { .. } =>
+            Ok(()),
     }
 }
 
@@ -94,7 +101,11 @@ fn append_leave(
             Ok(())
         }
         Answer::Refused { why } => append_refusal(alloc, member.text(), why, out),
-        Answer::Queued | Answer::Batched { .. } | Answer::Opened { .. } | Answer::Nothing => Ok(()),
+        Answer::Queued
+        | Answer::Batched { .. }
+        | Answer::Opened { .. }
+        | Answer::Nothing
+        | Answer::Derived { .. } => Ok(()),
     }
 }
 
@@ -108,7 +119,11 @@ fn append_batch(alloc: Global, answer: &Answer, out: &mut Octets) -> Result<(), 
             Ok(())
         }
         Answer::Refused { why } => append_refusal(alloc, b"batch", why, out),
-        Answer::Done | Answer::Queued | Answer::Opened { .. } | Answer::Nothing => Ok(()),
+        Answer::Done
+        | Answer::Queued
+        | Answer::Opened { .. }
+        | Answer::Nothing
+        | Answer::Derived { .. } => Ok(()),
     }
 }
 
@@ -122,5 +137,55 @@ fn append_epoch(alloc: Global, output: &Output, out: &mut Octets) -> Result<(), 
     out.extend(b" members ")?;
     append_number(alloc, output.members, out)?;
     out.extend(b"\n")?;
+    Ok(())
+}
+
+fn append_derive(
+    alloc: Global,
+    epoch: u32,
+    members: &MemberNames,
+    answer: &Answer,
+    out: &mut Octets,
+) -> Result<(), NoMemory>
+    ensures { OnOk result (out.new ≡ out.old ++ derive_text epoch members.now answer.now) }
+{
+    match answer {
+        Answer::Derived { yes } => {
+            out.extend(b"derive ")?;
+            append_number(alloc, epoch, out)?;
+            append_names(members.names(), out)?;
+            append_derived(*yes, out)?;
+            Ok(())
+        }
+        Answer::Done
+        | Answer::Queued
+        | Answer::Batched { .. }
+        | Answer::Opened { .. }
+        | Answer::Nothing
+        | Answer::Refused { .. } => Ok(()),
+    }
+}
+
+/// Puts the end of the line at the end of a text.
+fn append_derived(yes: bool, out: &mut Octets) -> Result<(), NoMemory>
+    ensures { OnOk result (out.new ≡ out.old ++ 32 ∷ (derived_word yes ++ 10 ∷ [])) }
+{
+    if yes {
+        out.extend(b" yes\n")?;
+        Ok(())
+    } else {
+        out.extend(b" none\n")?;
+        Ok(())
+    }
+}
+
+/// Puts names at the end of a text, each behind a space.
+fn append_names(names: &[MemberName], out: &mut Octets) -> Result<(), NoMemory>
+    ensures { OnOk result (out.new ≡ out.old ++ flat_map (λ name. 32 ∷ name) names.now) }
+{
+    for name in names {
+        out.extend(b" ")?;
+        out.extend(name.text())?;
+    }
     Ok(())
 }

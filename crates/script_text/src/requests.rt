@@ -14,5 +14,6 @@ pub fn request_of(line: Line) -> Option<Asked>
         Line::Join { member } => Some(Asked::Join { member }),
         Line::Leave { member } => Some(Asked::Leave { member }),
         Line::Batch => Some(Asked::Batch),
+        Line::Derive { epoch, members } => Some(Asked::Derive { epoch, members }),
     }
 }

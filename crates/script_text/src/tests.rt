@@ -1,7 +1,7 @@
 use crate::{Line, end_line, read_line, report_entry, request_of};
 use group_model::{
-    Answer, Asked, Entry, GroupSeen, KeyName, List, LkhId, MemberName, Output, Outside, Refusal,
-    Wrap,
+    Answer, Asked, Entry, GroupSeen, KeyName, List, LkhId, MOST_MEMBERS, MemberName, MemberNames,
+    Output, Outside, Refusal, Wrap,
 };
 use std::alloc::Global;
 use std::test::Fail;
@@ -40,6 +40,37 @@ fn lines_are_read_by_the_grammar(rt: HostRuntime) -> Result<(), Fail> {
     for (text, says) in table {
         assert_eq!(rt; read_line(text), says, "{text:?}");
     }
+    for (text, epoch, names) in [
+        ("derive 2 b", 2, 1),
+        ("derive 0 a a", 0, 2),
+        ("  derive  0000000007  a  b ", 7, 2),
+        ("derive 4294967295 a b c d e f g h", 4_294_967_295, 8),
+    ] {
+        match read_line(text.as_bytes()) {
+            Some(
+                Line::Derive {
+                    epoch: read,
+                    members,
+                },
+            ) => {
+                assert_eq!(rt; (read, members.names().len()), (epoch, names), "{text}");
+            }
+            other => assert!(rt; false, "{other:?}"),
+        }
+    }
+    for text in [
+        "derive",
+        "derive 1",
+        "derive a",
+        "derive 1 A",
+        "derive +1 a",
+        "derive 4294967296 a",
+        "derive 00000000001 a",
+        "derive 1 a b c d e f g h i",
+        "derive 1 a #",
+    ] {
+        assert_eq!(rt; read_line(text.as_bytes()), None, "{text}");
+    }
     let spaces = vec![in rt.alloc(); b' '; 201]?;
     assert_eq!(rt; read_line(&spaces[..200]), Some(Line::Nothing));
     assert_eq!(rt; read_line(&spaces[..201]), None);
@@ -56,6 +87,17 @@ fn entry_of(asked: Asked, answer: Answer) -> Entry {
         },
         answer,
     }
+}
+
+/// Whether these members derive the traffic key of an epoch; of at most 8.
+fn asked_of(epoch: u32, names: &[MemberName]) -> Asked {
+    let mut members = MemberNames::new();
+    for name in names {
+        if members.names().len() < MOST_MEMBERS {
+            members.push(*name);
+        }
+    }
+    Asked::Derive { epoch, members }
 }
 
 fn refused(asked: Asked, why: Refusal) -> Entry {
@@ -115,6 +157,11 @@ fn entries_are_reported_in_lines(rt: HostRuntime) -> Result<(), Fail> {
         refused(Asked::Leave { member }, Refusal::NotMember),
         entry_of(Asked::Batch, batched(alloc)?),
         refused(Asked::Batch, Refusal::NoMemory),
+        entry_of(
+            asked_of(7, &[member, member]),
+            Answer::Derived { yes: true },
+        ),
+        entry_of(asked_of(0, &[member]), Answer::Derived { yes: false }),
     ];
     let mut out = List::new(alloc);
     for entry in &entries {
@@ -125,7 +172,7 @@ fn entries_are_reported_in_lines(rt: HostRuntime) -> Result<(), Fail> {
     let lines =
         b"new depth 2\nnew refused no-memory\nb_1 queued\nb_1 nothing\nb_1 refused tree-full 4\nb_1 leaving\n\
         b_1 refused already-pending\nb_1 refused not-member\nepoch 2 sequence 10 members 3\nwrap 4.1 2.2\nwrap 2.2 1.2\n\
-        wrap 1.2 traffic.2\nbatch refused no-memory\nend 0\nend 2 line 7\n";
+        wrap 1.2 traffic.2\nbatch refused no-memory\nderive 7 b_1 b_1 yes\nderive 0 b_1 none\nend 0\nend 2 line 7\n";
     assert_eq!(rt; out.as_slice(), lines.as_slice());
     Ok(())
 }

@@ -3,10 +3,10 @@ use Rattle.std.proofs.Common.{◌≡◌, ℕ, ◌<◌, List, [], ◌∷◌, ◌+
 use Rattle.std.specs.Prelude.{Contains, Decides}
 use Rattle.std.specs.List.{list_any, flat_map}
 use Rattle.std.proofs.lemmas.Bool.{or_left, or_right, or_cases, false≢true}
-use Rattle.std.proofs.lemmas.List.Elements.{Contains-append_right, Contains-append_cases, Contains-push_cases}
+use Rattle.std.proofs.lemmas.List.Elements.{Contains-append_left, Contains-append_right, Contains-append_cases, Contains-push, Contains-push_cases}
 use Rattle.std.proofs.lemmas.List.{append_assoc, append-nil, take_more, map_more}
 use Rattle.std.proofs.lemmas.List.Concat.{flat_map-append}
-use Rattle.sym_closure.specs.Firsts.{AreFirsts, Gains}
+use Rattle.sym_closure.specs.Firsts.{AreFirsts, Gains, HasSame}
 
 pub AreFirsts-then : {X : Type 0} (seen a b firsts others : List X) → AreFirsts seen a firsts → AreFirsts (seen ++ firsts) b others → AreFirsts seen (a ++ b) (firsts ++ others)
 AreFirsts-then seen [] b firsts others h k =
@@ -82,3 +82,40 @@ pub Gains-next_one : {X Y : Type 0} (f : Y → X) (first second third : List X) 
 Gains-next_one f first second third items place item within is h k =
     subst (λ all. Gains first all third) (ap (λ one. map f (take place items) ++ f one ∷ []) is ∙ sym (map_more f items place item within))
     (Gains-then first second third (map f (take place items)) (f item ∷ []) h k)
+
+-- the first items are the same items
+firsts_in : {X : Type 0} (seen items firsts : List X) → AreFirsts seen items firsts → (item : X) → Contains items item → Contains (seen ++ firsts) item
+firsts_in seen [] firsts h item c = absurd (no_item item c)
+firsts_in seen (first ∷ items) firsts h item c = elim h [
+  | inl there ↦ elim (Contains-append_cases (first ∷ []) items item c) [
+    | inl here ↦ subst (Contains (seen ++ firsts)) (only_item first item here) (Contains-append_left seen firsts first there.0)
+    | inr later ↦ firsts_in seen items firsts there.1 item later
+  ]
+  | inr new ↦ (
+      let rest = new.1 in
+      let whole : (seen ++ first ∷ []) ++ rest.0 ≡ seen ++ firsts = append_assoc seen (first ∷ []) rest.0 ∙ ap (λ front. seen ++ front) (sym rest.1) in
+      subst (λ all. Contains all item) whole (elim (Contains-append_cases (first ∷ []) items item c) [
+        | inl here ↦ subst (Contains ((seen ++ first ∷ []) ++ rest.0)) (only_item first item here) (Contains-append_left (seen ++ first ∷ []) rest.0 first (Contains-push seen first))
+        | inr later ↦ firsts_in (seen ++ first ∷ []) items rest.0 rest.2 item later
+      ])
+      )
+]
+
+firsts_of : {X : Type 0} (seen items firsts : List X) → AreFirsts seen items firsts → (item : X) → Contains firsts item → Contains items item
+firsts_of seen [] firsts h item c = absurd (no_item item (subst (λ all. Contains all item) h c))
+firsts_of seen (first ∷ items) firsts h item c = elim h [
+  | inl there ↦ Contains-append_right (first ∷ []) items item (firsts_of seen items firsts there.1 item c)
+  | inr new ↦ (
+      let rest = new.1 in
+      elim (Contains-append_cases (first ∷ []) rest.0 item (subst (λ all. Contains all item) rest.1 c)) [
+        | inl here ↦ Contains-append_left (first ∷ []) items item here
+        | inr later ↦ Contains-append_right (first ∷ []) items item (firsts_of (seen ++ first ∷ []) items rest.0 rest.2 item later)
+      ]
+      )
+]
+
+pub HasSame-firsts : {X : Type 0} (items firsts : List X) → AreFirsts [] items firsts → HasSame items firsts
+HasSame-firsts items firsts h = (firsts_in [] items firsts h, firsts_of [] items firsts h)
+
+pub HasSame-gained : {X : Type 0} (items firsts : List X) → Gains [] items firsts → HasSame items firsts
+HasSame-gained items firsts h = subst (HasSame items) (sym h.1) (HasSame-firsts items h.0 h.2)

@@ -11,3 +11,7 @@ AreFirsts {X} seen (item ∷ items) firsts =
 -- a list grew by those of the items that it did not have
 abbrev pub Gains : {X : Type 0} → List X → List X → List X → Type 0
 Gains {X} old items new = (firsts : List X) × (new ≡ old ++ firsts) × AreFirsts old items firsts
+
+-- two lists have the same items
+abbrev pub HasSame : {X : Type 0} → List X → List X → Type 0
+HasSame {X} items others = ((item : X) → Contains items item → Contains others item) × ((item : X) → Contains others item → Contains items item)

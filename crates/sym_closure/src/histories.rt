@@ -4,7 +4,7 @@ ghost use Rattle.std.specs.List.{list_any, flat_map};
 ghost use Rattle.group_terms.specs.Names.{same_name};
 ghost use Rattle.group_terms.specs.declared.keys.KeyName.TheVariants.{Phase};
 ghost use Rattle.group_model.specs.Derivations.{names_to, held_names, replies_in, reply_pairs, pairs_in, pairs_sent};
-ghost use Rattle.sym_closure.specs.Firsts.{AreFirsts, Gains};
+ghost use Rattle.sym_closure.specs.Firsts.{AreFirsts, Gains, HasSame};
 
 use crate::once::Once;
 use group_model::{Answer, Entry, KeyName, List, MemberName, NoMemory, SentReply, Wrap};
@@ -17,7 +17,8 @@ pub fn held(
     history: &[Entry],
     members: &[MemberName],
 ) -> Result<List<KeyName>, NoMemory>
-    ensures { IfOk result (λ names. AreFirsts [] (held_names history.now members.now) names) }
+    ensures names { IfOk result (λ names. AreFirsts [] (held_names history.now members.now) names) }
+    ensures same { IfOk result (λ names. HasSame (held_names history.now members.now) names) }
 {
     let mut names = Once::new(alloc);
     for member in members {
@@ -32,7 +33,8 @@ pub fn held(
 /// The pairs that a history sent, each once, in the order in which they were sent first: those of the pushes (RFC 6407 section 4)
 /// and, for each reply (section 3), its keys under the phase 1 key of its member.
 pub fn sent_pairs(alloc: Global, history: &[Entry]) -> Result<List<Wrap>, NoMemory>
-    ensures { IfOk result (λ pairs. AreFirsts [] (pairs_sent history.now) pairs) }
+    ensures pairs { IfOk result (λ pairs. AreFirsts [] (pairs_sent history.now) pairs) }
+    ensures same { IfOk result (λ pairs. HasSame (pairs_sent history.now) pairs) }
 {
     let mut pairs = Once::new(alloc);
     for entry in history {
@@ -51,6 +53,7 @@ fn replies_of(answer: &Answer) -> &[SentReply]
         | Answer::Queued
         | Answer::Opened { .. }
         | Answer::Nothing
+        | Answer::Derived { .. }
         | Answer::Refused { .. } => &[],
     }
 }
@@ -97,6 +100,7 @@ fn add_pairs(pairs: &mut Once<Wrap>, answer: &Answer) -> Result<(), NoMemory>
         | Answer::Queued
         | Answer::Opened { .. }
         | Answer::Nothing
+        | Answer::Derived { .. }
         | Answer::Refused { .. } => Ok(()),
     }
 }
