@@ -1,4 +1,4 @@
-use crate::console;
+use crate::{Finished, console};
 use gd_edges::{StdSink, StdSource, TextSink, TextSource};
 use group_model::{List, NoMemory, Octets};
 use std::alloc::Global;
@@ -63,15 +63,11 @@ end 0
 #[test]
 fn members_derive_the_keys_of_their_epochs(rt: HostRuntime) -> Result<(), Fail> {
     let alloc = rt.alloc();
-    let mut script = List::copy_of(alloc, TWO_BATCHES.as_bytes())?;
-    script.extend(DERIVED.as_bytes())?;
-    let mut report = first_lines(alloc, TWO_EPOCHS, 11)?;
-    report.extend(TOLD_DERIVED.as_bytes())?;
-    let mut source = TextSource::new(script, List::new(alloc));
-    let mut sink = TextSink::new(alloc, List::new(alloc));
-    let finished = console(alloc, &words_of(alloc, "--new 2")?, &mut source, &mut sink);
-    assert_eq!(rt; sink.octets(), report.as_slice());
-    assert_eq!(rt; (finished.status, finished.history.len()), (0, 15));
+    let script = joined(alloc, TWO_BATCHES, DERIVED)?;
+    let report = first_lines(alloc, 11, TOLD_DERIVED)?;
+    let run = run_text(alloc, "--new 2", script.as_slice(), &[])?;
+    assert_eq!(rt; run.sink.octets(), report.as_slice());
+    assert_eq!(rt; (run.finished.status, run.finished.history.len()), (0, 15));
     Ok(())
 }
 
@@ -107,14 +103,16 @@ fn scripts_end_as_their_words_and_lines_say(rt: HostRuntime) -> Result<(), Fail>
         ("--new 2 --new 2", TWO_BATCHES, "end 1\n", 1, 0),
     ];
     for (words, script, report, status, line) in table {
-        let mut source = source_of(alloc, script.as_bytes(), &[])?;
-        let mut sink = TextSink::new(alloc, List::new(alloc));
-        let finished = console(alloc, &words_of(alloc, words)?, &mut source, &mut sink);
-        assert_eq!(rt; sink.octets(), report.as_bytes(), "{words}");
-        assert_eq!(rt; (finished.status, finished.line), (status, line), "{words}");
+        let run = run_text(alloc, words, script.as_bytes(), &[])?;
+        assert_eq!(rt; run.sink.octets(), report.as_bytes(), "{words}");
+        assert_eq!(rt;
+            (run.finished.status, run.finished.line),
+            (status, line),
+            "{words}"
+        );
         if status == 1 {
-            assert_eq!(rt; source.rest(), script.as_bytes());
-            assert!(rt; finished.history.is_empty());
+            assert_eq!(rt; run.source.rest(), script.as_bytes());
+            assert!(rt; run.finished.history.is_empty());
         }
     }
     Ok(())
@@ -174,8 +172,7 @@ fn a_source_may_fail_at_any_call(rt: HostRuntime) -> Result<(), Fail> {
             .iter()
             .filter(|octet| **octet == b'\n')
             .count();
-        let mut report = first_lines(alloc, TWO_EPOCHS, REPORTED[run.min(6)])?;
-        report.extend(b"end 3\n")?;
+        let report = first_lines(alloc, REPORTED[run.min(6)], "end 3\n")?;
         assert_eq!(rt; sink.octets(), report.as_slice(), "call {call}");
         assert_eq!(rt; (finished.status, finished.line), (3, 0));
         assert_eq!(rt; finished.history.len(), run + 1);
@@ -189,14 +186,12 @@ fn a_sink_of_whole_lines_may_fail_at_any_call(rt: HostRuntime) -> Result<(), Fai
     let alloc = rt.alloc();
     let entries = [1, 2, 3, 4, 5, 6, 7, 7, 7, 7, 7, 7];
     for (lines, entries) in entries.into_iter().enumerate() {
-        let mut source = source_of(alloc, TWO_BATCHES.as_bytes(), &[])?;
-        let fails = List::copy_of(alloc, &[lines as u64 + 1])?;
-        let mut sink = TextSink::new(alloc, fails);
-        let finished = console(alloc, &words_of(alloc, "--new 2")?, &mut source, &mut sink);
-        let written = first_lines(alloc, TWO_EPOCHS, lines)?;
-        assert_eq!(rt; sink.octets(), written.as_slice());
-        assert_eq!(rt; (finished.status, finished.line), (4, 0));
-        assert_eq!(rt; finished.history.len(), entries);
+        let fails = [lines as u64 + 1];
+        let run = run_text(alloc, "--new 2", TWO_BATCHES.as_bytes(), &fails)?;
+        let written = first_lines(alloc, lines, "")?;
+        assert_eq!(rt; run.sink.octets(), written.as_slice());
+        assert_eq!(rt; (run.finished.status, run.finished.line), (4, 0));
+        assert_eq!(rt; run.finished.history.len(), entries);
     }
     Ok(())
 }
@@ -209,7 +204,8 @@ fn a_sink_of_single_octets_may_fail_at_any_call(rt: HostRuntime) -> Result<(), F
     let report = "new depth 2\na queued\nepoch 1 sequence 0 members 1\nend 2 line 3\n".as_bytes();
     for most in 0..=report.len() {
         let mut written = Vec::new(alloc);
-        let mut source = source_of(alloc, script.as_bytes(), &[])?;
+        let script = List::copy_of(alloc, script.as_bytes())?;
+        let mut source = TextSource::new(script, List::new(alloc));
         let mut writer = OctetByOctet {
             written: &mut written,
             calls_left: most,
@@ -227,13 +223,14 @@ fn a_sink_of_single_octets_may_fail_at_any_call(rt: HostRuntime) -> Result<(), F
     Ok(())
 }
 
-/// So many lines from the start of a text.
-fn first_lines(alloc: Global, text: &str, lines: usize) -> Result<Octets, NoMemory> {
-    let mut first = List::new(alloc);
-    for line in text.split_inclusive('\n').take(lines) {
-        first.extend(line.as_bytes())?;
+/// So many lines from the start of the report of `TWO_BATCHES`, and then this text.
+fn first_lines(alloc: Global, lines: usize, text: &str) -> Result<Octets, NoMemory> {
+    let mut report = List::new(alloc);
+    for line in TWO_EPOCHS.split_inclusive('\n').take(lines) {
+        report.extend(line.as_bytes())?;
     }
-    Ok(first)
+    report.extend(text.as_bytes())?;
+    Ok(report)
 }
 
 /// A reader that gives one octet a call, and fails when no call is left.
@@ -287,18 +284,38 @@ fn scripts_are_taken_up_to_their_limits(rt: HostRuntime) -> Result<(), Fail> {
         let full = vec![in alloc; octet; most]?;
         let over = vec![in alloc; octet; most + 1]?;
         for (script, status, line) in [(full.as_slice(), 0, 0), (over.as_slice(), 2, line)] {
-            let mut source = source_of(alloc, script, &[])?;
-            let mut sink = TextSink::new(alloc, List::new(alloc));
-            let finished = console(alloc, &words_of(alloc, "--new 2")?, &mut source, &mut sink);
-            assert_eq!(rt; (finished.status, finished.line), (status, line));
+            let run = run_text(alloc, "--new 2", script, &[])?;
+            assert_eq!(rt; (run.finished.status, run.finished.line), (status, line));
         }
     }
     Ok(())
 }
 
-fn source_of(alloc: Global, script: &[u8], fails: &[u64]) -> Result<TextSource, Fail> {
-    let script = List::copy_of(alloc, script)?;
-    Ok(TextSource::new(script, List::copy_of(alloc, fails)?))
+/// What the console ended with, and the source and the sink that it left.
+#[derive(Drop)]
+struct TextRun {
+    finished: Finished,
+    source: TextSource,
+    sink: TextSink,
+}
+
+/// Runs the console on these words and this script; the calls of the sink listed fail.
+fn run_text(alloc: Global, words: &str, script: &[u8], fails: &[u64]) -> Result<TextRun, Fail> {
+    let words = words_of(alloc, words)?;
+    let mut source = TextSource::new(List::copy_of(alloc, script)?, List::new(alloc));
+    let mut sink = TextSink::new(alloc, List::copy_of(alloc, fails)?);
+    let finished = console(alloc, &words, &mut source, &mut sink);
+    Ok(TextRun {
+        finished,
+        source,
+        sink,
+    })
+}
+
+fn joined(alloc: Global, first: &str, second: &str) -> Result<Octets, NoMemory> {
+    let mut text = List::copy_of(alloc, first.as_bytes())?;
+    text.extend(second.as_bytes())?;
+    Ok(text)
 }
 
 fn words_of(alloc: Global, text: &str) -> Result<Vec<String>, Fail> {
