@@ -12,7 +12,7 @@ use Rattle.script_text.specs.Words.{words_of}
 use Rattle.console_run.specs.Scripts.{ends_line, EndsLine, unfinished, script_lines, is_line, are_lines}
 use Rattle.console_run.specs.Steps.{Cut, cut_more, cut_of}
 use Rattle.console_run.specs.Clauses.{TellsScript, IsOver, IsStoppedOf}
-use Rattle.console_run.proofs.ScriptLemmas.{cut_of-more, lines_cut, unfinished-some}
+use Rattle.console_run.proofs.CutLemmas.{cut_of-more, lines_cut, unfinished-some}
 
 -- the lines of a cut, and what has come of the next
 abbrev lines_at : Cut → List (List ℕ)

@@ -1,7 +1,10 @@
 pub mod CompleteLemmas
+pub mod CutLemmas
 pub mod DeriveLemmas
 pub mod EndLemmas
+pub mod ErrorLemmas
 pub mod FitLemmas
 pub mod KnownLemmas
-pub mod ScriptLemmas
 pub mod StandLemmas
+pub mod StepLemmas
+pub mod StopLemmas

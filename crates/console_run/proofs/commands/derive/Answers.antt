@@ -3,7 +3,8 @@ use Rattle.std.specs.Prelude.{List}
 use Rattle.group_model.specs.declared.entries.Entry.{Entry}
 use Rattle.group_model.specs.declared.entries.Asked.TheVariants.{Derive}
 use Rattle.console_run.specs.Steps.{shown, BreaksOff}
-use Rattle.console_run.proofs.ScriptLemmas.{BreaksOff-one, if_error}
+use Rattle.console_run.proofs.ErrorLemmas.{if_error}
+use Rattle.console_run.proofs.StepLemmas.{BreaksOff-one}
 use Rattle.console_run.proofs.commands.derive.Goals as goal
 
 pub returns-in_err-tell_last-clause-breaks : goal.returns-in_err-tell_last-clause-breaks

@@ -3,7 +3,7 @@ use Rattle.std.proofs.lemmas.List.{append_assoc}
 use Rattle.gd_edges.specs.Faults.{Rose}
 use Rattle.console_run.specs.Steps.{shown}
 use Rattle.console_run.proofs.KnownLemmas.{Puts-then, AppendsPart-behind}
-use Rattle.console_run.proofs.ScriptLemmas.{if_error}
+use Rattle.console_run.proofs.ErrorLemmas.{if_error}
 use Rattle.console_run.proofs.puts.put_lines.Goals as goal
 
 pub loop-rest-preserved : goal.loop-rest-preserved

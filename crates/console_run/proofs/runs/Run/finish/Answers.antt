@@ -1,6 +1,6 @@
 use Rattle.std.proofs.Common.{[], length, subst}
 use Rattle.console_run.specs.Steps.{shown, RunsLine}
-use Rattle.console_run.proofs.ScriptLemmas.{none_of, some_of, Ends-none, Ends-line}
+use Rattle.console_run.proofs.StepLemmas.{none_of, some_of, Ends-none, Ends-line}
 use Rattle.console_run.proofs.runs.Run.finish.Goals as goal
 
 pub returns-then-is_empty-clause-ends : goal.returns-then-is_empty-clause-ends

@@ -2,7 +2,9 @@ use Rattle.std.proofs.Common.{Err, ◌+◌, ap, sym, [], subst, inl, inr}
 use Rattle.std.specs.Io.KnownBytes.{Appends}
 use Rattle.console_run.specs.Steps.{shown, SaidAt}
 use Rattle.console_run.specs.Clauses.{IsStoppedOf}
-use Rattle.console_run.proofs.ScriptLemmas.{BreaksOff-line, GoesOn-new, GoesOrHalts-new, IsWholeOf-ends, IsReached-opening, IsReached-stops, IsReached-end, IsStoppedOf-stops, IsStoppedOf-end, IsLostOf-stops, of_error, if_error}
+use Rattle.console_run.proofs.ErrorLemmas.{of_error, if_error}
+use Rattle.console_run.proofs.StepLemmas.{BreaksOff-line, GoesOn-new, IsWholeOf-ends}
+use Rattle.console_run.proofs.StopLemmas.{GoesOrHalts-new, IsReached-opening, IsReached-stops, IsReached-end, IsStoppedOf-stops, IsStoppedOf-end, IsLostOf-stops}
 use Rattle.console_run.proofs.runs.Run.follow.Goals as goal
 
 pub returns-in_err-tell_last-clause-cut : goal.returns-in_err-tell_last-clause-cut

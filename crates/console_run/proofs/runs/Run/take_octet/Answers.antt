@@ -1,6 +1,6 @@
 use Rattle.std.proofs.Common.{[]}
 use Rattle.console_run.specs.Steps.{shown}
-use Rattle.console_run.proofs.ScriptLemmas.{GoesOn-ended, GoesOn-kept}
+use Rattle.console_run.proofs.StepLemmas.{GoesOn-ended, GoesOn-kept}
 use Rattle.console_run.proofs.runs.Run.take_octet.Goals as goal
 
 pub returns-then-octet-eq10-clause-goes : goal.returns-then-octet-eq10-clause-goes

@@ -1,7 +1,10 @@
 use Rattle.std.proofs.Common.{◌++◌, ◌∷◌, [], take, get_or, sym, subst, arith}
 use Rattle.std.proofs.lemmas.List.{take_more}
 use Rattle.console_run.specs.Steps.{shown, GoesOn, Halts}
-use Rattle.console_run.proofs.ScriptLemmas.{GoesOn-none, GoesOn-then, Halts-at, small_octets, if_error}
+use Rattle.console_run.proofs.CutLemmas.{small_octets}
+use Rattle.console_run.proofs.ErrorLemmas.{if_error}
+use Rattle.console_run.proofs.StepLemmas.{GoesOn-none, GoesOn-then}
+use Rattle.console_run.proofs.StopLemmas.{Halts-at}
 use Rattle.console_run.proofs.runs.Run.take_piece.Goals as goal
 
 pub loop-octet-init : goal.loop-octet-init

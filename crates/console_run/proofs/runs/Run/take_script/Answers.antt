@@ -3,7 +3,9 @@ use Rattle.std.specs.Io.KnownBytes.{Consumes}
 use Rattle.std.proofs.KnownBytes.{Consumes-nil, Consumes-trans, Consumes-kept}
 use Rattle.gd_edges.specs.Faults.{Rose}
 use Rattle.console_run.specs.Steps.{shown, GoesOrHalts}
-use Rattle.console_run.proofs.ScriptLemmas.{GoesOn-none, GoesOn-then, Halts-then, SourceAt-other, if_error}
+use Rattle.console_run.proofs.ErrorLemmas.{if_error}
+use Rattle.console_run.proofs.StepLemmas.{GoesOn-none, GoesOn-then}
+use Rattle.console_run.proofs.StopLemmas.{Halts-then, SourceAt-other}
 use Rattle.console_run.proofs.runs.Run.take_script.Goals as goal
 
 pub pieces-init : goal.pieces-init
