@@ -137,9 +137,7 @@ fn pieces_of_any_size_make_the_same_report(rt: HostRuntime) -> Result<(), Fail> 
             rest: script.as_bytes(),
             calls_left: usize::MAX,
         };
-        let mut sink = TextSink::new(alloc, List::new(alloc));
-        let mut source = StdSource::new(&mut reader);
-        let finished = console(alloc, &words_of(alloc, "--new 2")?, &mut source, &mut sink);
+        let (finished, sink) = run_read(alloc, &mut reader)?;
         assert_eq!(rt; sink.octets(), report.as_bytes());
         assert_eq!(rt; finished.status, status);
         assert_eq!(rt; reader.rest, left.as_bytes());
@@ -160,9 +158,7 @@ fn a_source_may_fail_at_any_call(rt: HostRuntime) -> Result<(), Fail> {
             rest: script,
             calls_left: call - 1,
         };
-        let mut sink = TextSink::new(alloc, List::new(alloc));
-        let mut source = StdSource::new(&mut reader);
-        let finished = console(alloc, &words_of(alloc, "--new 2")?, &mut source, &mut sink);
+        let (finished, sink) = run_read(alloc, &mut reader)?;
         if call == script.len() + 2 {
             assert_eq!(rt; sink.octets(), TWO_EPOCHS.as_bytes());
             assert_eq!(rt; finished.status, 0);
@@ -310,6 +306,15 @@ fn run_text(alloc: Global, words: &str, script: &[u8], fails: &[u64]) -> Result<
         source,
         sink,
     })
+}
+
+/// Runs the console on what this reader gives.
+fn run_read(alloc: Global, reader: &mut OneByOne<'_>) -> Result<(Finished, TextSink), Fail> {
+    let words = words_of(alloc, "--new 2")?;
+    let mut source = StdSource::new(reader);
+    let mut sink = TextSink::new(alloc, List::new(alloc));
+    let finished = console(alloc, &words, &mut source, &mut sink);
+    Ok((finished, sink))
 }
 
 fn joined(alloc: Global, first: &str, second: &str) -> Result<Octets, NoMemory> {
