@@ -40,12 +40,12 @@ pub Tells-none : (entries : List Entry) (known : Shown) → Tells entries entrie
 Tells-none entries known = record { grown = sym (append-nil entries); told = Puts-none known; asked = refl; steps = tt; granted = refl }
 
 -- a stop in the report of an entry is at no line and of no source
-gives_at_report : (stop : Stop) (more : List Entry) → IsOfReport stop → GivesAt stop more
-gives_at_report Line more h = absurd h
-gives_at_report Source more h = absurd h
-gives_at_report Sink more h = tt
-gives_at_report Memory more h = absurd h
-gives_at_report Untold more h = tt
+gives_at_report : (stop : Stop) (entry : Entry) → IsOfReport stop → GivesAt stop (entry ∷ [])
+gives_at_report Line entry h = absurd h
+gives_at_report Source entry h = absurd h
+gives_at_report Sink entry h = tt
+gives_at_report Memory entry h = absurd h
+gives_at_report Untold entry h = λ none. omega (arith, ap length none)
 
 -- one entry answered one request, and its report broke off
 pub BreaksOff-one : (stop : Stop) (old new : List Entry) (was now : Shown) (request : Asked) (entry : Entry) → IsAnswered old new request entry → IsOfReport stop → Tries stop was now (entry_text entry) → BreaksOff (request ∷ []) stop old new was now (entry ∷ [])
@@ -53,7 +53,7 @@ BreaksOff-one stop old new was now request entry h cause tries = record {
   grown = h.appended;
   asked = inr (ap (λ asked. asked ∷ []) h.asked);
   steps = (h.step, tt);
-  gives = gives_at_report stop (entry ∷ []) cause;
+  gives = gives_at_report stop entry cause;
   tries = subst (Tries stop was now) (sym (append-nil (entry_text entry))) tries;
 }
 

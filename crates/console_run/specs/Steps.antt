@@ -66,10 +66,12 @@ pub record RunsLine (text : List ℕ) (old new : List Entry) (was now : Shown) (
   pub grammar : is_line text ≡ true
   pub run : Tells old new was now (line_requests text) more
 
--- what a stop rules out: at a faulty line nothing is asked, and no source is taken from while a line is run
+-- what a stop rules out: at a faulty line nothing is asked, no source is taken from while a line is run, and only an entry's report is
+-- left untold
 abbrev pub GivesAt : Stop → List Entry → Type 0
 GivesAt Line more = more ≡ []
 GivesAt Source more = ⊥
+GivesAt Untold more = more ≡ [] → ⊥
 GivesAt stop more = Unit {0}
 
 -- the run of these requests stopped: what they gave, and how much of that was reported

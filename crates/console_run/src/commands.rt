@@ -77,6 +77,7 @@ fn derive<K: Sink>(
     ensures one { length group.new ≤ length group.old + 1 }
     ensures breaks { IfErr result (λ stop. (more : List Entry) × BreaksOff (Derive epoch members ∷ []) stop group.old group.new (shown K.written K.faults out.old) (shown K.written K.faults out.new) more) }
     ensures cause { result ≡ Err Stop.Line → ⊥ }
+    ensures memory { result ≡ Err Stop.Memory → group.new ≡ group.old }
 {
     group.derive(alloc, epoch, members)?;
     tell_last(alloc, group, out)?;
