@@ -20,6 +20,6 @@ pub CanDerive-more : (have known : List KeyName) (pairs others : List Wrap) (goa
 CanDerive-more have known pairs others goal held sent h = (h.0, AreAtHand-more have known pairs others held sent [] h.0 h.1, h.2)
 
 -- an answer that is there where something holds, and is missing where it does not
-pub found_decides : {T : Type 0} (P : Type 0) (found : Option T) → IfSome found (λ _. P) → (found ≡ None → P → ⊥) → Decides (is_some found) P
-found_decides P None there missing = (λ h. absurd (false≢true h), λ holds. absurd (missing refl holds))
-found_decides P (Some x) there missing = (λ h. there, λ holds. refl)
+pub found_decides : {T : Type 0} (Q : T → Type 0) (P : Type 0) (found : Option T) → IfSome found Q → ((x : T) → Q x → P) → (found ≡ None → P → ⊥) → Decides (is_some found) P
+found_decides Q P None there holds missing = (λ h. absurd (false≢true h), λ given. absurd (missing refl given))
+found_decides Q P (Some x) there holds missing = (λ h. holds x there, λ given. refl)

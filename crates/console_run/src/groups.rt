@@ -176,10 +176,7 @@ fn can_derive(
     let have = held(alloc, history, members)?;
     let pairs = sent_pairs(alloc, history)?;
     let goal = KeyName::Traffic { made: epoch };
-    match derive(alloc, have.as_slice(), pairs.as_slice(), &goal)? {
-        Some(_) => Ok(true),
-        None => Ok(false),
-    }
+    Ok(derive(alloc, have.as_slice(), pairs.as_slice(), &goal)?.is_some())
 }
 
 fn entry(asked: Asked, answer: Answer) -> Entry
