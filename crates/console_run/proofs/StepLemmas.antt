@@ -13,7 +13,7 @@ use Rattle.group_model.specs.declared.entries.Asked.TheVariants.{Create}
 use Rattle.group_model.specs.Legal.{AreSteps, IsLegal, is_want, wants_memory}
 use Rattle.script_text.specs.Report.{entry_text, entries_text}
 use Rattle.console_run.specs.Scripts.{ends_line, unfinished, script_lines, is_line, line_requests, requests_in, IsRunOf}
-use Rattle.console_run.specs.Stands.{IsAnswered, Answers}
+use Rattle.console_run.specs.Stands.{IsAdded, IsAnswered, Answers}
 use Rattle.console_run.specs.Steps.{Shown, Puts, Tries, IsOfReport, GivesAt, Cut, cut_of, Tells, RunsLine, BreaksOff, IsSoFar, GoesOn, Ends}
 use Rattle.console_run.specs.Clauses.{TakesAll, IsWholeOf}
 use Rattle.console_run.specs.declared.stops.Stop.{Stop}
@@ -29,10 +29,10 @@ AreSteps-append before (entry ∷ entries) more h k = (h.0, AreSteps-append (bef
 -- one entry answers one request
 pub Tells-one : (old new : List Entry) (was now : Shown) (request : Asked) (entry : Entry) → IsAnswered old new request entry → Puts was now (entry_text entry) → Tells old new was now (request ∷ []) (entry ∷ [])
 Tells-one old new was now request entry h told = record {
-  grown = h.appended;
+  grown = h.added.appended;
   told = subst (Puts was now) (sym (append-nil (entry_text entry))) told;
-  asked = ap (λ asked. asked ∷ []) h.asked;
-  steps = (h.step, tt);
+  asked = ap (λ asked. asked ∷ []) h.added.asked;
+  steps = (h.added.step, tt);
   granted = ap (λ want. want || false) h.granted;
 }
 
@@ -48,7 +48,7 @@ gives_at_report Memory entry h = absurd h
 gives_at_report Untold entry h = λ none. omega (arith, ap length none)
 
 -- one entry answered one request, and its report broke off
-pub BreaksOff-one : (stop : Stop) (old new : List Entry) (was now : Shown) (request : Asked) (entry : Entry) → IsAnswered old new request entry → IsOfReport stop → Tries stop was now (entry_text entry) → BreaksOff (request ∷ []) stop old new was now (entry ∷ [])
+pub BreaksOff-one : (stop : Stop) (old new : List Entry) (was now : Shown) (request : Asked) (entry : Entry) → IsAdded old new request entry → IsOfReport stop → Tries stop was now (entry_text entry) → BreaksOff (request ∷ []) stop old new was now (entry ∷ [])
 BreaksOff-one stop old new was now request entry h cause tries = record {
   grown = h.appended;
   asked = inr (ap (λ asked. asked ∷ []) h.asked);
@@ -200,10 +200,10 @@ first_so_far depth entries h = record {
   counted = refl;
   grammar = refl;
   legal = record {
-    asked = ap (map (λ (entry : Entry). entry.asked)) h.1.appended ∙ ap (λ asked. asked ∷ []) h.1.asked;
-    steps = subst (AreSteps []) (sym h.1.appended) (h.1.step, tt);
+    asked = ap (map (λ (entry : Entry). entry.asked)) h.1.added.appended ∙ ap (λ asked. asked ∷ []) h.1.added.asked;
+    steps = subst (AreSteps []) (sym h.1.added.appended) (h.1.added.step, tt);
   };
-  granted = ap wants_memory h.1.appended ∙ ap (λ want. want || false) h.1.granted;
+  granted = ap wants_memory h.1.added.appended ∙ ap (λ want. want || false) h.1.granted;
   start = [];
   parts = refl;
   ended = inl refl;
@@ -225,10 +225,10 @@ IsWholeOf-ends depth left rest taken first second last next counted told now end
 pub told_so_far : (depth : ℕ) (taken : List ℕ) (first second : List Entry) (next : List ℕ) (counted : ℕ) (was told now : Shown) (more : List Entry) → Answers [] first (Create depth) → ((front : List Entry) (entry : Entry) → first ≡ front ++ entry ∷ [] → Puts was told (entry_text entry)) → GoesOn taken first second [] next 0 counted told now more → Puts was now (entries_text second)
 told_so_far depth taken first second next counted was told now more made begun goes =
     let entry = made.0 in
-    let opening : entries_text first ≡ entry_text entry = ap entries_text made.1.appended ∙ append-nil (entry_text entry) in
+    let opening : entries_text first ≡ entry_text entry = ap entries_text made.1.added.appended ∙ append-nil (entry_text entry) in
     let all : entries_text second ≡ entry_text entry ++ entries_text more =
     ap entries_text goes.grown ∙ flat_map-append entry_text first more ∙ ap (λ text. text ++ entries_text more) opening in
-    subst (Puts was now) (sym all) (Puts-then was told now (entry_text entry) (entries_text more) (begun [] entry made.1.appended) goes.told)
+    subst (Puts was now) (sym all) (Puts-then was told now (entry_text entry) (entries_text more) (begun [] entry made.1.added.appended) goes.told)
 
 -- at a faulty line the history stays
 pub BreaksOff-line : (requests : List Asked) (stop : Stop) (old new : List Entry) (was now : Shown) (more : List Entry) → Line ≡ stop → BreaksOff requests stop old new was now more → new ≡ old

@@ -249,7 +249,7 @@ GoesOrHalts-new taken stop old new line next count counted was now none zeroth h
 -- nothing but the making of the group is reported
 pub IsReached-opening : (Says : Option (List ℕ) → Option (List ℕ) → List ℕ → Type 0) (depth : ℕ) (left was now : Option (List ℕ)) (entries : List Entry) (made : Answers [] entries (Create depth)) → Says was now (entry_text made.0) → IsReached Says depth left left was now entries
 IsReached-opening Says depth left was now entries made says =
-    let opening : entries_text entries ≡ entry_text made.0 = ap entries_text made.1.appended ∙ append-nil (entry_text made.0) in
+    let opening : entries_text entries ≡ entry_text made.0 = ap entries_text made.1.added.appended ∙ append-nil (entry_text made.0) in
     record {
       first = [];
       last = entries;

@@ -34,9 +34,7 @@ Adds old new request = (entry : Entry) × IsAdded old new request entry
 
 -- the history has one entry more, which answers this request as it is due, and not for want of memory
 pub record IsAnswered (old new : List Entry) (request : Asked) (entry : Entry) : Type 0 where
-  pub appended : new ≡ old ++ entry ∷ []
-  pub asked : entry.asked ≡ request
-  pub step : IsStep old entry
+  pub added : IsAdded old new request entry
   pub granted : is_want entry.answer ≡ false
 
 abbrev pub Answers : List Entry → List Entry → Asked → Type 0

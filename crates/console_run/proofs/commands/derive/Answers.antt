@@ -18,5 +18,5 @@ returns-in_err-tell_last-clause-breaks g c =
     let answer = c.in_ok-derive.ensures.ok in
     if_error (λ stop. (more : List Entry) × BreaksOff (request ∷ []) stop old new was now more) _ _ c.from_residual-in_err-tell_last.ensures.1 (
       answer.0 ∷ [],
-      BreaksOff-one _ old new was now request answer.0 answer.1 c.in_err-tell_last.ensures.cause (c.in_err-tell_last.ensures.tries old answer.0 answer.1.appended),
+      BreaksOff-one _ old new was now request answer.0 answer.1.added c.in_err-tell_last.ensures.cause (c.in_err-tell_last.ensures.tries old answer.0 answer.1.added.appended),
     )

@@ -18,11 +18,13 @@ returns-clause-ok c =
     (subst (λ history. Decides yes (CanDerive (held_names history c.names.result.now) (pairs_sent history) goal)) (c.items.ensures ∙ kept) c.in_ok-yes.ensures) in (
       entry,
       record {
-        appended = c.add.ensures.items ∙ ap (λ front. front ++ entry ∷ []) kept;
-        asked = c.entry.ensures.asked;
-        step = record {
-          answered = inl (subst (λ asked. IsDue old asked entry.answer) (sym c.entry.ensures.asked) (yes, c.entry.ensures.answer, decides));
-          beside = c.entry.ensures.outside ∙ ap outside_of (sym c.entry.ensures.asked);
+        added = record {
+          appended = c.add.ensures.items ∙ ap (λ front. front ++ entry ∷ []) kept;
+          asked = c.entry.ensures.asked;
+          step = record {
+            answered = inl (subst (λ asked. IsDue old asked entry.answer) (sym c.entry.ensures.asked) (yes, c.entry.ensures.answer, decides));
+            beside = c.entry.ensures.outside ∙ ap outside_of (sym c.entry.ensures.asked);
+          };
         };
         granted = ap is_want c.entry.ensures.answer;
       },

@@ -12,14 +12,14 @@ returns-in_err-tell_last-clause-cut g c =
     let written = g.K.Sink.written in
     let was = c.args.self.now in
     if_error _ _ _ c.from_residual.ensures.1
-    (λ depth made. IsReached-opening (SaidAt _) depth (g.S.Source.left c.args.script.now) (written c.args.out.now) (written c.tell_last.new.out) was.group made (c.in_err-tell_last.ensures.tries [] made.0 made.1.appended).said)
+    (λ depth made. IsReached-opening (SaidAt _) depth (g.S.Source.left c.args.script.now) (written c.args.out.now) (written c.tell_last.new.out) was.group made (c.in_err-tell_last.ensures.tries [] made.0 made.1.added.appended).said)
 
 pub returns-in_err-buffer-clause-cut : goal.returns-in_err-buffer-clause-cut
 returns-in_err-buffer-clause-cut g c =
     let written = g.K.Sink.written in
     let was = c.args.self.now in
     if_error _ _ _ c.from_residual-in_err-buffer.ensures.1
-    (λ depth made. IsReached-opening Appends depth (g.S.Source.left c.args.script.now) (written c.args.out.now) (written c.tell_last.new.out) was.group made (c.in_ok-tell_last.ensures.told [] made.0 made.1.appended).told)
+    (λ depth made. IsReached-opening Appends depth (g.S.Source.left c.args.script.now) (written c.args.out.now) (written c.tell_last.new.out) was.group made (c.in_ok-tell_last.ensures.told [] made.0 made.1.added.appended).told)
 
 pub returns-in_err-take_script-clause-cut : goal.returns-in_err-take_script-clause-cut
 returns-in_err-take_script-clause-cut g c =
