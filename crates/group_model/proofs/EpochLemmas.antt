@@ -23,7 +23,7 @@ pow_pos_at : (n : ℕ) → 0 < 2 ^ n
 pow_pos_at n = pow_pos n
 
 -- a fold whose steps keep a length keeps it
-length-fold : {A B : Type 0} (f : List A → B → List A) → ((xs : List A) (b : B) → length (f xs b) ≡ length xs) → (xs : List A) (bs : List B) → length (fold f xs bs) ≡ length xs
+pub length-fold : {A B : Type 0} (f : List A → B → List A) → ((xs : List A) (b : B) → length (f xs b) ≡ length xs) → (xs : List A) (bs : List B) → length (fold f xs bs) ≡ length xs
 length-fold f keeps xs [] = refl
 length-fold f keeps xs (b ∷ bs) = length-fold f keeps (f xs b) bs ∙ keeps xs b
 
@@ -36,7 +36,7 @@ length-holders_after holders batch =
 pub length-holders_of : (depth : ℕ) (batches : List (List Change)) → length (holders_of depth batches) ≡ 2 ^ depth
 length-holders_of depth batches = length-fold holders_after length-holders_after (no_holders depth) batches ∙ length-replicate (2 ^ depth) None
 
-fold-append_one : {A B : Type 0} (f : B → A → B) (b : B) (xs : List A) (x : A) → fold f b (xs ++ x ∷ []) ≡ f (fold f b xs) x
+pub fold-append_one : {A B : Type 0} (f : B → A → B) (b : B) (xs : List A) (x : A) → fold f b (xs ++ x ∷ []) ≡ f (fold f b xs) x
 fold-append_one f b [] x = refl
 fold-append_one f b (y ∷ ys) x = fold-append_one f (f b y) ys x
 
@@ -102,6 +102,11 @@ FitInTurn-at holders (batch ∷ batches) (suc epoch) h early = FitInTurn-at (hol
 pub FitInTurn-append : (holders : Holders) (batches : List (List Change)) (batch : List Change) → FitInTurn holders batches → Fits (fold holders_after holders batches) batch → FitInTurn holders (batches ++ batch ∷ [])
 FitInTurn-append holders [] batch h fits = (fits, tt)
 FitInTurn-append holders (first ∷ batches) batch h fits = (h.0, FitInTurn-append (holders_after holders first) batches batch h.1 fits)
+
+-- the last batch fits what those before it left
+pub FitInTurn-last : (holders : Holders) (batches : List (List Change)) (batch : List Change) → FitInTurn holders (batches ++ batch ∷ []) → Fits (fold holders_after holders batches) batch
+FitInTurn-last holders [] batch h = h.0
+FitInTurn-last holders (first ∷ batches) batch h = FitInTurn-last (holders_after holders first) batches batch h.1
 
 -- a tree of an epoch has a holder for each leaf, and a last change for each number
 pub HasShape-from_stands : (depth : ℕ) (batches : List (List Change)) (epoch : ℕ) (tree : Tree) → StandsAt depth batches epoch tree → HasShape depth tree

@@ -1,8 +1,11 @@
 pub mod EpochLemmas
 pub mod FitLemmas
+pub mod HistoryLemmas
 pub mod HolderLemmas
+pub mod JoinLemmas
 pub mod PathLemmas
 pub mod PlaceLemmas
+pub mod QueueLemmas
 pub mod SequenceLemmas
 pub mod StayedLemmas
 pub mod UndoLemmas

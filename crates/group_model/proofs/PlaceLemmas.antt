@@ -12,7 +12,7 @@ use Rattle.group_terms.specs.declared.changes.Change.{Change}
 use Rattle.group_model.specs.Places.{Holders, no_holders, is_held_by, is_member, place_in, leavers, joiners, holders_after, holders_at, Fits, IsValid}
 use Rattle.group_model.specs.Stayed.{has_stayed}
 use Rattle.group_model.proofs.EpochLemmas.{length-holders_after, FitInTurn-at}
-use Rattle.group_model.proofs.StayedLemmas.{same_name-is, none_of, held_after}
+use Rattle.group_model.proofs.StayedLemmas.{same_name-is, none_of, held_after, and_true, and_false}
 
 -- the place in the list of a member's leaf
 pub place_found : (depth : ℕ) (holders : Holders) (m : Name) (leaf : ℕ) → place_in depth holders m ≡ Some leaf → (i : ℕ) × (2 ^ depth + i ≡ leaf) × (is_held_by m (get_or holders i None) ≡ true)
@@ -48,27 +48,20 @@ place_in-agree depth before after m same agree =
     ap (λ n. option_map (λ i. 2 ^ depth + i) (cond (ltb n (length after)) (Some n) None)) first
     ∙ ap (λ n. option_map (λ i. 2 ^ depth + i) (cond (ltb (position_or_len (is_held_by m) before) n) (Some (position_or_len (is_held_by m) before)) None)) same
 
+-- who goes out, and does not come in, is no member after the batch
+pub gone : (before : Holders) (batch : List Change) (m : Name) → list_any (same_name m) (leavers batch) ≡ true → list_any (same_name m) (joiners batch) ≡ false → is_member (holders_after before batch) m ≡ false
+gone before batch m leaves stranger =
+    list_any_none (is_held_by m) (holders_after before batch) (All-from_get_or (λ holder. is_held_by m holder ≡ false) (holders_after before batch) None (λ i low.
+    held_after before batch m i stranger ∙ ap (λ b. is_held_by m (get_or before i None) && not b) leaves ∙ and_false (is_held_by m (get_or before i None))))
+
 stays_in_place : (depth : ℕ) (before : Holders) (batch : List Change) (m : Name) → Fits before batch → has_stayed before (holders_after before batch) m ≡ true → place_in depth (holders_after before batch) m ≡ place_in depth before m
 stays_in_place depth before batch m fits stayed =
     let members = and_parts (is_member before m) (is_member (holders_after before batch) m) stayed in
     let stranger : list_any (same_name m) (joiners batch) ≡ false = false_from_ne_true (list_any (same_name m) (joiners batch)) (λ joins. false≢true (sym (none_of (is_member before) m (joiners batch) fits.from_strangers joins) ∙ members.0)) in
     elim (cases_Bool (list_any (same_name m) (leavers batch))) [
-      | inl leaves ↦ absurd (false≢true (sym (gone leaves stranger) ∙ members.1))
+      | inl leaves ↦ absurd (false≢true (sym (gone before batch m leaves stranger) ∙ members.1))
       | inr stays ↦ place_in-agree depth before (holders_after before batch) m (length-holders_after before batch) (λ i. held_after before batch m i stranger ∙ ap (λ b. is_held_by m (get_or before i None) && not b) stays ∙ and_true (is_held_by m (get_or before i None)))
     ]
-  where
-    and_true : (b : Bool) → (b && true) ≡ b
-    and_true true = refl
-    and_true false = refl
-
-    and_false : (b : Bool) → (b && false) ≡ false
-    and_false true = refl
-    and_false false = refl
-
-    gone : list_any (same_name m) (leavers batch) ≡ true → list_any (same_name m) (joiners batch) ≡ false → is_member (holders_after before batch) m ≡ false
-    gone leaves stranger =
-        list_any_none (is_held_by m) (holders_after before batch) (All-from_get_or (λ holder. is_held_by m holder ≡ false) (holders_after before batch) None (λ i low.
-        held_after before batch m i stranger ∙ ap (λ b. is_held_by m (get_or before i None) && not b) leaves ∙ and_false (is_held_by m (get_or before i None))))
 
 pub stays_at : (depth epoch : ℕ) (batches : List (List Change)) (m : Name) → IsValid depth batches → epoch < length batches → has_stayed (holders_at depth batches epoch) (holders_at depth batches (suc epoch)) m ≡ true → place_in depth (holders_at depth batches (suc epoch)) m ≡ place_in depth (holders_at depth batches epoch) m
 stays_at depth epoch batches m valid early stayed =

@@ -10,10 +10,10 @@ use Rattle.group_model.specs.declared.trees.Tree.{Tree}
 use Rattle.group_model.specs.declared.history.Row.{Row}
 use Rattle.group_model.proofs.WrapLemmas.{map-range_agree}
 
-holders_at-take : (depth n : ℕ) (batches : List (List Change)) (epoch : ℕ) → epoch ≤ n → holders_at depth (take n batches) epoch ≡ holders_at depth batches epoch
+pub holders_at-take : (depth n : ℕ) (batches : List (List Change)) (epoch : ℕ) → epoch ≤ n → holders_at depth (take n batches) epoch ≡ holders_at depth batches epoch
 holders_at-take depth n batches epoch early = ap (holders_of depth) (take-take epoch n batches early)
 
-last_change-take : (depth n : ℕ) (batches : List (List Change)) (epoch v : ℕ) → epoch ≤ n → last_change depth (take n batches) epoch v ≡ last_change depth batches epoch v
+pub last_change-take : (depth n : ℕ) (batches : List (List Change)) (epoch v : ℕ) → epoch ≤ n → last_change depth (take n batches) epoch v ≡ last_change depth batches epoch v
 unfolding last_change
 last_change-take depth n batches zero v early = refl
 last_change-take depth n batches (suc epoch) v early =

@@ -32,6 +32,10 @@ abbrev pub replies_in : Answer → List SentReply
 replies_in (Batched output) = output.replies
 replies_in answer = []
 
+-- the replies that a history sent
+abbrev pub replies_sent : List Entry → List SentReply
+replies_sent entries = flat_map (λ (entry : Entry). replies_in entry.answer) entries
+
 -- the keys of a reply, where it went to one of these members
 abbrev pub names_to : List Name → SentReply → List KeyName
 names_to members reply = if list_any (same_name reply.says.member) members then reply.says.names else []
@@ -40,9 +44,13 @@ names_to members reply = if list_any (same_name reply.says.member) members then 
 abbrev pub held_names : List Entry → List Name → List KeyName
 held_names entries members = map Phase members ++ flat_map (λ (entry : Entry). flat_map (names_to members) (replies_in entry.answer)) entries
 
--- what a reply encrypts: each of its keys under the phase 1 key of its member
+-- keys that a member is told, each under its phase 1 key
+abbrev pub told_pairs : Name → List KeyName → List Wrap
+told_pairs m names = map (λ name. record { by = Phase m; gives = name }) names
+
+-- what a reply encrypts
 abbrev pub reply_pairs : SentReply → List Wrap
-reply_pairs reply = map (λ name. record { by = Phase reply.says.member; gives = name }) reply.says.names
+reply_pairs reply = told_pairs reply.says.member reply.says.names
 
 -- all that an answer sent: the wraps of a batch, and then what its replies encrypt
 abbrev pub pairs_in : Answer → List Wrap

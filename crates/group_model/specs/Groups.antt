@@ -49,3 +49,10 @@ after_entry group entry = after_answer group entry.asked entry.answer
 -- what the entries of a list make of a group
 abbrev pub group_after : Group → List Entry → Group
 group_after group entries = fold after_entry group entries
+
+-- how deep the tree is that the entries of a history leave, and the batches that made its epochs
+abbrev pub depth_after : List Entry → ℕ
+depth_after entries = (group_after no_group entries).depth
+
+abbrev pub batches_after : List Entry → List (List Change)
+batches_after entries = (group_after no_group entries).batches

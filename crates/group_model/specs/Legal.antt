@@ -1,5 +1,5 @@
 -- Which answers the group may give: legal histories.
-use Rattle.std.specs.Prelude.{◌≡◌, ℕ, ◌+◌, ◌-◌, ◌^◌, ◌==◌, ◌⊎◌, Bool, true, false, List, [], ◌∷◌, ◌++◌, length, map, Decides, Option, None, Some, if◌then◌else◌}
+use Rattle.std.specs.Prelude.{◌≡◌, ℕ, ◌+◌, ◌-◌, ◌^◌, ◌≤◌, ◌==◌, ◌⊎◌, Bool, true, false, List, [], ◌∷◌, ◌++◌, length, map, Decides, Option, None, Some, if◌then◌else◌}
 use Rattle.std.specs.List.{list_any}
 use Rattle.group_terms.specs.Names.{Name, same_name}
 use Rattle.group_terms.specs.Changes.{member_of}
@@ -57,9 +57,10 @@ output_of depth batches batch = record {
 abbrev pub batch_answer : Group → Answer
 batch_answer group = Batched (output_of group.depth (with_batch group).batches group.queue)
 
--- The answer is the one that is due after these entries. What can be derived follows from what was held and sent before.
+-- The answer is the one that is due after these entries. The making of a group comes before all else or not at all, with a tree of
+-- depth 1 to 9. What can be derived follows from what was held and sent before.
 abbrev pub IsDue : List Entry → Asked → Answer → Type 0
-IsDue before (Create depth) answer = answer ≡ Opened (record { depth = depth; epoch = 0; sequence = 0; members = [] }) None
+IsDue before (Create depth) answer = (before ≡ []) × (1 ≤ depth) × (depth ≤ 9) × (answer ≡ Opened (record { depth = depth; epoch = 0; sequence = 0; members = [] }) None)
 IsDue before (Join m) answer = answer ≡ join_answer (group_after no_group before) m
 IsDue before (Leave m) answer = answer ≡ leave_answer (group_after no_group before) m
 IsDue before Batch answer = answer ≡ batch_answer (group_after no_group before)
@@ -74,7 +75,7 @@ found_by asked = None
 abbrev pub outside_of : Asked → Outside
 outside_of asked = record { disk_failed = false; found = found_by asked; place = 0 }
 
--- want of memory may refuse a batch, and nothing else asks for memory
+-- want of memory may refuse a batch; anything else that finds none leaves no entry
 abbrev pub IsWantOfMemory : Asked → Answer → Type 0
 IsWantOfMemory Batch answer = answer ≡ Refused NoMemory
 IsWantOfMemory asked answer = ⊥
@@ -89,10 +90,14 @@ abbrev pub AreSteps : List Entry → List Entry → Type 0
 AreSteps before [] = Unit {0}
 AreSteps before (entry ∷ entries) = IsStep before entry × AreSteps (before ++ entry ∷ []) entries
 
--- the history of a group of which this was asked, in this order; the first request is to create it
+-- the entries answer these requests, in this order
 pub record IsLegal (requests : List Asked) (entries : List Entry) : Type 0 where
   pub asked : map (λ (entry : Entry). entry.asked) entries ≡ requests
   pub steps : AreSteps [] entries
+
+-- the history of a group from its making on, whatever was asked of it; or nothing, where none was made
+abbrev pub IsLegalHistory : List Entry → Type 0
+IsLegalHistory entries = (entries ≡ []) ⊎ ((depth : ℕ) × (requests : List Asked) × IsLegal (Create depth ∷ requests) entries)
 
 -- whether want of memory refused a request
 abbrev pub is_want : Answer → Bool

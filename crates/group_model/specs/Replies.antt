@@ -1,4 +1,4 @@
--- What new members are told, by key names (RFC 6407 section 3.2).
+-- What members are told, by key names (RFC 6407 section 3.2).
 use Rattle.std.specs.Prelude.{ℕ, List, [], ◌∷◌, ◌++◌, map, length}
 use Rattle.group_terms.specs.Names.{Name}
 use Rattle.group_terms.specs.declared.changes.Change.{Change}

@@ -1,4 +1,5 @@
--- The encryptions that a batch sends, by key names (Wong, Gouda and Lam, group-oriented rekeying; RFC 6407 section 5.6.3).
+-- The encryptions that a batch sends, by key names (group-oriented rekeying of Wong, Gouda and Lam, in the form that they give for a
+-- leave; RFC 6407 section 5.6.3).
 use Rattle.std.specs.Prelude.{ℕ, zero, suc, ◌+◌, ◌-◌, ◌*◌, ◌^◌, Bool, true, false, List, [], ◌∷◌, ◌++◌, map, if◌then◌else◌}
 use Rattle.std.specs.List.{filter, flat_map}
 use Rattle.group_terms.specs.Positions.{some_leaf_below}

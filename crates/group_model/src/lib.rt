@@ -13,8 +13,8 @@ pub use group_terms::{
 };
 pub use history::History;
 pub use laws::{
-    a_batch_that_wraps_uses_two_numbers, each_leaf_has_its_place, members_never_share_a_leaf,
-    places_stay_while_members_stay,
+    a_batch_says_who_is_a_member, a_batch_that_wraps_uses_two_numbers, a_history_has_valid_batches,
+    each_leaf_has_its_place, members_never_share_a_leaf, places_stay_while_members_stay,
 };
 
 mod entries;
