@@ -11,7 +11,7 @@ use Rattle.group_terms.specs.declared.keys.KeyName.{KeyName}
 use Rattle.group_terms.specs.declared.keys.KeyName.TheVariants.{Node, Traffic, Phase}
 use Rattle.group_terms.specs.declared.keys.Wrap.{Wrap}
 use Rattle.group_model.specs.Derivations.{IsAtHand, AreAtHand, IsDerivation, CanDerive}
-use Rattle.sym_closure.specs.Firsts.{AreFirsts, Gains}
+use Rattle.sym_closure.specs.Firsts.{AreFirsts, AreAmong, Gains}
 use Rattle.sym_closure.specs.Closed.{IsClosed, missing, same_key}
 use Rattle.sym_closure.proofs.FirstLemmas.{no_item, only_item, Contains-first, any_decides}
 
@@ -139,6 +139,20 @@ IsClosed-more pairs names pair closed follows one there by = elim (Contains-push
   | inl earlier ↦ closed one earlier by
   | inr same ↦ subst (λ (wrap : Wrap). Contains names wrap.gives) same (follows (subst (λ (wrap : Wrap). Contains names wrap.by) (sym same) by))
 ]
+
+-- from more keys and pairs no less can be derived
+AreAtHand-among : (have more : List KeyName) (pairs all : List Wrap) → AreAmong have more → AreAmong pairs all → (earlier names : List KeyName) → AreAtHand have pairs earlier names → AreAtHand more all earlier names
+AreAtHand-among have more pairs all held sent earlier [] h = tt
+AreAtHand-among have more pairs all held sent earlier (name ∷ names) h = (
+  elim h.0 [
+    | inl here ↦ inl (held name here)
+    | inr given ↦ inr (given.0, sent given.0 given.1, given.2, given.3)
+  ],
+  AreAtHand-among have more pairs all held sent (earlier ++ name ∷ []) names h.1,
+)
+
+pub CanDerive-among : (have more : List KeyName) (pairs all : List Wrap) (goal : KeyName) → AreAmong have more → AreAmong pairs all → CanDerive have pairs goal → CanDerive more all goal
+CanDerive-among have more pairs all goal held sent h = (h.0, AreAtHand-among have more pairs all held sent [] h.0 h.1, h.2)
 
 -- what is held is a derivation, in the order in which it comes
 pub held_derivation : (have : List KeyName) (pairs : List Wrap) (none names : List KeyName) → none ≡ [] → Gains none have names → IsDerivation have pairs names × All (Contains names) have

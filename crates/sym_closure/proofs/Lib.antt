@@ -1,2 +1,10 @@
+pub mod AnswerLemmas
+pub mod ContainLemmas
 pub mod DerivationLemmas
 pub mod FirstLemmas
+pub mod LeafLemmas
+pub mod MemberLemmas
+pub mod PrefixLemmas
+pub mod SecrecyLemmas
+pub mod SentLemmas
+pub mod WayLemmas

@@ -12,6 +12,10 @@ AreFirsts {X} seen (item ∷ items) firsts =
 abbrev pub Gains : {X : Type 0} → List X → List X → List X → Type 0
 Gains {X} old items new = (firsts : List X) × (new ≡ old ++ firsts) × AreFirsts old items firsts
 
+-- each item of a list is in another one
+abbrev pub AreAmong : {X : Type 0} → List X → List X → Type 0
+AreAmong {X} items others = (item : X) → Contains items item → Contains others item
+
 -- two lists have the same items
 abbrev pub HasSame : {X : Type 0} → List X → List X → Type 0
-HasSame {X} items others = ((item : X) → Contains items item → Contains others item) × ((item : X) → Contains others item → Contains items item)
+HasSame items others = AreAmong items others × AreAmong others items

@@ -1,2 +1,4 @@
 pub mod Closed
 pub mod Firsts
+pub mod Secrecy
+pub mod Worlds

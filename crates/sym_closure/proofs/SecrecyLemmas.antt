@@ -1,0 +1,193 @@
+-- A coalition derives no key but those that it reaches.
+use Rattle.std.proofs.Common.{◌≡◌, ℕ, zero, suc, ◌+◌, ◌-◌, ◌*◌, ◌^◌, ◌<◌, ◌≤◌, Bool, true, false, cond, eqb, List, [], ◌∷◌, ◌++◌, Option, Some, None, length, map, take, get_or, sym, refl, ap, ◌∙◌, subst, arith, inl, inr}
+use Rattle.std.specs.Prelude.{Contains}
+use Rattle.std.specs.List.{list_any, filter}
+use Rattle.std.specs.Option.{option_map, unwrap_or}
+use Rattle.std.proofs.lemmas.Bool.{cases_lt, or_left, or_right, eq-eqb, false≢true}
+use Rattle.std.proofs.lemmas.Grind.{pow_more}
+use Rattle.std.proofs.lemmas.List.{get_or_past}
+use Rattle.std.proofs.lemmas.List.Elements.{Contains-append_cases, Contains-push_cases}
+use Rattle.group_terms.specs.Names.{Name}
+use Rattle.group_terms.specs.Positions.{is_below, some_leaf_below}
+use Rattle.group_terms.specs.declared.changes.Change.{Change}
+use Rattle.group_terms.specs.declared.keys.KeyName.{KeyName}
+use Rattle.group_terms.specs.declared.keys.KeyName.TheVariants.{Node, Traffic, Phase}
+use Rattle.group_terms.specs.declared.keys.Wrap.{Wrap}
+use Rattle.group_terms.proofs.BelowLemmas.{below_children}
+use Rattle.group_model.specs.Places.{is_held_by, is_member, holders_at, place_in}
+use Rattle.group_model.specs.Fresh.{changed_leaves, is_fresh, last_change, node_name, upwards}
+use Rattle.group_model.specs.Stayed.{kept_leaves, stayed_at}
+use Rattle.group_model.specs.Wraps.{falling, kept_children, wraps_of, node_wraps, wraps_at}
+use Rattle.group_model.specs.Derivations.{AreAtHand, CanDerive, told_pairs}
+use Rattle.group_model.proofs.EpochLemmas.{length-holders_of}
+use Rattle.group_model.proofs.StayedLemmas.{same_name-self, member_at}
+use Rattle.group_model.proofs.PlaceLemmas.{place_found}
+use Rattle.sym_closure.specs.Worlds.{epochs_of, members_at, keys_told, pairs_at, world, told_at, holdings}
+use Rattle.sym_closure.specs.Secrecy.{HadLeafBelow, HasMember, IsReached}
+use Rattle.sym_closure.proofs.FirstLemmas.{no_item, only_item}
+use Rattle.sym_closure.proofs.ContainLemmas.{Contains-cases, Contains-from_map, Contains-from_filter, Contains-from_flat_map, Contains-from_some, Contains-from_range, Contains-from_falling, passes_in}
+use Rattle.sym_closure.proofs.LeafLemmas.{last_fresh, same_below, upwards-below}
+
+-- what holds of all that is held, and passes from a pair's one key to the other, holds of all that can be derived
+module _ (have : List KeyName) (pairs : List Wrap) (P : KeyName → Type 0) (held : (name : KeyName) → Contains have name → P name) (passes : (pair : Wrap) → Contains pairs pair → P pair.by → P pair.gives) where
+  at_hand : (earlier names : List KeyName) → ((name : KeyName) → Contains earlier name → P name) → AreAtHand have pairs earlier names → (name : KeyName) → Contains names name → P name
+  at_hand earlier [] before h name c = absurd (no_item name c)
+  at_hand earlier (first ∷ names) before h name c =
+      let here : P first = elim h.0 [
+        | inl have_it ↦ held first have_it
+        | inr given ↦ subst P given.3 (passes given.0 given.1 (before given.0.by given.2))
+      ] in
+      elim (Contains-cases first name names c) [
+        | inl is ↦ subst P is here
+        | inr later ↦ at_hand (earlier ++ first ∷ []) names (λ one there. elim (Contains-push_cases earlier first one there) [
+          | inl sooner ↦ before one sooner
+          | inr is ↦ subst P is here
+        ]) h.1 name later
+      ]
+
+  pub each_derived : (goal : KeyName) → CanDerive have pairs goal → P goal
+  each_derived goal h = at_hand [] h.0 (λ name c. absurd (no_item name c)) h.1 goal h.2
+
+module _ (depth : ℕ) (batches : List (List Change)) (coalition : List Name) where
+  abbrev Reached : KeyName → Type 0
+  Reached = IsReached depth batches coalition
+
+  -- what one of them is told is reached
+  path_reached : (m : Name) (epoch : ℕ) (name : KeyName) → Contains coalition m → 1 ≤ epoch → (at : Option ℕ) → place_in depth (holders_at depth batches epoch) m ≡ at → Contains (unwrap_or (option_map (λ leaf. map (node_name depth batches epoch) (upwards depth leaf)) at) []) name → Reached name
+  path_reached m epoch name ours begun None at c = absurd (no_item name c)
+  path_reached m epoch name ours begun (Some leaf) at c =
+      let found = Contains-from_map (node_name depth batches epoch) (upwards depth leaf) name c in
+      let place = place_found depth (holders_at depth batches epoch) m leaf at in
+      subst Reached found.2 (record {
+        m = m;
+        ours = ours;
+        epoch = epoch;
+        begun = begun;
+        leaf = place.0;
+        low = elim (cases_lt place.0 (length (holders_at depth batches epoch))) [
+          | inl low ↦ omega (arith, low, length-holders_of depth (take epoch batches))
+          | inr past ↦ absurd (false≢true (sym (ap (is_held_by m) (get_or_past (holders_at depth batches epoch) place.0 None past)) ∙ place.2))
+        ];
+        held = place.2;
+        below = subst (λ x. is_below depth found.0 x ≡ true) (sym place.1) (upwards-below depth leaf found.0 found.1);
+        key = refl;
+      })
+
+  told_reached : (m : Name) (epoch : ℕ) (name : KeyName) → Contains coalition m → Contains (epochs_of batches) epoch → is_member (holders_at depth batches epoch) m ≡ true → Contains (keys_told depth batches epoch m) name → Reached name
+  told_reached m epoch name ours within member c =
+      let bounds = Contains-from_range 1 (length batches) epoch within in
+      elim (Contains-push_cases _ (Traffic epoch) name c) [
+        | inl path ↦ path_reached m epoch name ours bounds.0 (place_in depth (holders_at depth batches epoch) m) refl path
+        | inr traffic ↦ subst Reached traffic (record { m = m; ours = ours; within = omega (arith, bounds.1); member = member })
+      ]
+
+  -- all that they can hold is reached
+  held_reached : (name : KeyName) → Contains (holdings depth batches coalition) name → Reached name
+  held_reached name c = elim (Contains-append_cases (map Phase coalition) _ name c) [
+    | inl phase ↦ (let found = Contains-from_map Phase coalition name phase in subst Reached found.2 found.1)
+    | inr told ↦ (
+        let at = Contains-from_flat_map (told_at depth batches coalition) (epochs_of batches) name told in
+        let to = Contains-from_flat_map (keys_told depth batches at.0) (filter (is_member (holders_at depth batches at.0)) coalition) name at.2 in
+        let one = Contains-from_filter (is_member (holders_at depth batches at.0)) coalition to.0 to.1 in
+        told_reached to.0 at.0 name one.0 at.1 one.1 to.2
+        )
+  ]
+
+  -- a reply tells what its member reaches
+  reply_reached : (epoch : ℕ) (m : Name) (pair : Wrap) → Contains (epochs_of batches) epoch → Contains (members_at depth batches epoch) m → Contains (told_pairs m (keys_told depth batches epoch m)) pair → Reached pair.by → Reached pair.gives
+  reply_reached epoch m pair within member c by =
+      let found = Contains-from_map (λ name. record { by = Phase m; gives = name }) (keys_told depth batches epoch m) pair c in
+      let ours : Contains coalition m = subst (λ (pair : Wrap). Reached pair.by) (sym found.2) by in
+      let there : is_member (holders_at depth batches epoch) m ≡ true = passes_in (is_held_by m) (holders_at depth batches epoch) (Some m) (Contains-from_some (holders_at depth batches epoch) m member) (same_name-self m) in
+      subst (λ (pair : Wrap). Reached pair.gives) found.2 (told_reached m epoch found.0 ours within there found.1)
+
+  -- what is below a child is below its parent
+  below_parent : (v child x : ℕ) → 1 ≤ v → v ≤ 2 ^ depth - 1 → Contains (2 * v ∷ (2 * v + 1) ∷ []) child → 2 ^ depth ≤ x → x < 2 ^ (depth + 1) → is_below depth child x ≡ true → is_below depth v x ≡ true
+  below_parent v child x positive inner c from to below =
+      below_children depth v x positive (omega (arith, positive, inner)) from to
+      ∙ elim (Contains-cases (2 * v) child ((2 * v + 1) ∷ []) c) [
+        | inl left ↦ or_left (is_below depth (2 * v) x) (is_below depth (2 * v + 1) x) (subst (λ id. is_below depth id x ≡ true) (sym left) below)
+        | inr right ↦ or_right (is_below depth (2 * v) x) (is_below depth (2 * v + 1) x) (subst (λ id. is_below depth id x ≡ true) (sym (only_item (2 * v + 1) child right)) below)
+      ]
+
+  -- the new key of a position under the key of a child
+  child_reached : (epoch v child : ℕ) → is_fresh depth (holders_at depth batches epoch) (holders_at depth batches (suc epoch)) v ≡ true → 1 ≤ v → v ≤ 2 ^ depth - 1 → Contains (2 * v ∷ (2 * v + 1) ∷ []) child → HadLeafBelow depth batches coalition child (unwrap_or (last_change depth batches (suc epoch) child) 0) → HadLeafBelow depth batches coalition v (suc epoch)
+  child_reached epoch v child fresh positive inner c stood =
+      let same = same_below depth batches child stood.leaf stood.low stood.below (suc epoch) stood.epoch (sym stood.key) in
+      record {
+        m = stood.m;
+        ours = stood.ours;
+        epoch = suc epoch;
+        begun = omega arith;
+        leaf = stood.leaf;
+        low = stood.low;
+        held = ap (is_held_by stood.m) same ∙ stood.held;
+        below = below_parent v child (2 ^ depth + stood.leaf) positive inner c (omega arith) (omega (arith, stood.low, pow_more 2 depth)) stood.below;
+        key = ap (λ last. unwrap_or last 0) (last_fresh depth batches epoch v fresh);
+      }
+
+  -- an encryption between two keys of the tree
+  node_reached : (epoch : ℕ) (pair : Wrap) → Contains (node_wraps depth batches (suc epoch)) pair → Reached pair.by → Reached pair.gives
+  node_reached epoch pair c by =
+      let above = Contains-from_flat_map (wraps_of depth batches (suc epoch)) (filter (is_fresh depth (holders_at depth batches (suc epoch - 1)) (holders_at depth batches (suc epoch))) (falling (2 ^ depth - 1))) pair c in
+      let fresh = Contains-from_filter (is_fresh depth (holders_at depth batches (suc epoch - 1)) (holders_at depth batches (suc epoch))) (falling (2 ^ depth - 1)) above.0 above.1 in
+      let inner = Contains-from_falling (2 ^ depth - 1) above.0 fresh.0 in
+      let child = Contains-from_map (λ child. record { by = node_name depth batches (suc epoch) child; gives = Node above.0 (suc epoch) }) (kept_children depth batches (suc epoch) above.0) pair above.2 in
+      let kept = Contains-from_filter (some_leaf_below depth (kept_leaves (holders_at depth batches (suc epoch - 1)) (holders_at depth batches (suc epoch)))) (2 * above.0 ∷ (2 * above.0 + 1) ∷ []) child.0 child.1 in
+      subst (λ (pair : Wrap). Reached pair.gives) child.2
+      (child_reached epoch above.0 child.0 (subst (λ before. is_fresh depth (holders_at depth batches before) (holders_at depth batches (suc epoch)) above.0 ≡ true) (omega arith) fresh.1) inner.0 inner.1 kept.0
+      (subst (λ (pair : Wrap). Reached pair.by) (sym child.2) by))
+
+  -- the traffic key under the key of the root
+  root_reached : (epoch : ℕ) → suc epoch ≤ length batches → HadLeafBelow depth batches coalition 1 (suc epoch) → HasMember depth batches coalition (suc epoch)
+  root_reached epoch within stood =
+      let fresh : (at : ℕ) → is_fresh depth (holders_at depth batches at) (holders_at depth batches (suc at)) 1 ≡ true = λ at. or_left (eqb 1 1) (some_leaf_below depth (changed_leaves (holders_at depth batches at) (holders_at depth batches (suc at))) 1) (eq-eqb 1 1 refl) in
+      let key : stood.epoch ≡ suc epoch = own_epoch stood.epoch fresh stood.begun ∙ stood.key in
+      record {
+        m = stood.m;
+        ours = stood.ours;
+        within = within;
+        member = member_at (holders_at depth batches (suc epoch)) stood.m stood.leaf (omega (arith, stood.low, length-holders_of depth (take (suc epoch) batches)))
+            (subst (λ at. is_held_by stood.m (get_or (holders_at depth batches at) stood.leaf None) ≡ true) key stood.held);
+      }
+    where
+      own_epoch : (at : ℕ) → ((at : ℕ) → is_fresh depth (holders_at depth batches at) (holders_at depth batches (suc at)) 1 ≡ true) → 1 ≤ at → at ≡ unwrap_or (last_change depth batches at 1) 0
+      own_epoch zero fresh begun = absurd (omega (arith, begun))
+      own_epoch (suc at) fresh begun = sym (ap (λ last. unwrap_or last 0) (last_fresh depth batches at 1 (fresh at)))
+
+  wraps_reached : (epoch : ℕ) (stayed : Bool) (pair : Wrap) → suc epoch ≤ length batches → Contains (cond stayed (node_wraps depth batches (suc epoch) ++ record { by = Node 1 (suc epoch); gives = Traffic (suc epoch) } ∷ []) []) pair → Reached pair.by → Reached pair.gives
+  wraps_reached epoch false pair within c by = absurd (no_item pair c)
+  wraps_reached epoch true pair within c by = elim (Contains-push_cases (node_wraps depth batches (suc epoch)) (record { by = Node 1 (suc epoch); gives = Traffic (suc epoch) }) pair c) [
+    | inl node ↦ node_reached epoch pair node by
+    | inr root ↦ subst (λ (pair : Wrap). Reached pair.gives) root (root_reached epoch within (subst (λ (pair : Wrap). Reached pair.by) (sym root) by))
+  ]
+
+  wrap_reached : (epoch : ℕ) (pair : Wrap) → 1 ≤ epoch → epoch ≤ length batches → Contains (wraps_at depth batches epoch) pair → Reached pair.by → Reached pair.gives
+  unfolding wraps_at
+  wrap_reached zero pair begun within c by = absurd (omega (arith, begun))
+  wrap_reached (suc epoch) pair begun within c by = wraps_reached epoch (stayed_at depth batches (suc epoch)) pair within c by
+
+  pair_reached : (pair : Wrap) → Contains (world depth batches) pair → Reached pair.by → Reached pair.gives
+  pair_reached pair c by =
+      let at = Contains-from_flat_map (pairs_at depth batches) (epochs_of batches) pair c in
+      let bounds = Contains-from_range 1 (length batches) at.0 at.1 in
+      elim (Contains-append_cases (wraps_at depth batches at.0) _ pair at.2) [
+        | inl wrap ↦ wrap_reached at.0 pair bounds.0 (omega (arith, bounds.1)) wrap by
+        | inr told ↦ (
+            let to = Contains-from_flat_map (λ m. told_pairs m (keys_told depth batches at.0 m)) (members_at depth batches at.0) pair told in
+            reply_reached at.0 to.0 pair at.1 to.1 to.2 by
+            )
+      ]
+
+  pub all_reached : (goal : KeyName) → CanDerive (holdings depth batches coalition) (world depth batches) goal → IsReached depth batches coalition goal
+  all_reached goal h = each_derived (holdings depth batches coalition) (world depth batches) Reached held_reached pair_reached goal h
+
+pub no_others : (depth : ℕ) (batches : List (List Change)) (epoch : ℕ) (others : List Name) → list_any (is_member (holders_at depth batches epoch)) others ≡ false → CanDerive (holdings depth batches others) (world depth batches) (Traffic epoch) → ⊥
+no_others depth batches epoch others none h =
+    let was = all_reached depth batches others (Traffic epoch) h in
+    false≢true (sym none ∙ passes_in (is_member (holders_at depth batches epoch)) others was.m was.ours was.member)
+
+pub nobody_yet : (depth : ℕ) (batches : List (List Change)) (epoch : ℕ) (anybody : List Name) → length batches < epoch → CanDerive (holdings depth batches anybody) (world depth batches) (Traffic epoch) → ⊥
+nobody_yet depth batches epoch anybody later h =
+    let was = all_reached depth batches anybody (Traffic epoch) h in
+    omega (arith, later, was.within)

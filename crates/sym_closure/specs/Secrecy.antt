@@ -1,0 +1,108 @@
+-- Who can derive which key (forward and backward access control, RFC 6407 section 7.4), and what a history has sent.
+use Rattle.std.specs.Prelude.{◌≡◌, ℕ, ◌+◌, ◌^◌, ◌<◌, ◌≤◌, true, false, List, ◌∷◌, ◌++◌, length, Contains, None, slice_index_or}
+use Rattle.std.specs.List.{list_any}
+use Rattle.std.specs.Option.{unwrap_or}
+use Rattle.group_terms.specs.Names.{Name}
+use Rattle.group_terms.specs.Positions.{is_below}
+use Rattle.group_terms.specs.declared.changes.Change.{Change}
+use Rattle.group_terms.specs.declared.keys.KeyName.{KeyName}
+use Rattle.group_terms.specs.declared.keys.KeyName.TheVariants.{Node, Traffic, Phase}
+use Rattle.group_model.specs.declared.entries.Entry.{Entry}
+use Rattle.group_model.specs.declared.entries.SentReply.{SentReply}
+use Rattle.group_model.specs.declared.entries.Asked.TheVariants.{Derive}
+use Rattle.group_model.specs.declared.entries.Answer.TheVariants.{Derived}
+use Rattle.group_model.specs.Places.{is_held_by, is_member, holders_at}
+use Rattle.group_model.specs.Fresh.{last_change}
+use Rattle.group_model.specs.Wraps.{wraps_at}
+use Rattle.group_model.specs.Groups.{depth_after, batches_after}
+use Rattle.group_model.specs.Derivations.{CanDerive, replies_sent, held_names, pairs_sent}
+use Rattle.sym_closure.specs.Firsts.{AreAmong}
+use Rattle.sym_closure.specs.Worlds.{epochs_of, keys_told, world, holdings, wraps_since}
+
+module _ (depth : ℕ) (batches : List (List Change)) where
+  -- No coalition derives the traffic key of an epoch at which none of them is a member, from all that they can ever be given, at epochs
+  -- before and after it, by all that can ever be sent.
+  abbrev pub NoOthersDerive : Type 0
+  NoOthersDerive =
+      (epoch : ℕ) (coalition : List Name) → list_any (is_member (holders_at depth batches epoch)) coalition ≡ false
+      → CanDerive (holdings depth batches coalition) (world depth batches) (Traffic epoch) → ⊥
+
+  -- And none derives that of an epoch to come.
+  abbrev pub NobodyDerivesYet : Type 0
+  NobodyDerivesYet =
+      (epoch : ℕ) (coalition : List Name) → length batches < epoch
+      → CanDerive (holdings depth batches coalition) (world depth batches) (Traffic epoch) → ⊥
+
+  -- one of a coalition had a leaf below v at an epoch at which v had its key of another epoch
+  pub record HadLeafBelow (coalition : List Name) (v made : ℕ) : Type 0 where
+    pub m : Name
+    pub ours : Contains coalition m
+    pub epoch : ℕ
+    pub begun : 1 ≤ epoch
+    pub leaf : ℕ
+    pub low : leaf < 2 ^ depth
+    pub held : is_held_by m (slice_index_or (holders_at depth batches epoch) leaf None) ≡ true
+    pub below : is_below depth v (2 ^ depth + leaf) ≡ true
+    pub key : unwrap_or (last_change depth batches epoch v) 0 ≡ made
+
+  -- one of them is a member of an epoch of the list
+  pub record HasMember (coalition : List Name) (epoch : ℕ) : Type 0 where
+    pub m : Name
+    pub ours : Contains coalition m
+    pub within : epoch ≤ length batches
+    pub member : is_member (holders_at depth batches epoch) m ≡ true
+
+  -- the keys that a coalition reaches: those of positions above their leaves, the traffic keys of their epochs, and their phase 1 keys
+  abbrev pub IsReached : List Name → KeyName → Type 0
+  IsReached coalition (Node v made) = HadLeafBelow coalition v made
+  IsReached coalition (Traffic made) = HasMember coalition made
+  IsReached coalition (Phase m) = Contains coalition m
+
+  -- A coalition derives no key but those that it reaches.
+  abbrev pub NoOthersReach : Type 0
+  NoOthersReach = (coalition : List Name) (name : KeyName) → CanDerive (holdings depth batches coalition) (world depth batches) name → IsReached coalition name
+
+  -- m is a member at each epoch from one to another, both included
+  abbrev pub IsMemberThrough : ℕ → ℕ → Name → Type 0
+  IsMemberThrough from to m = (epoch : ℕ) → from ≤ epoch → epoch ≤ to → is_member (holders_at depth batches epoch) m ≡ true
+
+  -- A member at each epoch from one to another derives the traffic key of the second from what it may be told at the first, by the
+  -- encryptions of the epochs after the first.
+  abbrev pub MembersDerive : Type 0
+  MembersDerive =
+      (from to : ℕ) (m : Name) → from ≤ to → to ≤ length batches → IsMemberThrough from to m
+      → CanDerive (keys_told depth batches from m) (wraps_since depth batches from to) (Traffic to)
+
+-- said of a history, and of the batches that it leaves
+module _ (entries : List Entry) where
+  -- The encryptions of each epoch were sent.
+  abbrev pub SendsItsWraps : Type 0
+  SendsItsWraps =
+      (epoch : ℕ) → Contains (epochs_of (batches_after entries)) epoch
+      → AreAmong (wraps_at (depth_after entries) (batches_after entries) epoch) (pairs_sent entries)
+
+  -- All that was sent, and all that anybody was given, is among what can ever be.
+  pub record IsPartOfWorld : Type 0 where
+    pub sent : AreAmong (pairs_sent entries) (world (depth_after entries) (batches_after entries))
+    pub held : (coalition : List Name) → AreAmong (held_names entries coalition) (holdings (depth_after entries) (batches_after entries) coalition)
+
+  -- From all that it was given, and all that was sent, no coalition derives the traffic key of an epoch at which none of them is a member.
+  abbrev pub NoOthersDeriveFrom : Type 0
+  NoOthersDeriveFrom =
+      (epoch : ℕ) (coalition : List Name) → list_any (is_member (holders_at (depth_after entries) (batches_after entries) epoch)) coalition ≡ false
+      → CanDerive (held_names entries coalition) (pairs_sent entries) (Traffic epoch) → ⊥
+
+  -- A member that was sent a reply derives from its keys the traffic key of each epoch through which it stayed a member since.
+  abbrev pub RepliedMembersDerive : Type 0
+  RepliedMembersDerive =
+      (reply : SentReply) (epoch : ℕ) → Contains (replies_sent entries) reply → reply.says.keyed_epoch ≤ epoch → epoch ≤ length (batches_after entries)
+      → IsMemberThrough (depth_after entries) (batches_after entries) reply.says.keyed_epoch epoch reply.says.member
+      → CanDerive reply.says.names (wraps_since (depth_after entries) (batches_after entries) reply.says.keyed_epoch epoch) (Traffic epoch)
+
+  -- A request whether some names derive the traffic key of an epoch is answered yes only where that epoch was made before, and one of
+  -- them is a member of it.
+  abbrev pub YesIsOfMembers : Type 0
+  YesIsOfMembers =
+      (before later : List Entry) (entry : Entry) (epoch : ℕ) (names : List Name) → entries ≡ before ++ entry ∷ later
+      → entry.asked ≡ Derive epoch names → entry.answer ≡ Derived true
+      → HasMember (depth_after before) (batches_after before) names epoch

@@ -1,0 +1,42 @@
+//! Who can derive which key, said of every list of batches and of every history.
+ghost use Rattle.std.specs.Prelude.{ℕ, ◌≤◌, List, take};
+ghost use Rattle.group_terms.specs.Names.{Name};
+ghost use Rattle.group_terms.specs.declared.changes.Change.{Change};
+ghost use Rattle.group_model.specs.declared.entries.Entry.{Entry};
+ghost use Rattle.group_model.specs.Places.{IsValid};
+ghost use Rattle.group_model.specs.Legal.{IsLegalHistory};
+ghost use Rattle.sym_closure.specs.Firsts.{AreAmong};
+ghost use Rattle.sym_closure.specs.Worlds.{world, holdings};
+ghost use Rattle.sym_closure.specs.Secrecy.{NoOthersDerive, NobodyDerivesYet, NoOthersReach, MembersDerive, SendsItsWraps, IsPartOfWorld, NoOthersDeriveFrom, RepliedMembersDerive, YesIsOfMembers};
+
+/// No coalition derives the traffic key of an epoch at which none of them is a member, nor that of an epoch to come; nor any key of the
+/// tree but those above their leaves.
+pub fn no_others_derive()
+    ensures traffic { (depth : ℕ) (batches : List (List Change)) → NoOthersDerive depth batches }
+    ensures to_come { (depth : ℕ) (batches : List (List Change)) → NobodyDerivesYet depth batches }
+    ensures reached { (depth : ℕ) (batches : List (List Change)) → NoOthersReach depth batches }
+{}
+
+/// A member derives the traffic key of each epoch through which it stayed a member, from what it may be told at an earlier one.
+pub fn members_derive()
+    ensures { (depth : ℕ) (batches : List (List Change)) → 1 ≤ depth → IsValid depth batches → MembersDerive depth batches }
+{}
+
+/// What can be sent and given over the first epochs of a list is among what can be over all of them.
+pub fn a_longer_list_has_a_larger_world()
+    ensures sent { (depth n : ℕ) (batches : List (List Change)) → AreAmong (world depth (take n batches)) (world depth batches) }
+    ensures held { (depth n : ℕ) (batches : List (List Change)) (coalition : List Name) → AreAmong (holdings depth (take n batches) coalition) (holdings depth batches coalition) }
+{}
+
+/// A history has sent the encryptions of its batches, and nothing that its batches do not have.
+pub fn a_history_is_part_of_its_world()
+    ensures wraps { (entries : List Entry) → IsLegalHistory entries → SendsItsWraps entries }
+    ensures part { (entries : List Entry) → IsLegalHistory entries → IsPartOfWorld entries }
+{}
+
+/// From what a history gave and sent others derive nothing; members that were sent a reply do; and what it answers says no more.
+pub fn a_history_serves_its_members_alone()
+    ensures others { (entries : List Entry) → IsLegalHistory entries → NoOthersDeriveFrom entries }
+    ensures members { (entries : List Entry) → IsLegalHistory entries → RepliedMembersDerive entries }
+    ensures yes { (entries : List Entry) → IsLegalHistory entries → YesIsOfMembers entries }
+{}
