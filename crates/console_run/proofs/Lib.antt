@@ -3,8 +3,8 @@ pub mod CutLemmas
 pub mod DeriveLemmas
 pub mod EndLemmas
 pub mod ErrorLemmas
-pub mod FitLemmas
 pub mod KnownLemmas
+pub mod LegalLemmas
 pub mod StandLemmas
 pub mod StepLemmas
 pub mod StopLemmas

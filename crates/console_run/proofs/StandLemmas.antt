@@ -19,7 +19,7 @@ use Rattle.group_model.specs.declared.entries.PushPair.{PushPair}
 use Rattle.group_model.specs.declared.entries.Asked.TheVariants.{Create}
 use Rattle.group_model.specs.declared.entries.Answer.TheVariants.{Opened}
 use Rattle.console_run.specs.Stands.{HasRoom, Stands}
-use Rattle.console_run.proofs.FitLemmas.{leavers_few, Fits-join, Fits-leave, Fits-none, join_room, leave_room}
+use Rattle.group_model.proofs.QueueLemmas.{leavers_few, Fits-join, Fits-leave, Fits-none, join_room, leave_room}
 
 -- the holders at the present epoch are those after all batches
 pub holders_at-present : (depth : ℕ) (batches : List (List Change)) (epoch : ℕ) → epoch ≡ length batches → holders_at depth batches epoch ≡ holders_of depth batches

@@ -3,6 +3,10 @@ ghost use Rattle.std.specs.Prelude.{◌≡◌, ◌≤◌, ◌⊎◌, ℕ, [], No
 ghost use Rattle.std.specs.Io.KnownBytes.{Appends};
 ghost use Rattle.gd_edges.specs.Faults.{Rose};
 ghost use Rattle.script_text.specs.Report.{end_text};
+ghost use Rattle.group_model.specs.Places.{IsValid};
+ghost use Rattle.group_model.specs.Groups.{depth_after, batches_after};
+ghost use Rattle.group_model.specs.Legal.{IsLegalHistory};
+ghost use Rattle.sym_closure.specs.Secrecy.{NoOthersDerive, NobodyDerivesYet, SendsItsWraps, IsPartOfWorld, NoOthersDeriveFrom, RepliedMembersDerive, YesIsOfMembers};
 ghost use Rattle.console_run.specs.Words.{depth_of};
 ghost use Rattle.console_run.specs.Clauses.{TellsScript, IsWholeOf, IsStoppedOf, IsLostOf, IsUnputOf, IsOutOfMemory, AppendsPart, out_text};
 
@@ -11,9 +15,12 @@ use crate::runs::Run;
 use crate::stops::Stop;
 use crate::words::read_words;
 use gd_edges::{Failed, Sink, Source};
-use group_model::{Entry, List, NoMemory};
+use group_model::{Entry, List, NoMemory, a_history_has_valid_batches};
 use script_text::end_line;
 use std::alloc::Global;
+use sym_closure::{
+    a_history_is_part_of_its_world, a_history_serves_its_members_alone, no_others_derive,
+};
 
 /// What is left of a run: its status, the number of the line that ended it, and the history of its group.
 ///
@@ -37,6 +44,10 @@ pub struct Finished {
 /// from its start, with the report of all that was done before the last line that was begun; the end line would be that of the
 /// status that was due. At status 5 the end line is missing where there was no memory for it, or where the report of the last
 /// entry found none.
+///
+/// Whatever the status, the history is a legal one, and no coalition derives the traffic key of an epoch at which none of them is a
+/// member: not from all that it gave and sent, nor from all that its batches can ever give and send. Each member that was sent a
+/// reply derives from that the traffic keys of the epochs through which it stays, by the encryptions that were sent since.
 pub fn console<S: Source, K: Sink>(
     alloc: Global,
     words: &[String],
@@ -63,7 +74,20 @@ pub fn console<S: Source, K: Sink>(
     ensures other_words { depth_of (map string_bytes words.now) ≡ None → (result.history ≡ []) × (script.new ≡ script.old) × ((result.status ≡ 1) ⊎ (4 ≤ result.status)) }
     ensures other_unput { depth_of (map string_bytes words.now) ≡ None → result.status ≡ 4 → AppendsPart (K.written out.old) (K.written out.new) (end_text 1 0) }
     ensures other_memory { depth_of (map string_bytes words.now) ≡ None → result.status ≡ 5 → Appends (K.written out.old) (K.written out.new) [] }
+    ensures legal { IsLegalHistory result.history }
+    ensures valid { IsValid (depth_after result.history) (batches_after result.history) }
+    ensures secrecy { NoOthersDerive (depth_after result.history) (batches_after result.history) }
+    ensures to_come { NobodyDerivesYet (depth_after result.history) (batches_after result.history) }
+    ensures world { IsPartOfWorld result.history }
+    ensures others { NoOthersDeriveFrom result.history }
+    ensures wraps { SendsItsWraps result.history }
+    ensures members { RepliedMembersDerive result.history }
+    ensures yes { YesIsOfMembers result.history }
 {
+    a_history_has_valid_batches();
+    no_others_derive();
+    a_history_is_part_of_its_world();
+    a_history_serves_its_members_alone();
     match read_words(words) {
         Some(depth) => run_script(alloc, depth, script, out),
         None => end(alloc, 1, 0, List::new(alloc), out),
