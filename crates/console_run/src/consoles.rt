@@ -45,9 +45,11 @@ pub struct Finished {
 /// status that was due. At status 5 the end line is missing where there was no memory for it, or where the report of the last
 /// entry found none.
 ///
-/// Whatever the status, the history is a legal one, and no coalition derives the traffic key of an epoch at which none of them is a
-/// member: not from all that it gave and sent, nor from all that its batches can ever give and send. Each member that was sent a
-/// reply derives from that the traffic keys of the epochs through which it stays, by the encryptions that were sent since.
+/// Whatever the status, the history is a legal one. No coalition derives the traffic key of an epoch at which none of them is a
+/// member, nor that of an epoch to come: not from their phase 1 keys, what the history gave them and all that it sent, nor from all that
+/// its batches can ever give them and send. Each member that was sent a reply derives from that the traffic keys of the epochs through
+/// which it stays, by the encryptions that were sent since. A question whether names derive a traffic key is answered yes only for a
+/// member of that epoch.
 pub fn console<S: Source, K: Sink>(
     alloc: Global,
     words: &[String],

@@ -1,4 +1,4 @@
-//! What the definitions mean, said of every list of batches.
+//! What the definitions mean, said of lists of batches and of histories.
 ghost use Rattle.std.specs.Prelude.{◌≡◌, ℕ, ◌+◌, ◌^◌, ◌<◌, List, [], ◌∷◌, ◌++◌, length, Some, ◌&&◌, ◌||◌, not, true, if◌then◌else◌};
 ghost use Rattle.std.specs.List.{list_any};
 ghost use Rattle.group_terms.specs.Names.{Name, same_name};
@@ -28,7 +28,7 @@ pub fn places_stay_while_members_stay()
         place_in depth (holders_at depth batches (epoch + 1)) m ≡ place_in depth (holders_at depth batches epoch) m }
 {}
 
-/// After a batch its joiners are members, its leavers are none, and everybody else is one who was one before.
+/// After a batch of a valid list its joiners are members, its leavers are none, and anybody else is one exactly where it was one before.
 pub fn a_batch_says_who_is_a_member()
     ensures { (depth : ℕ) (batches : List (List Change)) (batch : List Change) (m : Name) → IsValid depth (batches ++ batch ∷ []) →
         is_member (holders_of depth (batches ++ batch ∷ [])) m
@@ -42,7 +42,7 @@ pub fn a_batch_that_wraps_uses_two_numbers()
         ≡ sequence_at depth batches (length batches) + (if is_nil (wraps_at depth (batches ++ batch ∷ []) (length batches + 1)) then 0 else 2) }
 {}
 
-/// The batches of a history are a valid list: what waits always fits the tree.
+/// The batches of a legal history are a valid list: what waits always fits the tree.
 pub fn a_history_has_valid_batches()
     ensures { (entries : List Entry) → IsLegalHistory entries → IsValid (depth_after entries) (batches_after entries) }
 {}

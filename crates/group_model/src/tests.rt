@@ -16,7 +16,12 @@ fn histories_are_as_key_servers_show_them(rt: HostRuntime) -> Result<(), Fail> {
         "members 4 at 4 5 6 7 last 1 1 1 1 1 1 1 - wraps",
         "members 3 at - 5 6 7 last 2 2 1 2 1 1 1 - wraps 5.1 2.2, 2.2 1.2, 3.1 1.2, 1.2 traffic.2,",
     ];
-    for (joins, leaves, epochs) in [("abc", "b", three), ("abcd", "a", four)] {
+    let empty = [
+        "members 0 at - - - - last - - - - - - - - wraps",
+        "members 3 at 4 5 6 - last 1 1 1 1 1 1 - - wraps",
+        "members 3 at 4 5 6 - last 2 1 1 1 1 1 - - wraps 2.1 1.2, 3.1 1.2, 1.2 traffic.2,",
+    ];
+    for (joins, leaves, epochs) in [("abc", "b", three), ("abcd", "a", four), ("abc", "", empty)] {
         let mut history = History::new(alloc, 2);
         add(&rt, alloc, &mut history, "", joins)?;
         add(&rt, alloc, &mut history, leaves, "")?;

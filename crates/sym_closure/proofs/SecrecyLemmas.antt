@@ -53,9 +53,9 @@ module _ (depth : ℕ) (batches : List (List Change)) (coalition : List Name) wh
   Reached = IsReached depth batches coalition
 
   -- what one of them is told is reached
-  path_reached : (m : Name) (epoch : ℕ) (name : KeyName) → Contains coalition m → 1 ≤ epoch → (at : Option ℕ) → place_in depth (holders_at depth batches epoch) m ≡ at → Contains (unwrap_or (option_map (λ leaf. map (node_name depth batches epoch) (upwards depth leaf)) at) []) name → Reached name
-  path_reached m epoch name ours begun None at c = absurd (no_item name c)
-  path_reached m epoch name ours begun (Some leaf) at c =
+  path_reached : (m : Name) (epoch : ℕ) (name : KeyName) → Contains coalition m → 1 ≤ epoch → epoch ≤ length batches → (at : Option ℕ) → place_in depth (holders_at depth batches epoch) m ≡ at → Contains (unwrap_or (option_map (λ leaf. map (node_name depth batches epoch) (upwards depth leaf)) at) []) name → Reached name
+  path_reached m epoch name ours begun within None at c = absurd (no_item name c)
+  path_reached m epoch name ours begun within (Some leaf) at c =
       let found = Contains-from_map (node_name depth batches epoch) (upwards depth leaf) name c in
       let place = place_found depth (holders_at depth batches epoch) m leaf at in
       subst Reached found.2 (record {
@@ -63,6 +63,7 @@ module _ (depth : ℕ) (batches : List (List Change)) (coalition : List Name) wh
         ours = ours;
         epoch = epoch;
         begun = begun;
+        within = within;
         leaf = place.0;
         low = elim (cases_lt place.0 (length (holders_at depth batches epoch))) [
           | inl low ↦ omega (arith, low, length-holders_of depth (take epoch batches))
@@ -77,7 +78,7 @@ module _ (depth : ℕ) (batches : List (List Change)) (coalition : List Name) wh
   told_reached m epoch name ours within member c =
       let bounds = Contains-from_range 1 (length batches) epoch within in
       elim (Contains-push_cases _ (Traffic epoch) name c) [
-        | inl path ↦ path_reached m epoch name ours bounds.0 (place_in depth (holders_at depth batches epoch) m) refl path
+        | inl path ↦ path_reached m epoch name ours bounds.0 (omega (arith, bounds.1)) (place_in depth (holders_at depth batches epoch) m) refl path
         | inr traffic ↦ subst Reached traffic (record { m = m; ours = ours; within = omega (arith, bounds.1); member = member })
       ]
 
@@ -111,14 +112,15 @@ module _ (depth : ℕ) (batches : List (List Change)) (coalition : List Name) wh
       ]
 
   -- the new key of a position under the key of a child
-  child_reached : (epoch v child : ℕ) → is_fresh depth (holders_at depth batches epoch) (holders_at depth batches (suc epoch)) v ≡ true → 1 ≤ v → v ≤ 2 ^ depth - 1 → Contains (2 * v ∷ (2 * v + 1) ∷ []) child → HadLeafBelow depth batches coalition child (unwrap_or (last_change depth batches (suc epoch) child) 0) → HadLeafBelow depth batches coalition v (suc epoch)
-  child_reached epoch v child fresh positive inner c stood =
+  child_reached : (epoch v child : ℕ) → suc epoch ≤ length batches → is_fresh depth (holders_at depth batches epoch) (holders_at depth batches (suc epoch)) v ≡ true → 1 ≤ v → v ≤ 2 ^ depth - 1 → Contains (2 * v ∷ (2 * v + 1) ∷ []) child → HadLeafBelow depth batches coalition child (unwrap_or (last_change depth batches (suc epoch) child) 0) → HadLeafBelow depth batches coalition v (suc epoch)
+  child_reached epoch v child within fresh positive inner c stood =
       let same = same_below depth batches child stood.leaf stood.low stood.below (suc epoch) stood.epoch (sym stood.key) in
       record {
         m = stood.m;
         ours = stood.ours;
         epoch = suc epoch;
         begun = omega arith;
+        within = within;
         leaf = stood.leaf;
         low = stood.low;
         held = ap (is_held_by stood.m) same ∙ stood.held;
@@ -127,15 +129,15 @@ module _ (depth : ℕ) (batches : List (List Change)) (coalition : List Name) wh
       }
 
   -- an encryption between two keys of the tree
-  node_reached : (epoch : ℕ) (pair : Wrap) → Contains (node_wraps depth batches (suc epoch)) pair → Reached pair.by → Reached pair.gives
-  node_reached epoch pair c by =
+  node_reached : (epoch : ℕ) (pair : Wrap) → suc epoch ≤ length batches → Contains (node_wraps depth batches (suc epoch)) pair → Reached pair.by → Reached pair.gives
+  node_reached epoch pair within c by =
       let above = Contains-from_flat_map (wraps_of depth batches (suc epoch)) (filter (is_fresh depth (holders_at depth batches (suc epoch - 1)) (holders_at depth batches (suc epoch))) (falling (2 ^ depth - 1))) pair c in
       let fresh = Contains-from_filter (is_fresh depth (holders_at depth batches (suc epoch - 1)) (holders_at depth batches (suc epoch))) (falling (2 ^ depth - 1)) above.0 above.1 in
       let inner = Contains-from_falling (2 ^ depth - 1) above.0 fresh.0 in
       let child = Contains-from_map (λ child. record { by = node_name depth batches (suc epoch) child; gives = Node above.0 (suc epoch) }) (kept_children depth batches (suc epoch) above.0) pair above.2 in
       let kept = Contains-from_filter (some_leaf_below depth (kept_leaves (holders_at depth batches (suc epoch - 1)) (holders_at depth batches (suc epoch)))) (2 * above.0 ∷ (2 * above.0 + 1) ∷ []) child.0 child.1 in
       subst (λ (pair : Wrap). Reached pair.gives) child.2
-      (child_reached epoch above.0 child.0 (subst (λ before. is_fresh depth (holders_at depth batches before) (holders_at depth batches (suc epoch)) above.0 ≡ true) (omega arith) fresh.1) inner.0 inner.1 kept.0
+      (child_reached epoch above.0 child.0 within (subst (λ before. is_fresh depth (holders_at depth batches before) (holders_at depth batches (suc epoch)) above.0 ≡ true) (omega arith) fresh.1) inner.0 inner.1 kept.0
       (subst (λ (pair : Wrap). Reached pair.by) (sym child.2) by))
 
   -- the traffic key under the key of the root
@@ -158,7 +160,7 @@ module _ (depth : ℕ) (batches : List (List Change)) (coalition : List Name) wh
   wraps_reached : (epoch : ℕ) (stayed : Bool) (pair : Wrap) → suc epoch ≤ length batches → Contains (cond stayed (node_wraps depth batches (suc epoch) ++ record { by = Node 1 (suc epoch); gives = Traffic (suc epoch) } ∷ []) []) pair → Reached pair.by → Reached pair.gives
   wraps_reached epoch false pair within c by = absurd (no_item pair c)
   wraps_reached epoch true pair within c by = elim (Contains-push_cases (node_wraps depth batches (suc epoch)) (record { by = Node 1 (suc epoch); gives = Traffic (suc epoch) }) pair c) [
-    | inl node ↦ node_reached epoch pair node by
+    | inl node ↦ node_reached epoch pair within node by
     | inr root ↦ subst (λ (pair : Wrap). Reached pair.gives) root (root_reached epoch within (subst (λ (pair : Wrap). Reached pair.by) (sym root) by))
   ]
 

@@ -1,4 +1,4 @@
--- Lists in which nothing stands twice.
+-- Lists in which nothing stands twice, and lists whose items are in others.
 use Rattle.std.specs.Prelude.{◌≡◌, ◌⊎◌, List, [], ◌∷◌, ◌++◌, Contains}
 
 -- the items of a list that are not among those seen, each once, in the order in which they come first

@@ -33,41 +33,43 @@ module _ (depth : ℕ) (batches : List (List Change)) where
       (epoch : ℕ) (coalition : List Name) → length batches < epoch
       → CanDerive (holdings depth batches coalition) (world depth batches) (Traffic epoch) → ⊥
 
-  -- one of a coalition had a leaf below v at an epoch at which v had its key of another epoch
+  -- one of a coalition had a leaf at v or below it at an epoch of the list at which v had the key that it got at the epoch `made`
   pub record HadLeafBelow (coalition : List Name) (v made : ℕ) : Type 0 where
     pub m : Name
     pub ours : Contains coalition m
     pub epoch : ℕ
     pub begun : 1 ≤ epoch
+    pub within : epoch ≤ length batches
     pub leaf : ℕ
     pub low : leaf < 2 ^ depth
     pub held : is_held_by m (slice_index_or (holders_at depth batches epoch) leaf None) ≡ true
     pub below : is_below depth v (2 ^ depth + leaf) ≡ true
     pub key : unwrap_or (last_change depth batches epoch v) 0 ≡ made
 
-  -- one of them is a member of an epoch of the list
+  -- the list has this epoch, and one of them is a member of it
   pub record HasMember (coalition : List Name) (epoch : ℕ) : Type 0 where
     pub m : Name
     pub ours : Contains coalition m
     pub within : epoch ≤ length batches
     pub member : is_member (holders_at depth batches epoch) m ≡ true
 
-  -- the keys that a coalition reaches: those of positions above their leaves, the traffic keys of their epochs, and their phase 1 keys
+  -- the keys that a coalition reaches: those that the positions from their leaves up had while they had these leaves, the traffic keys of
+  -- their epochs, and their phase 1 keys
   abbrev pub IsReached : List Name → KeyName → Type 0
   IsReached coalition (Node v made) = HadLeafBelow coalition v made
   IsReached coalition (Traffic made) = HasMember coalition made
   IsReached coalition (Phase m) = Contains coalition m
 
   -- A coalition derives no key but those that it reaches.
-  abbrev pub NoOthersReach : Type 0
-  NoOthersReach = (coalition : List Name) (name : KeyName) → CanDerive (holdings depth batches coalition) (world depth batches) name → IsReached coalition name
+  abbrev pub DerivesOnlyReached : Type 0
+  DerivesOnlyReached = (coalition : List Name) (name : KeyName) → CanDerive (holdings depth batches coalition) (world depth batches) name → IsReached coalition name
 
   -- m is a member at each epoch from one to another, both included
   abbrev pub IsMemberThrough : ℕ → ℕ → Name → Type 0
   IsMemberThrough from to m = (epoch : ℕ) → from ≤ epoch → epoch ≤ to → is_member (holders_at depth batches epoch) m ≡ true
 
   -- A member at each epoch from one to another derives the traffic key of the second from what it may be told at the first, by the
-  -- encryptions of the epochs after the first.
+  -- encryptions of the epochs after the first, up to and with the second.
   abbrev pub MembersDerive : Type 0
   MembersDerive =
       (from to : ℕ) (m : Name) → from ≤ to → to ≤ length batches → IsMemberThrough from to m
@@ -81,7 +83,7 @@ module _ (entries : List Entry) where
       (epoch : ℕ) → Contains (epochs_of (batches_after entries)) epoch
       → AreAmong (wraps_at (depth_after entries) (batches_after entries) epoch) (pairs_sent entries)
 
-  -- All that was sent, and all that anybody was given, is among what can ever be.
+  -- All that was sent is among what can ever be sent, and all that a coalition was given among what it can ever be given.
   pub record IsPartOfWorld : Type 0 where
     pub sent : AreAmong (pairs_sent entries) (world (depth_after entries) (batches_after entries))
     pub held : (coalition : List Name) → AreAmong (held_names entries coalition) (holdings (depth_after entries) (batches_after entries) coalition)

@@ -7,17 +7,18 @@ ghost use Rattle.group_model.specs.Places.{IsValid};
 ghost use Rattle.group_model.specs.Legal.{IsLegalHistory};
 ghost use Rattle.sym_closure.specs.Firsts.{AreAmong};
 ghost use Rattle.sym_closure.specs.Worlds.{world, holdings};
-ghost use Rattle.sym_closure.specs.Secrecy.{NoOthersDerive, NobodyDerivesYet, NoOthersReach, MembersDerive, SendsItsWraps, IsPartOfWorld, NoOthersDeriveFrom, RepliedMembersDerive, YesIsOfMembers};
+ghost use Rattle.sym_closure.specs.Secrecy.{NoOthersDerive, NobodyDerivesYet, DerivesOnlyReached, MembersDerive, SendsItsWraps, IsPartOfWorld, NoOthersDeriveFrom, RepliedMembersDerive, YesIsOfMembers};
 
 /// No coalition derives the traffic key of an epoch at which none of them is a member, nor that of an epoch to come; nor any key of the
-/// tree but those above their leaves.
+/// tree but those that the positions from their leaves up had while they had these leaves.
 pub fn no_others_derive()
     ensures traffic { (depth : ℕ) (batches : List (List Change)) → NoOthersDerive depth batches }
     ensures to_come { (depth : ℕ) (batches : List (List Change)) → NobodyDerivesYet depth batches }
-    ensures reached { (depth : ℕ) (batches : List (List Change)) → NoOthersReach depth batches }
+    ensures reached { (depth : ℕ) (batches : List (List Change)) → DerivesOnlyReached depth batches }
 {}
 
-/// A member derives the traffic key of each epoch through which it stayed a member, from what it may be told at an earlier one.
+/// A member at each epoch from one to another derives the traffic key of the second from what it may be told at the first, by the
+/// encryptions since; in a valid list, and in a tree of more than one leaf.
 pub fn members_derive()
     ensures { (depth : ℕ) (batches : List (List Change)) → 1 ≤ depth → IsValid depth batches → MembersDerive depth batches }
 {}
@@ -28,13 +29,15 @@ pub fn a_longer_list_has_a_larger_world()
     ensures held { (depth n : ℕ) (batches : List (List Change)) (coalition : List Name) → AreAmong (holdings depth (take n batches) coalition) (holdings depth batches coalition) }
 {}
 
-/// A history has sent the encryptions of its batches, and nothing that its batches do not have.
+/// A history has sent the encryptions of its batches, and has sent and given nothing that these cannot send and give.
 pub fn a_history_is_part_of_its_world()
     ensures wraps { (entries : List Entry) → IsLegalHistory entries → SendsItsWraps entries }
     ensures part { (entries : List Entry) → IsLegalHistory entries → IsPartOfWorld entries }
 {}
 
-/// From what a history gave and sent others derive nothing; members that were sent a reply do; and what it answers says no more.
+/// From what a history gave them and what it sent, no coalition derives the traffic key of an epoch at which none of them is a member.
+/// A member that was sent a reply derives those of the epochs through which it stays, by the encryptions since. The question
+/// whether names derive one is answered yes only for a member.
 pub fn a_history_serves_its_members_alone()
     ensures others { (entries : List Entry) → IsLegalHistory entries → NoOthersDeriveFrom entries }
     ensures members { (entries : List Entry) → IsLegalHistory entries → RepliedMembersDerive entries }
