@@ -13,6 +13,8 @@ pub use laws::{
 
 mod closures;
 mod derivations;
+#[cfg(test)]
+mod group_tests;
 mod histories;
 mod laws;
 mod once;

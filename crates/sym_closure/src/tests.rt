@@ -137,19 +137,19 @@ fn node(number: u16, made: u32) -> Result<KeyName, Fail> {
     Ok(KeyName::Node { id, made })
 }
 
-fn named(text: &[u8]) -> Result<MemberName, Fail> {
+pub(crate) fn named(text: &[u8]) -> Result<MemberName, Fail> {
     Ok(MemberName::read(text).ok_or("a name")?)
 }
 
 /// Numbers drawn by a linear congruence.
 #[derive(Drop)]
-struct Draws {
-    state: u64,
+pub(crate) struct Draws {
+    pub(crate) state: u64,
 }
 
 impl Draws {
     /// A number from 1 to 12.
-    fn number(&mut self) -> u16 {
+    pub(crate) fn number(&mut self) -> u16 {
         self.state = self
             .state
             .wrapping_mul(6_364_136_223_846_793_005)
