@@ -7,8 +7,8 @@ use std::alloc::Global;
 use std::process::Abort;
 use std::test::Fail;
 
-/// Drawn groups: of each epoch, those who are members then derive its traffic key from all that they are ever told by all that is ever
-/// sent; the others all together do not.
+/// Drawn groups: of each epoch, those who are members then derive its traffic key, each from what it was told when it came in, by the
+/// encryptions; the others all together do not, from all that they are ever told by all that is ever sent.
 #[test]
 fn members_alone_derive_the_traffic_key_of_their_epoch(rt: HostRuntime) -> Result<(), Fail> {
     let alloc = rt.alloc();
@@ -73,23 +73,29 @@ fn check_group(
     names: &[MemberName],
     group: u8,
 ) -> Result<(), Fail> {
-    let pairs = world(alloc, history, names)?;
+    let sent = pairs_of(alloc, history, names, true)?;
+    let world = pairs_of(alloc, history, names, false)?;
     for epoch in 1..=history.epoch() {
-        let kept = is_for_members(alloc, history, epoch, names, pairs.as_slice())?;
+        let kept = is_for_members(alloc, history, epoch, names, &sent, &world)?;
         assert!(rt; kept, "epoch {epoch} of group {group}");
     }
     let next = history.epoch().saturating_add(1);
-    let early = derives(alloc, names, pairs.as_slice(), next)?;
+    let early = derives(alloc, names, &world, next)?;
     assert!(rt; !early, "after group {group}");
     Ok(())
 }
 
-/// All that a group can ever send: the encryptions of each epoch, and a reply to each of its members.
-fn world(alloc: Global, history: &History, names: &[MemberName]) -> Result<List<Wrap>, Fail> {
+/// The encryptions of each epoch, and a reply to each of its members, or only to those who came in with it.
+fn pairs_of(
+    alloc: Global,
+    history: &History,
+    names: &[MemberName],
+    only_new: bool,
+) -> Result<List<Wrap>, Fail> {
     let mut pairs = List::new(alloc);
     for epoch in 1..=history.epoch() {
         pairs.extend(history.wraps(alloc, epoch)?.as_slice())?;
-        add_replies(alloc, history, epoch, names, &mut pairs)?;
+        add_replies(alloc, history, epoch, names, only_new, &mut pairs)?;
     }
     Ok(pairs)
 }
@@ -99,12 +105,14 @@ fn add_replies(
     history: &History,
     epoch: u32,
     names: &[MemberName],
+    only_new: bool,
     pairs: &mut List<Wrap>,
 ) -> Result<(), Fail>
     requires { epoch ≤ length history.now.batches }
 {
     for member in names {
-        if history.is_member(epoch, member) {
+        let stayed = history.is_member(epoch.saturating_sub(1), member);
+        if history.is_member(epoch, member) && !(only_new && stayed) {
             add_reply(alloc, history, epoch, member, pairs)?;
         }
     }
@@ -130,13 +138,14 @@ fn add_reply(
     Ok(())
 }
 
-/// Whether each member of an epoch derives its traffic key, and the other names all together do not.
+/// Whether each member of an epoch derives its traffic key by what was sent, and the others all together do not by all that can be.
 fn is_for_members(
     alloc: Global,
     history: &History,
     epoch: u32,
     names: &[MemberName],
-    pairs: &[Wrap],
+    sent: &List<Wrap>,
+    world: &List<Wrap>,
 ) -> Result<bool, Fail>
     requires { epoch ≤ length history.now.batches }
 {
@@ -144,19 +153,24 @@ fn is_for_members(
     for member in names {
         if !history.is_member(epoch, member) {
             others.push(*member)?;
-        } else if !derives(alloc, &[*member], pairs, epoch)? {
+        } else if !derives(alloc, &[*member], sent, epoch)? {
             return Ok(false);
         }
     }
-    Ok(!derives(alloc, others.as_slice(), pairs, epoch)?)
+    Ok(!derives(alloc, others.as_slice(), world, epoch)?)
 }
 
 /// Whether names derive the traffic key of an epoch from their phase 1 keys, by pairs.
-fn derives(alloc: Global, names: &[MemberName], pairs: &[Wrap], epoch: u32) -> Result<bool, Fail> {
+fn derives(
+    alloc: Global,
+    names: &[MemberName],
+    pairs: &List<Wrap>,
+    epoch: u32,
+) -> Result<bool, Fail> {
     let mut have = List::new(alloc);
     for member in names {
         have.push(KeyName::Phase { member: *member })?;
     }
     let goal = KeyName::Traffic { made: epoch };
-    Ok(derive(alloc, have.as_slice(), pairs, &goal)?.is_some())
+    Ok(derive(alloc, have.as_slice(), pairs.as_slice(), &goal)?.is_some())
 }
