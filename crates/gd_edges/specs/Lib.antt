@@ -1,2 +1,3 @@
 pub mod Faults
+pub mod Signatures
 pub mod Texts

@@ -1,22 +1,30 @@
 //! The outside that octets come from and go to: what a source and a sink promise, objects in memory that fail at
-//! chosen calls, and std's readers and writers.
+//! chosen calls, and std's readers and writers; and who signs and who checks signatures.
 #![tactic(auto)]
 
 pub use faults::Failed;
+pub use signatures::{SigBytes, SignKind};
+pub use signers::Signer;
 pub use sinks::Sink;
 pub use sources::Source;
 pub use std_sinks::StdSink;
 pub use std_sources::StdSource;
+pub use test_signers::{TestSigner, TestVerifier, test_signatures_are_accepted};
 pub use text_sinks::TextSink;
 pub use text_sources::TextSource;
+pub use verifiers::Verifier;
 
 mod faults;
 mod schedules;
+mod signatures;
+mod signers;
 mod sinks;
 mod sources;
 mod std_sinks;
 mod std_sources;
+mod test_signers;
 #[cfg(test)]
 mod tests;
 mod text_sinks;
 mod text_sources;
+mod verifiers;

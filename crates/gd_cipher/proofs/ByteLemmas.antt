@@ -1,0 +1,34 @@
+-- What was computed over all bytes.
+use Rattle.std.proofs.Common.{◌≡◌, ℕ, ◌*◌, ◌/◌, ◌<◌, map, bit_xor, refl, ap, sym, ◌∙◌, get_or, arith}
+use Rattle.std.specs.List.{range_with_len}
+use Rattle.std.proofs.lemmas.List.FromFn.{get_or-map-range_with_len}
+use Rattle.gd_cipher.specs.Fields.{times_x, substitute, undo_substitute}
+
+-- two functions that give the same table give the same at each byte
+pub each_byte : (f g : ℕ → ℕ) → map f (range_with_len 0 256) ≡ map g (range_with_len 0 256) → (p : ℕ) → p < 256 → f p ≡ g p
+each_byte f g same p small =
+    sym (get_or-map-range_with_len f 0 256 p p 0 small (omega arith)) ∙ ap (λ table. get_or table p 0) same ∙ get_or-map-range_with_len g 0 256 p p 0 small (omega arith)
+
+substituted_table : map (λ p. undo_substitute (substitute p)) (range_with_len 0 256) ≡ map (λ p. p) (range_with_len 0 256)
+substituted_table = refl
+
+pub undo_substitute-substitute : (p : ℕ) → p < 256 → undo_substitute (substitute p) ≡ p
+undo_substitute-substitute = each_byte (λ p. undo_substitute (substitute p)) (λ p. p) substituted_table
+
+small_table : map (λ p. substitute p / 256) (range_with_len 0 256) ≡ map (λ p. 0) (range_with_len 0 256)
+small_table = refl
+
+pub substitute-small : (p : ℕ) → p < 256 → substitute p < 256
+substitute-small p small = omega (arith, each_byte (λ q. substitute q / 256) (λ q. 0) small_table p small)
+
+times_x-table : map times_x (range_with_len 0 256) ≡ map (λ p. bit_xor (p * 2) (p / 128 * 283)) (range_with_len 0 256)
+times_x-table = refl
+
+pub times_x-by_bits : (p : ℕ) → p < 256 → times_x p ≡ bit_xor (p * 2) (p / 128 * 283)
+times_x-by_bits = each_byte times_x (λ p. bit_xor (p * 2) (p / 128 * 283)) times_x-table
+
+times_x-small_table : map (λ p. times_x p / 256) (range_with_len 0 256) ≡ map (λ p. 0) (range_with_len 0 256)
+times_x-small_table = refl
+
+pub times_x-small : (p : ℕ) → p < 256 → times_x p < 256
+times_x-small p small = omega (arith, each_byte (λ q. times_x q / 256) (λ q. 0) times_x-small_table p small)

@@ -1,0 +1,25 @@
+-- The standard's examples (FIPS 197 appendices C.1 and C.3), so that a wrong constant or step in the definitions does not check.
+use Rattle.std.proofs.Common.{◌≡◌, List, ℕ, [], ◌∷◌, refl}
+use Rattle.std.specs.List.{range_with_len}
+use Rattle.gd_cipher.specs.Ciphers.{cipher, decipher}
+
+abbrev text : List ℕ
+text = 0x00 ∷ 0x11 ∷ 0x22 ∷ 0x33 ∷ 0x44 ∷ 0x55 ∷ 0x66 ∷ 0x77 ∷ 0x88 ∷ 0x99 ∷ 0xaa ∷ 0xbb ∷ 0xcc ∷ 0xdd ∷ 0xee ∷ 0xff ∷ []
+
+abbrev under_128 : List ℕ
+under_128 = 0x69 ∷ 0xc4 ∷ 0xe0 ∷ 0xd8 ∷ 0x6a ∷ 0x7b ∷ 0x04 ∷ 0x30 ∷ 0xd8 ∷ 0xcd ∷ 0xb7 ∷ 0x80 ∷ 0x70 ∷ 0xb4 ∷ 0xc5 ∷ 0x5a ∷ []
+
+abbrev under_256 : List ℕ
+under_256 = 0x8e ∷ 0xa2 ∷ 0xb7 ∷ 0xca ∷ 0x51 ∷ 0x67 ∷ 0x45 ∷ 0xbf ∷ 0xea ∷ 0xfc ∷ 0x49 ∷ 0x90 ∷ 0x4b ∷ 0x49 ∷ 0x60 ∷ 0x89 ∷ []
+
+pub cipher_of_16 : cipher (range_with_len 0 16) text ≡ under_128
+cipher_of_16 = refl
+
+pub cipher_of_32 : cipher (range_with_len 0 32) text ≡ under_256
+cipher_of_32 = refl
+
+pub decipher_of_16 : decipher (range_with_len 0 16) under_128 ≡ text
+decipher_of_16 = refl
+
+pub decipher_of_32 : decipher (range_with_len 0 32) under_256 ≡ text
+decipher_of_32 = refl

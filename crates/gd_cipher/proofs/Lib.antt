@@ -1,0 +1,16 @@
+pub mod ByteLemmas
+pub mod ChainLemmas
+pub mod CipherFacts
+pub mod ColumnLemmas
+pub mod ExpandLemmas
+pub mod MacLemmas
+pub mod MixLemmas
+pub mod RoundKeyLemmas
+pub mod RoundLemmas
+pub mod RunLemmas
+pub mod SealLemmas
+pub mod StateLemmas
+pub mod SumLemmas
+pub mod TableLemmas
+pub mod UndoLemmas
+pub mod WordLemmas

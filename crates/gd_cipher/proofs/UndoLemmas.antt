@@ -1,0 +1,164 @@
+-- Lists of so many bytes: what the steps of a round make of them, and that each step can be undone.
+use Rattle.std.proofs.Common.{◌≡◌, ℕ, suc, ◌+◌, ◌*◌, ◌%◌, ◌<◌, ◌≤◌, List, [], ◌∷◌, ◌++◌, map, length, take, drop, bit_xor, slice_index_or, All, refl, ap, sym, ◌∙◌, subst, arith, length-append, length-drop, suc-le-suc}
+use lib.Bits.{xor_assoc, xor_zero_r, xor_self}
+use Rattle.std.specs.List.{range_with_len}
+use Rattle.std.proofs.lemmas.Nat.{xor_of_8}
+use Rattle.std.proofs.lemmas.List.{length-map, length-take-le}
+use Rattle.std.proofs.lemmas.List.Elements.{All-append, All-cons, All-drop, All-map, All-nil, All-take}
+use Rattle.std.proofs.lemmas.List.FromFn.{fill_by_all, get_or-map-range_with_len}
+use Rattle.gd_cipher.specs.Fields.{substitute, undo_substitute}
+use Rattle.gd_cipher.specs.Blocks.{xor_all, sub_bytes, shift_rows, mix_columns, mix_column, undo_sub_bytes, undo_shift_rows, undo_mix_columns, combine}
+use Rattle.gd_cipher.proofs.ByteLemmas.{substitute-small, undo_substitute-substitute}
+use Rattle.gd_cipher.proofs.MixLemmas.{combine-small, undo_column}
+
+abbrev pub IsByte : ℕ → Type 0
+IsByte byte = byte < 256
+
+-- the list has n bytes
+pub record AreBytes (n : ℕ) (bytes : List ℕ) : Type 0 where
+  pub len : length bytes ≡ n
+  pub small : All IsByte bytes
+
+pub AreBytes-as : (m n : ℕ) (bytes : List ℕ) → m ≡ n → AreBytes m bytes → AreBytes n bytes
+AreBytes-as m n bytes same are = record { len = are.len ∙ same; small = are.small }
+
+pub AreBytes-append : (m n : ℕ) (these those : List ℕ) → AreBytes m these → AreBytes n those → AreBytes (m + n) (these ++ those)
+AreBytes-append m n these those first second = record {
+  len = omega (arith, length-append these those, first.len, second.len);
+  small = All-append IsByte these those first.small second.small;
+}
+
+pub AreBytes-part : (n from many : ℕ) (bytes : List ℕ) → from + many ≤ n → AreBytes n bytes → AreBytes many (take many (drop from bytes))
+AreBytes-part n from many bytes within are = record {
+  len = length-take-le many (drop from bytes) (omega (arith, within, are.len, length-drop from bytes));
+  small = All-take IsByte many (drop from bytes) (All-drop IsByte from bytes are.small);
+}
+
+-- ---- a key is added
+
+first_of : (byte : ℕ) (bytes : List ℕ) → All IsByte (byte ∷ bytes) → byte < 256
+first_of byte bytes small = small 0 0 (omega arith)
+
+rest_of : (byte : ℕ) (bytes : List ℕ) → All IsByte (byte ∷ bytes) → All IsByte bytes
+rest_of byte bytes small k d within = small (suc k) d (suc-le-suc within)
+
+xor_all-len : (these those : List ℕ) → length these ≡ length those → length (xor_all these those) ≡ length these
+xor_all-len [] those same = refl
+xor_all-len (x ∷ these) [] same = omega (arith, same)
+xor_all-len (x ∷ these) (y ∷ those) same =
+    let rest : length these ≡ length those = omega (arith, same) in
+    ap suc (xor_all-len these those rest)
+
+xor_all-small : (these those : List ℕ) → All IsByte these → All IsByte those → All IsByte (xor_all these those)
+xor_all-small [] those first second = All-nil IsByte
+xor_all-small (x ∷ these) [] first second = All-nil IsByte
+xor_all-small (x ∷ these) (y ∷ those) first second =
+    All-cons IsByte (bit_xor x y) (xor_all these those) (xor_of_8 x y (first_of x these first) (first_of y those second))
+    (xor_all-small these those (rest_of x these first) (rest_of y those second))
+
+pub AreBytes-xor_all : (n : ℕ) (these those : List ℕ) → AreBytes n these → AreBytes n those → AreBytes n (xor_all these those)
+AreBytes-xor_all n these those first second = record {
+  len = xor_all-len these those (first.len ∙ sym second.len) ∙ first.len;
+  small = xor_all-small these those first.small second.small;
+}
+
+xor_twice : (x y : ℕ) → bit_xor (bit_xor x y) y ≡ x
+xor_twice x y = xor_assoc x y y ∙ ap (bit_xor x) (xor_self y) ∙ xor_zero_r x
+
+xor_all-again : (these those : List ℕ) → length these ≡ length those → xor_all (xor_all these those) those ≡ these
+xor_all-again [] those same = refl
+xor_all-again (x ∷ these) [] same = absurd (omega (arith, same))
+xor_all-again (x ∷ these) (y ∷ those) same =
+    let rest : length these ≡ length those = omega (arith, same) in
+    λ i. xor_twice x y i ∷ xor_all-again these those rest i
+
+-- what was added once more is as it was
+pub xor_all-undone : (n : ℕ) (these those : List ℕ) → AreBytes n these → AreBytes n those → xor_all (xor_all these those) those ≡ these
+xor_all-undone n these those first second = xor_all-again these those (first.len ∙ sym second.len)
+
+-- ---- bytes are substituted
+
+AreBytes-map : (f : ℕ → ℕ) → ((byte : ℕ) → byte < 256 → f byte < 256) → (n : ℕ) (bytes : List ℕ) → AreBytes n bytes → AreBytes n (map f bytes)
+AreBytes-map f stays n bytes are = record {
+  len = length-map bytes f ∙ are.len;
+  small = All-map IsByte f bytes (λ k d within. stays (slice_index_or bytes k d) (are.small k d within));
+}
+
+pub AreBytes-substituted : (n : ℕ) (bytes : List ℕ) → AreBytes n bytes → AreBytes n (map substitute bytes)
+AreBytes-substituted = AreBytes-map substitute substitute-small
+
+map_back : (f g : ℕ → ℕ) → ((byte : ℕ) → byte < 256 → g (f byte) ≡ byte) → (bytes : List ℕ) → All IsByte bytes → map g (map f bytes) ≡ bytes
+map_back f g back [] small = refl
+map_back f g back (byte ∷ bytes) small = λ i. back byte (first_of byte bytes small) i ∷ map_back f g back bytes (rest_of byte bytes small) i
+
+pub sub_bytes-undone : (n : ℕ) (bytes : List ℕ) → AreBytes n bytes → undo_sub_bytes (sub_bytes bytes) ≡ bytes
+sub_bytes-undone n bytes are = map_back substitute undo_substitute undo_substitute-substitute bytes are.small
+
+-- ---- rows are shifted and columns mixed
+
+written_out : (state : List ℕ) → length state ≡ 16 → map (λ i. slice_index_or state i 0) (range_with_len 0 16) ≡ state
+written_out state len = sym (fill_by_all (λ i. slice_index_or state i 0) state 16 0 len (λ k small. refl))
+
+pub AreBytes-shift_rows : (state : List ℕ) → AreBytes 16 state → AreBytes 16 (shift_rows state)
+AreBytes-shift_rows state are = record {
+  len = refl;
+  small = λ k d within.
+      let moved : slice_index_or (shift_rows state) k d ≡ slice_index_or state ((k + 4 * (k % 4)) % 16) 0 =
+      get_or-map-range_with_len (λ i. slice_index_or state ((i + 4 * (i % 4)) % 16) 0) 0 16 k k d within (omega arith) in
+      subst IsByte (sym moved) (are.small ((k + 4 * (k % 4)) % 16) 0 (omega (arith, are.len)));
+}
+
+pub shift_rows-undone : (state : List ℕ) → AreBytes 16 state → undo_shift_rows (shift_rows state) ≡ state
+shift_rows-undone state are = written_out state are.len
+
+small_before : (a b c d : ℕ) (rest : List ℕ) → a < 256 → b < 256 → c < 256 → d < 256 → All IsByte rest → All IsByte (a ∷ b ∷ c ∷ d ∷ rest)
+small_before a b c d rest a_small b_small c_small d_small rest_small =
+    All-cons IsByte a (b ∷ c ∷ d ∷ rest) a_small
+    (All-cons IsByte b (c ∷ d ∷ rest) b_small (All-cons IsByte c (d ∷ rest) c_small (All-cons IsByte d rest d_small rest_small)))
+
+column-small : (a b c d : ℕ) (rest : List ℕ) → a < 256 → b < 256 → c < 256 → d < 256 → All IsByte rest → All IsByte (mix_column 2 3 1 1 a b c d ++ rest)
+column-small a b c d rest a_small b_small c_small d_small rest_small =
+    small_before (combine 2 3 1 1 a b c d) (combine 1 2 3 1 a b c d) (combine 1 1 2 3 a b c d) (combine 3 1 1 2 a b c d) rest
+    (combine-small 2 3 1 1 a b c d a_small b_small c_small d_small)
+    (combine-small 1 2 3 1 a b c d a_small b_small c_small d_small)
+    (combine-small 1 1 2 3 a b c d a_small b_small c_small d_small)
+    (combine-small 3 1 1 2 a b c d a_small b_small c_small d_small)
+    rest_small
+
+module _ (state : List ℕ) (are : AreBytes 16 state) where
+  abbrev byte : ℕ → ℕ
+  byte i = slice_index_or state i 0
+
+  byte-small : (i : ℕ) → i < 16 → byte i < 256
+  byte-small i within = are.small i 0 (omega (arith, within, are.len))
+
+  -- the mixed column of the four bytes from this place on
+  abbrev mixed : ℕ → List ℕ
+  mixed i = mix_column 2 3 1 1 (byte i) (byte (i + 1)) (byte (i + 2)) (byte (i + 3))
+
+  mixed-small : (i : ℕ) (rest : List ℕ) → i + 3 < 16 → All IsByte rest → All IsByte (mixed i ++ rest)
+  mixed-small i rest within rest_small =
+      column-small (byte i) (byte (i + 1)) (byte (i + 2)) (byte (i + 3)) rest
+      (byte-small i (omega (arith, within))) (byte-small (i + 1) (omega (arith, within))) (byte-small (i + 2) (omega (arith, within))) (byte-small (i + 3) within)
+      rest_small
+
+  pub AreBytes-mix_columns : AreBytes 16 (mix_columns state)
+  AreBytes-mix_columns = record {
+    len = refl;
+    small = mixed-small 0 (mixed 4 ++ mixed 8 ++ mixed 12 ++ []) (omega arith)
+        (mixed-small 4 (mixed 8 ++ mixed 12 ++ []) (omega arith)
+        (mixed-small 8 (mixed 12 ++ []) (omega arith) (mixed-small 12 [] (omega arith) (All-nil IsByte))));
+  }
+
+  abbrev undone : ℕ → ℕ → ℕ → ℕ → List ℕ
+  undone a b c d = mix_column 14 11 13 9 (combine 2 3 1 1 a b c d) (combine 1 2 3 1 a b c d) (combine 1 1 2 3 a b c d) (combine 3 1 1 2 a b c d)
+
+  column_undone : (i : ℕ) → i + 3 < 16 → undone (byte i) (byte (i + 1)) (byte (i + 2)) (byte (i + 3)) ≡ byte i ∷ byte (i + 1) ∷ byte (i + 2) ∷ byte (i + 3) ∷ []
+  column_undone i within =
+      undo_column (byte i) (byte (i + 1)) (byte (i + 2)) (byte (i + 3))
+      (byte-small i (omega (arith, within))) (byte-small (i + 1) (omega (arith, within))) (byte-small (i + 2) (omega (arith, within))) (byte-small (i + 3) within)
+
+  pub mix_columns-undone : undo_mix_columns (mix_columns state) ≡ state
+  mix_columns-undone =
+      (λ i. column_undone 0 (omega arith) i ++ column_undone 4 (omega arith) i ++ column_undone 8 (omega arith) i ++ column_undone 12 (omega arith) i ++ [])
+      ∙ written_out state are.len

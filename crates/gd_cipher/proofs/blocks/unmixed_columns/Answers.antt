@@ -1,0 +1,6 @@
+use Rattle.std.proofs.Common.{arith}
+use Rattle.gd_cipher.proofs.StateLemmas.{changed_state}
+use Rattle.gd_cipher.proofs.blocks.unmixed_columns.Goals as goal
+
+pub returns : goal.returns
+returns c = changed_state c.args.state c.map.result 14 11 13 9 (omega arith) c.map.ensures.items.long (λ i within. (c.map.ensures.items.at i 0 0 within).2.met)

@@ -1,0 +1,10 @@
+use Rattle.std.proofs.Common.{take, ◌∙◌, arith}
+use Rattle.gd_cipher.specs.Words.{bytes_of}
+use Rattle.gd_cipher.proofs.ExpandLemmas.{rounds_of_front, decrypted_by}
+use Rattle.gd_cipher.proofs.keys.Key256.decrypt_block.Goals as goal
+
+pub returns : goal.returns
+returns c =
+    let words = c.self.inside.words in
+    c.decrypt.ensures
+    ∙ decrypted_by (bytes_of words) c.args.self.now (take 32 (bytes_of words)) 14 c.args.block.now c.self.invariant c.self.view_is (rounds_of_front 8 words (omega arith))

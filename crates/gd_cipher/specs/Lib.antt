@@ -1,0 +1,7 @@
+pub mod Blocks
+pub mod Chains
+pub mod Ciphers
+pub mod Fields
+pub mod Macs
+pub mod Schedules
+pub mod Words

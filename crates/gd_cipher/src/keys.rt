@@ -1,0 +1,96 @@
+//! Keys with their schedules.
+ghost use Rattle.std.specs.Prelude.{◌≡◌};
+ghost use Rattle.gd_cipher.specs.Ciphers.{cipher, decipher};
+
+use crate::blocks::{decrypt, encrypt};
+use crate::schedules::expand;
+use byteorder::{BigEndian, ByteOrder};
+use std::marker::Model;
+
+/// A key of 128 bits, with the keys of its ten rounds. Contracts see its 16 bytes.
+#[derive(Drop)]
+pub struct Key128 {
+    words: [u32; 44],
+}
+
+impl Model for Key128 {
+    ghost use Rattle.std.specs.Prelude.{◌≡◌, ℕ, List, take};
+    ghost use Rattle.gd_cipher.specs.Schedules.{schedule};
+    ghost use Rattle.gd_cipher.specs.Words.{bytes_of};
+
+    ghost Value = { List ℕ };
+
+    ghost view = { λ key. take 16 (bytes_of key.words) };
+
+    ghost invariant = { λ key. bytes_of key.words ≡ schedule (take 16 (bytes_of key.words)) };
+}
+
+impl Key128 {
+    /// Expands a key, once (FIPS 197 section 5.2).
+    pub fn new(key: [u8; 16]) -> Self
+        ensures { result ≡ key }
+    {
+        let mut words = [0; 44];
+        BigEndian::read_u32_into(&key, &mut words[..4]);
+        expand(&mut words, 4);
+        Key128 { words }
+    }
+
+    /// Encrypts a block in place (FIPS 197 section 5.1).
+    pub fn encrypt_block(&self, block: &mut [u8; 16])
+        ensures { block.new ≡ cipher self.now block.old }
+    {
+        encrypt(&self.words, 10, block);
+    }
+
+    /// Decrypts a block in place (FIPS 197 section 5.3).
+    pub fn decrypt_block(&self, block: &mut [u8; 16])
+        ensures { block.new ≡ decipher self.now block.old }
+    {
+        decrypt(&self.words, 10, block);
+    }
+}
+
+/// A key of 256 bits, with the keys of its fourteen rounds. Contracts see its 32 bytes.
+#[derive(Drop)]
+pub struct Key256 {
+    words: [u32; 60],
+}
+
+impl Model for Key256 {
+    ghost use Rattle.std.specs.Prelude.{◌≡◌, ℕ, List, take};
+    ghost use Rattle.gd_cipher.specs.Schedules.{schedule};
+    ghost use Rattle.gd_cipher.specs.Words.{bytes_of};
+
+    ghost Value = { List ℕ };
+
+    ghost view = { λ key. take 32 (bytes_of key.words) };
+
+    ghost invariant = { λ key. bytes_of key.words ≡ schedule (take 32 (bytes_of key.words)) };
+}
+
+impl Key256 {
+    /// Expands a key, once (FIPS 197 section 5.2).
+    pub fn new(key: [u8; 32]) -> Self
+        ensures { result ≡ key }
+    {
+        let mut words = [0; 60];
+        BigEndian::read_u32_into(&key, &mut words[..8]);
+        expand(&mut words, 8);
+        Key256 { words }
+    }
+
+    /// Encrypts a block in place (FIPS 197 section 5.1).
+    pub fn encrypt_block(&self, block: &mut [u8; 16])
+        ensures { block.new ≡ cipher self.now block.old }
+    {
+        encrypt(&self.words, 14, block);
+    }
+
+    /// Decrypts a block in place (FIPS 197 section 5.3).
+    pub fn decrypt_block(&self, block: &mut [u8; 16])
+        ensures { block.new ≡ decipher self.now block.old }
+    {
+        decrypt(&self.words, 14, block);
+    }
+}

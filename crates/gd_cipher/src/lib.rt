@@ -1,0 +1,21 @@
+//! AES (FIPS 197) with keys of 128 and 256 bits, its cipher block chaining (SP 800-38A), and HMAC with SHA-256 (RFC 2104).
+//!
+//! No call takes memory, and none refuses.
+#![tactic(auto)]
+
+pub use chains::{cbc_open, cbc_seal};
+pub use keys::{Key128, Key256};
+pub use laws::{a_text_is_sealed_in_one_way, decrypt_undoes_encrypt, open_undoes_seal};
+pub use macs::{Hmac, phase2_iv};
+
+mod blocks;
+mod chains;
+#[cfg(test)]
+mod cipher_tests;
+mod keys;
+mod laws;
+#[cfg(test)]
+mod mac_tests;
+mod macs;
+mod schedules;
+mod tables;

@@ -1,0 +1,20 @@
+-- The signatures of tests: HMAC with SHA-256 under a key that everybody knows.
+use Rattle.std.specs.Prelude.{ℕ, List, Bool, codes}
+use Rattle.std.specs.Str.{bytes_eq}
+use Rattle.gd_cipher.specs.Macs.{hmac}
+use Rattle.gd_edges.specs.declared.signatures.SignKind.{SignKind}
+
+abbrev pub test_key : List ℕ
+test_key = codes "gdoi test signer"
+
+-- what is signed is a digest
+abbrev pub test_signature : List ℕ → List ℕ
+test_signature digest = hmac test_key digest
+
+-- that signature is accepted, and no other
+abbrev pub accepts_test : List ℕ → List ℕ → Bool
+accepts_test digest signature = bytes_eq signature (test_signature digest)
+
+-- an algorithm of the numbers for private use, and the bits of its hash
+abbrev pub test_kind : SignKind
+test_kind = record { algorithm = 128; key_bits = 256 }
