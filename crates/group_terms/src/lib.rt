@@ -1,5 +1,5 @@
 //! What nearly never changes: lists and logs that answer want of memory, the positions of the key tree, the names of
-//! members and keys, and what a batch of changes says.
+//! members and keys, what a batch of changes says, and why octets are no text of their grammar.
 #![tactic(auto)]
 
 pub use changes::{Batch, Change, MOST_CHANGES};
@@ -11,6 +11,7 @@ pub use members::{MOST_MEMBERS, MemberNames};
 pub use memory::NoMemory;
 pub use names::MemberName;
 pub use positions::LkhId;
+pub use wires::{WireFault, WireWhat};
 
 mod changes;
 mod keys;
@@ -23,3 +24,4 @@ mod names;
 mod positions;
 #[cfg(test)]
 mod tests;
+mod wires;
