@@ -9,6 +9,7 @@ wrap, in thousands a second; and HMAC with SHA-256 over pieces of 4,096 octets, 
 
 import os
 import pathlib
+import platform
 import subprocess
 import tempfile
 import time
@@ -16,8 +17,8 @@ import time
 TOP = pathlib.Path(__file__).resolve().parent.parent
 CRATE = TOP / "crates" / "cipher_bench"
 PROGRAM = CRATE / "out" / "cipher_bench"
-# AES-NI and carry-less products off
-NO_HARDWARE = dict(os.environ, OPENSSL_ia32cap="~0x200000200000000")
+# the processor's AES and carry-less products off, and nothing else
+NO_HARDWARE = dict(os.environ, OPENSSL_ia32cap="~0x200000200000000:~0x0")
 MIB = 1 << 20
 
 
@@ -55,7 +56,14 @@ def built_wrap(folder):
     return program
 
 
+def processor():
+    """The name that the system gives it."""
+    names = [line for line in pathlib.Path("/proc/cpuinfo").read_text().splitlines() if line.startswith("model name")]
+    return names[0].split(":", 1)[1].strip()
+
+
 def main():
+    assert platform.machine() == "x86_64", "the switches for openssl are those of x86-64"
     subprocess.run(["rt", "run", "--", "seal", "1"], cwd=CRATE, check=True, stdout=subprocess.DEVNULL)
     with tempfile.TemporaryDirectory() as folder:
         wrap = built_wrap(folder)
@@ -67,6 +75,8 @@ def main():
             ("HMAC, MiB/s", a_second([PROGRAM, "mac"], 50_000) * 4096 / MIB,
              openssl_speed("-hmac", "sha256") / MIB),
         ]
+    version = subprocess.run(["openssl", "version"], check=True, capture_output=True, text=True).stdout.split()[1]
+    print(f"{processor()}, openssl {version}")
     print(f"{'':20}{'ours':>10}{'openssl':>10}{'ratio':>8}")
     for name, ours, theirs in rows:
         print(f"{name:20}{ours:10.0f}{theirs:10.0f}{theirs / ours:8.2f}")

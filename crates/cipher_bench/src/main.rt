@@ -2,7 +2,10 @@
 //! `wrap N` expands a key and encrypts two blocks N times, and `mac N` hashes N pieces of 4,096 octets.
 #![tactic(auto)]
 
+ghost use Rattle.std.specs.Prelude.{◌≤◌, length};
+
 use gd_cipher::{Hmac, Key128, cbc_seal};
+use std::io::ErrorKind;
 use std::process::ExitCode;
 use std::{env, io};
 
@@ -15,15 +18,14 @@ fn main(rt: HostRuntime) -> ExitCode {
 
 fn run(rt: &HostRuntime) -> io::Result<()> {
     let mut words = env::args(rt)?.skip(1);
-    let (Some(what), Some(count)) = (words.next(), words.next()) else {
-        return Ok(());
-    };
-    let count = count.parse::<u32>().unwrap_or(0);
+    let what = words.next().ok_or(ErrorKind::InvalidInput)?;
+    let count = words.next().ok_or(ErrorKind::InvalidInput)?;
+    let count = count.parse::<u32>().map_err(|_| ErrorKind::InvalidInput)?;
     let octets = match what.as_str() {
         "seal" => seal(count),
         "wrap" => wrap(count),
         "mac" => mac(count),
-        _ => [0; 16],
+        _ => return Err(ErrorKind::InvalidInput.into()),
     };
     for octet in octets {
         print!(rt; "{octet:02x}")?;
@@ -52,7 +54,7 @@ fn wrap(count: u32) -> [u8; 16] {
     block
 }
 
-/// The front of the hash of so many pieces of zeros.
+/// The last octets of the hash of so many pieces of zeros.
 fn mac(count: u32) -> [u8; 16] {
     let piece = [0; 4096];
     let mut hash = Hmac::new(&[4; 16]);
@@ -62,10 +64,8 @@ fn mac(count: u32) -> [u8; 16] {
     last_of(&hash.finish())
 }
 
-fn last_of(octets: &[u8]) -> [u8; 16] {
-    let mut last = [0; 16];
-    if let Some(block) = octets.last_chunk::<16>() {
-        last = *block;
-    }
-    last
+fn last_of(octets: &[u8]) -> [u8; 16]
+    requires { 16 ≤ length octets.now }
+{
+    *octets.last_chunk().unwrap()
 }
