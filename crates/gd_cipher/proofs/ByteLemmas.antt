@@ -15,17 +15,14 @@ substituted_table = refl
 pub undo_substitute-substitute : (p : ℕ) → p < 256 → undo_substitute (substitute p) ≡ p
 undo_substitute-substitute = each_byte (λ p. undo_substitute (substitute p)) (λ p. p) substituted_table
 
-small_table : map (λ p. substitute p / 256) (range_with_len 0 256) ≡ map (λ p. 0) (range_with_len 0 256)
-small_table = refl
+pub substitute-small : (p : ℕ) → substitute p < 256
+substitute-small p = omega arith
 
-pub substitute-small : (p : ℕ) → p < 256 → substitute p < 256
-substitute-small p small = omega (arith, each_byte (λ q. substitute q / 256) (λ q. 0) small_table p small)
-
-times_x-table : map times_x (range_with_len 0 256) ≡ map (λ p. bit_xor (p * 2) (p / 128 * 283)) (range_with_len 0 256)
+times_x-table : map times_x (range_with_len 0 256) ≡ map (λ p. bit_xor (p * 2) (p / 128 * 0x11b)) (range_with_len 0 256)
 times_x-table = refl
 
-pub times_x-by_bits : (p : ℕ) → p < 256 → times_x p ≡ bit_xor (p * 2) (p / 128 * 283)
-times_x-by_bits = each_byte times_x (λ p. bit_xor (p * 2) (p / 128 * 283)) times_x-table
+pub times_x-by_bits : (p : ℕ) → p < 256 → times_x p ≡ bit_xor (p * 2) (p / 128 * 0x11b)
+times_x-by_bits = each_byte times_x (λ p. bit_xor (p * 2) (p / 128 * 0x11b)) times_x-table
 
 times_x-small_table : map (λ p. times_x p / 256) (range_with_len 0 256) ≡ map (λ p. 0) (range_with_len 0 256)
 times_x-small_table = refl

@@ -1,11 +1,13 @@
 -- Texts block by block.
-use Rattle.std.proofs.Common.{◌≡◌, ℕ, zero, suc, ◌+◌, ◌-◌, ◌*◌, ◌/◌, ◌%◌, ◌<◌, ◌≤◌, List, ◌++◌, length, take, drop, get_or, sym, ◌∙◌, ap, ap₂, subst, subst₂, refl, arith, add-one, below_none, below_more, append_assoc, append-nil, take-append-drop, length-take-le, length-append, length-drop}
+use Rattle.std.proofs.Common.{◌≡◌, ℕ, zero, suc, ◌+◌, ◌-◌, ◌*◌, ◌/◌, ◌%◌, ◌<◌, ◌≤◌, List, ◌++◌, Option, Some, MutBor, length, take, drop, get_or, sym, ◌∙◌, ap, ap₂, subst, subst₂, refl, arith, add-one, below_none, below_more, append_assoc, append-nil, take-append-drop, length-take-le, length-append, length-drop}
 use Rattle.std.proofs.lemmas.List.{take_at, drop_at, drop-drop, take-append-le, drop-append-le, get_or-take, get_or-drop, ext_get_or, take_rest, drop_all}
 use Rattle.std.proofs.Math.Seq.{drop-append-add}
+use Rattle.std.specs.Option.{MatchOption}
+use Rattle.std.specs.Array.{IsFirstChunk}
 use borrow.Rule.Slice.PartMut.{put_mid, mid_of}
-use Rattle.gd_cipher.specs.Blocks.{xor_all}
+use Rattle.gd_cipher.specs.Blocks.{xor_all, block_at}
 use Rattle.gd_cipher.specs.Ciphers.{cipher, decipher}
-use Rattle.gd_cipher.specs.Chains.{block_at, IsSealed, IsOpened}
+use Rattle.gd_cipher.specs.Chains.{IsSealed, IsOpened}
 
 -- behind an IV the blocks of a text are one place further on
 pub chained_first : (iv text : List ℕ) → length iv ≡ 16 → block_at (iv ++ text) 0 ≡ iv
@@ -17,7 +19,7 @@ chained_next iv text i long =
     ap (λ n. take 16 (drop n (iv ++ text))) place ∙ ap (take 16) (drop-append-add iv text (16 * i))
 
 -- texts whose first blocks are the same have the same block before each of those and behind the last one
-pub same_chained : (iv these those : List ℕ) (i : ℕ) → length iv ≡ 16 → ((j : ℕ) → j < i → block_at these j ≡ block_at those j) → block_at (iv ++ these) i ≡ block_at (iv ++ those) i
+same_chained : (iv these those : List ℕ) (i : ℕ) → length iv ≡ 16 → ((j : ℕ) → j < i → block_at these j ≡ block_at those j) → block_at (iv ++ these) i ≡ block_at (iv ++ those) i
 same_chained iv these those zero long same = chained_first iv these long ∙ sym (chained_first iv those long)
 same_chained iv these those (suc i) long same = chained_next iv these i long ∙ same i (omega arith) ∙ sym (chained_next iv those i long)
 
@@ -43,7 +45,7 @@ next_rest : (text : List ℕ) (i : ℕ) → drop 16 (drop (16 * i) text) ≡ dro
 next_rest text i = let place : 16 * i + 16 ≡ 16 * (i + 1) = omega arith in drop-drop 16 (16 * i) text ∙ ap (λ n. drop n text) place
 
 -- What the text is where the rest from block i on was given a new first block.
-pub with_block : ℕ → List ℕ → List ℕ → List ℕ
+with_block : ℕ → List ℕ → List ℕ → List ℕ
 with_block i text block = take (16 * i) text ++ (block ++ drop (16 * (i + 1)) text)
 
 module _ (i : ℕ) (text block : List ℕ) (whole : 16 * (i + 1) ≤ length text) (long : length block ≡ 16) where
@@ -51,41 +53,47 @@ module _ (i : ℕ) (text block : List ℕ) (whole : 16 * (i + 1) ≤ length text
   front = length-take-le (16 * i) text (omega arith)
 
   -- the blocks before it are as they were
-  pub block_before : (j : ℕ) → j < i → block_at (with_block i text block) j ≡ block_at text j
+  block_before : (j : ℕ) → j < i → block_at (with_block i text block) j ≡ block_at text j
   unfolding with_block
   block_before j below =
       block_front (take (16 * i) text) _ j (omega (arith, front))
       ∙ sym (ap (λ parts. block_at parts j) (sym (take-append-drop (16 * i) text)) ∙ block_front (take (16 * i) text) (drop (16 * i) text) j (omega (arith, front)))
 
   -- the block itself
-  pub block_here : block_at (with_block i text block) i ≡ block
+  block_here : block_at (with_block i text block) i ≡ block
   unfolding with_block
   block_here = ap (take 16) (drop_at (take (16 * i) text) _ (16 * i) front) ∙ take_at block _ 16 long
 
   -- the rest behind it is as it was
-  pub block_behind : drop (16 * (i + 1)) (with_block i text block) ≡ drop (16 * (i + 1)) text
+  block_behind : drop (16 * (i + 1)) (with_block i text block) ≡ drop (16 * (i + 1)) text
   unfolding with_block
   block_behind =
       ap (drop (16 * (i + 1))) (sym (append_assoc (take (16 * i) text) block _))
       ∙ drop_at (take (16 * i) text ++ block) _ (16 * (i + 1)) (omega (arith, length-append (take (16 * i) text) block, front))
 
 -- the part of a text from block i on, as a slice, and the text with another part in its place
-abbrev pub part_from : ℕ → List ℕ → List ℕ
+abbrev part_from : ℕ → List ℕ → List ℕ
 part_from i text = mid_of (16 * i) (length text - 16 * i) text
 
-abbrev pub with_part : ℕ → List ℕ → List ℕ → List ℕ
+abbrev with_part : ℕ → List ℕ → List ℕ → List ℕ
 with_part i text part = put_mid (16 * i) (length text - 16 * i) text part
 
 -- that part begins with block i, and a new first block of it is a new block i
-pub part_first : (i : ℕ) (text : List ℕ) → take 16 (part_from i text) ≡ block_at text i
+part_first : (i : ℕ) (text : List ℕ) → take 16 (part_from i text) ≡ block_at text i
 part_first i text = ap (take 16) (take_rest text (16 * i))
 
-pub part_written : (i : ℕ) (text block : List ℕ) → with_part i text (block ++ drop 16 (part_from i text)) ≡ with_block i text block
+part_written : (i : ℕ) (text block : List ℕ) → with_part i text (block ++ drop 16 (part_from i text)) ≡ with_block i text block
 unfolding with_block
 part_written i text block =
     ap (λ rest. take (16 * i) text ++ rest)
     (ap (λ rest. (block ++ drop 16 (part_from i text)) ++ rest) (drop_all (length text - 16 * i) (drop (16 * i) text) (omega (arith, length-drop (16 * i) text)))
     ∙ append-nil _ ∙ ap (λ part. block ++ drop 16 part) (take_rest text (16 * i)) ∙ ap (λ rest. block ++ rest) (next_rest text i))
+
+-- where the first 16 bytes of a text are found, they are those
+pub first_block : (text : List ℕ) (found : Option (MutBor (List ℕ))) (block : MutBor (List ℕ)) → found ≡ Some block → MatchOption found (length text < 16) (λ y. IsFirstChunk text y.now 16) → block.now ≡ take 16 text
+first_block text found block is_found cases =
+    let first : IsFirstChunk text block.now 16 = subst (λ chunk. MatchOption chunk (length text < 16) (λ y. IsFirstChunk text y.now 16)) is_found cases in
+    first.same
 
 -- So many blocks of a text are sealed, the rest is as it was, and the block that stands before the next one is known.
 pub record SealsTo (i : ℕ) (key iv text now before : List ℕ) : Type 0 where
@@ -111,7 +119,7 @@ pub SealsTo-none : (key iv text : List ℕ) → length iv ≡ 16 → SealsTo 0 k
 SealsTo-none key iv text long = record { blocks = below_none _; rest = refl; last = sym (chained_first iv text long) }
 
 -- one block more
-pub SealsTo-more : (i : ℕ) (key iv text now before block : List ℕ) → length iv ≡ 16 → 16 * (i + 1) ≤ length now → length block ≡ 16 → SealsTo i key iv text now before →
+SealsTo-more : (i : ℕ) (key iv text now before block : List ℕ) → length iv ≡ 16 → 16 * (i + 1) ≤ length now → length block ≡ 16 → SealsTo i key iv text now before →
     block ≡ cipher key (xor_all (block_at now i) before) → SealsTo (i + 1) key iv text (with_block i now block) block
 SealsTo-more i key iv text now before block long whole is_block so_far sealed = record {
   blocks = below_more _ i
@@ -135,13 +143,13 @@ SealsTo-part i key iv text now before part block long whole is_block so_far seal
 
 -- the whole text is sealed
 pub IsSealed-all : (i : ℕ) (key iv text now before : List ℕ) → length now ≡ length text → length text % 16 ≡ 0 → length text / 16 ≤ i → SealsTo i key iv text now before → IsSealed key iv text now
-IsSealed-all i key iv text now before same whole all so_far = record { len = same; blocks = λ j within. so_far.blocks j (omega arith) }
+IsSealed-all i key iv text now before same whole all so_far = record { whole = whole; len = same; blocks = λ j within. so_far.blocks j (omega arith) }
 
 -- the same for opening
 pub OpensTo-none : (key iv sealed : List ℕ) → length iv ≡ 16 → OpensTo 0 key iv sealed sealed iv
 OpensTo-none key iv sealed long = record { blocks = below_none _; rest = refl; last = sym (chained_first iv sealed long) }
 
-pub OpensTo-more : (i : ℕ) (key iv sealed now before block : List ℕ) → length iv ≡ 16 → 16 * (i + 1) ≤ length now → length block ≡ 16 → OpensTo i key iv sealed now before →
+OpensTo-more : (i : ℕ) (key iv sealed now before block : List ℕ) → length iv ≡ 16 → 16 * (i + 1) ≤ length now → length block ≡ 16 → OpensTo i key iv sealed now before →
     block ≡ xor_all (decipher key (block_at now i)) before → OpensTo (i + 1) key iv sealed (with_block i now block) (block_at now i)
 OpensTo-more i key iv sealed now before block long whole is_block so_far opened = record {
   blocks = below_more _ i
@@ -169,4 +177,4 @@ OpensTo-part i key iv sealed now before part last long whole so_far is_last same
     is_block = omega (arith, same, ap length written, length-append block (drop 16 (part_from i now)), length-drop 16 (part_from i now), ap length (take_rest now (16 * i)), length-drop (16 * i) now)
 
 pub IsOpened-all : (i : ℕ) (key iv sealed now before : List ℕ) → length now ≡ length sealed → length sealed % 16 ≡ 0 → length sealed / 16 ≤ i → OpensTo i key iv sealed now before → IsOpened key iv sealed now
-IsOpened-all i key iv sealed now before same whole all so_far = record { len = same; blocks = λ j within. so_far.blocks j (omega arith) }
+IsOpened-all i key iv sealed now before same whole all so_far = record { whole = ap (λ n. n % 16) same ∙ whole; len = same; blocks = λ j within. so_far.blocks j (omega arith) }

@@ -1,4 +1,4 @@
--- The standard's examples (FIPS 197 appendices C.1 and C.3), so that a wrong constant or step in the definitions does not check.
+-- Examples of FIPS 197 as it stood in 2001 (its appendices C.1 and C.3), so that a wrong constant or step in the definitions does not check.
 use Rattle.std.proofs.Common.{◌≡◌, List, ℕ, [], ◌∷◌, refl}
 use Rattle.std.specs.List.{range_with_len}
 use Rattle.gd_cipher.specs.Ciphers.{cipher, decipher}
@@ -12,14 +12,14 @@ under_128 = 0x69 ∷ 0xc4 ∷ 0xe0 ∷ 0xd8 ∷ 0x6a ∷ 0x7b ∷ 0x04 ∷ 0x30 
 abbrev under_256 : List ℕ
 under_256 = 0x8e ∷ 0xa2 ∷ 0xb7 ∷ 0xca ∷ 0x51 ∷ 0x67 ∷ 0x45 ∷ 0xbf ∷ 0xea ∷ 0xfc ∷ 0x49 ∷ 0x90 ∷ 0x4b ∷ 0x49 ∷ 0x60 ∷ 0x89 ∷ []
 
-pub cipher_of_16 : cipher (range_with_len 0 16) text ≡ under_128
+cipher_of_16 : cipher (range_with_len 0 16) text ≡ under_128
 cipher_of_16 = refl
 
-pub cipher_of_32 : cipher (range_with_len 0 32) text ≡ under_256
+cipher_of_32 : cipher (range_with_len 0 32) text ≡ under_256
 cipher_of_32 = refl
 
-pub decipher_of_16 : decipher (range_with_len 0 16) under_128 ≡ text
+decipher_of_16 : decipher (range_with_len 0 16) under_128 ≡ text
 decipher_of_16 = refl
 
-pub decipher_of_32 : decipher (range_with_len 0 32) under_256 ≡ text
+decipher_of_32 : decipher (range_with_len 0 32) under_256 ≡ text
 decipher_of_32 = refl

@@ -1,42 +1,16 @@
 -- Columns as words, of what the tables give for their bytes.
-use Rattle.std.proofs.Common.{◌≡◌, ◌<◌, ◌≤◌, ◌+◌, ◌-◌, ◌*◌, ◌/◌, ◌%◌, ◌^◌, ◌∙◌, ℕ, zero, suc, Bool, true, false, List, [], ◌∷◌, ap, sym, subst, cond, arith, get_or, bit_xor, ◌==◌}
+use Rattle.std.proofs.Common.{◌≡◌, ◌<◌, ◌^◌, ◌∙◌, ℕ, List, [], ◌∷◌, ap, sym, arith, get_or, bit_xor}
 use lib.Bits.{xor_assoc, xor_zero_r}
-use Rattle.std.proofs.lemmas.Bool.Decides.{nat_tests}
-use Rattle.std.proofs.lemmas.Nat.{xor_block, xor_of_8}
 use Rattle.std.specs.Int.{w32, to_be_bytes, from_be_bytes, rotate_right}
-use Rattle.gd_cipher.specs.Fields.{times, times_x, sum_of_terms, substitute}
+use Rattle.gd_cipher.specs.Fields.{times, substitute}
 use Rattle.gd_cipher.specs.Blocks.{mix_column}
 use Rattle.gd_cipher.specs.Words.{byte_in}
+use Rattle.gd_cipher.proofs.ByteLemmas.{substitute-small}
+use Rattle.gd_cipher.proofs.MixLemmas.{times-small}
 use Rattle.gd_cipher.proofs.WordLemmas.{bytes_of_word, xor_words, turned_8, turned_16, turned_24}
-
--- twice a byte whose highest bit is set, without the bit behind it
-doubled-lt : (p : ℕ) → 128 ≤ p → p < 256 → bit_xor (2 * p) 283 < 256
-doubled-lt p above within =
-    let split : 2 * p ≡ 1 * 256 + (2 * p - 256) = omega arith in
-    let small : 2 * p - 256 < 256 = omega arith in
-    let cleared : bit_xor (1 * 256 + (2 * p - 256)) 283 ≡ 0 + bit_xor (2 * p - 256) 27 = xor_block 8 1 1 (2 * p - 256) 27 small (omega arith) in
-    subst (λ (n : ℕ). bit_xor n 283 < 256) (sym split) (omega (arith, xor_of_8 (2 * p - 256) 27 small (omega arith)))
-
-times_x-lt : (p : ℕ) → p < 256 → times_x p < 256
-times_x-lt p within = grind (arith, nat_tests, doubled-lt p)
-
-chosen-lt : (chosen : Bool) (q : ℕ) → q < 256 → cond chosen q 0 < 256
-chosen-lt true q within = within
-chosen-lt false q within = omega arith
-
-sum_of_terms-lt : (terms p q : ℕ) → q < 256 → sum_of_terms terms p q < 256
-sum_of_terms-lt zero p q within = omega arith
-sum_of_terms-lt (suc terms) p q within =
-    xor_of_8 (cond (p % 2 == 1) q 0) (sum_of_terms terms (p / 2) (times_x q)) (chosen-lt (p % 2 == 1) q within) (sum_of_terms-lt terms (p / 2) (times_x q) (times_x-lt q within))
-
-times-lt : (p q : ℕ) → q < 256 → times p q < 256
-times-lt p q within = sum_of_terms-lt 8 p q within
 
 times_one : (q : ℕ) → times 1 q ≡ q
 times_one q = xor_zero_r q
-
-substitute-lt : (p : ℕ) → substitute p < 256
-substitute-lt p = omega arith
 
 -- the word that a byte in the first row adds to a column mixed by these factors
 abbrev part : ℕ → ℕ → ℕ → ℕ → ℕ → ℕ
@@ -44,10 +18,10 @@ part p q r s a = from_be_bytes w32 (times p a ∷ times s a ∷ times r a ∷ ti
 
 part_bytes : (p q r s a n : ℕ) → a < 256 → n ≡ part p q r s a → to_be_bytes w32 n ≡ times p a ∷ times s a ∷ times r a ∷ times q a ∷ []
 part_bytes p q r s a n within is =
-    bytes_of_word n (times p a) (times s a) (times r a) (times q a) (times-lt p a within) (times-lt s a within) (times-lt r a within) (times-lt q a within) is
+    bytes_of_word n (times p a) (times s a) (times r a) (times q a) (times-small p a within) (times-small s a within) (times-small r a within) (times-small q a within) is
 
 -- the sum of four of them, each turned into its row
-pub mixed_words : (p q r s a b c d first second third fourth : ℕ) → a < 256 → b < 256 → c < 256 → d < 256
+mixed_words : (p q r s a b c d first second third fourth : ℕ) → a < 256 → b < 256 → c < 256 → d < 256
     → first < 2 ^ 32 → second < 2 ^ 32 → third < 2 ^ 32 → fourth < 2 ^ 32
     → first ≡ part p q r s a → second ≡ part p q r s b → third ≡ part p q r s c → fourth ≡ part p q r s d
     → to_be_bytes w32 (bit_xor (bit_xor (bit_xor first (rotate_right w32 second 8)) (rotate_right w32 third 16)) (rotate_right w32 fourth 24)) ≡ mix_column p q r s a b c d
@@ -91,24 +65,24 @@ pub mixed_column_is : (first second third fourth : ℕ) (xs ys zs ws : List ℕ)
 mixed_column_is first second third fourth xs ys zs ws wa wb wc wd rb rc rd ia ib ic id fa fb fc fd ea eb ec ed tb tc td =
     (λ i. to_be_bytes w32 (bit_xor (bit_xor (bit_xor wa (tb i)) (tc i)) (td i)))
     ∙ mixed_words 2 3 1 1 (substitute (byte_in first 0)) (substitute (byte_in second 1)) (substitute (byte_in third 2)) (substitute (byte_in fourth 3)) wa wb wc wd
-    (substitute-lt (byte_in first 0)) (substitute-lt (byte_in second 1)) (substitute-lt (byte_in third 2)) (substitute-lt (byte_in fourth 3)) fa fb fc fd
+    (substitute-small (byte_in first 0)) (substitute-small (byte_in second 1)) (substitute-small (byte_in third 2)) (substitute-small (byte_in fourth 3)) fa fb fc fd
     (mixed_entry xs first 0 wa ia ea) (mixed_entry ys second 1 wb ib eb) (mixed_entry zs third 2 wc ic ec) (mixed_entry ws fourth 3 wd id ed)
 
 unmixed_entry : (bytes : List ℕ) (word row n : ℕ) → bytes ≡ to_be_bytes w32 word
-    → n ≡ part 14 11 13 9 (get_or bytes row 0) → n ≡ part 14 11 13 9 (byte_in word row)
-unmixed_entry bytes word row n same is = is ∙ ap (λ (list : List ℕ). part 14 11 13 9 (get_or list row 0)) same
+    → n ≡ part 0x0e 0x0b 0x0d 0x09 (get_or bytes row 0) → n ≡ part 0x0e 0x0b 0x0d 0x09 (byte_in word row)
+unmixed_entry bytes word row n same is = is ∙ ap (λ (list : List ℕ). part 0x0e 0x0b 0x0d 0x09 (get_or list row 0)) same
 
 pub unmixed_column_is : (column : ℕ) (xs : List ℕ) (wa wb wc wd rb rc rd : ℕ) → xs ≡ to_be_bytes w32 column
     → wa < 2 ^ 32 → wb < 2 ^ 32 → wc < 2 ^ 32 → wd < 2 ^ 32
-    → wa ≡ part 14 11 13 9 (get_or xs 0 0)
-    → wb ≡ part 14 11 13 9 (get_or xs 1 0)
-    → wc ≡ part 14 11 13 9 (get_or xs 2 0)
-    → wd ≡ part 14 11 13 9 (get_or xs 3 0)
+    → wa ≡ part 0x0e 0x0b 0x0d 0x09 (get_or xs 0 0)
+    → wb ≡ part 0x0e 0x0b 0x0d 0x09 (get_or xs 1 0)
+    → wc ≡ part 0x0e 0x0b 0x0d 0x09 (get_or xs 2 0)
+    → wd ≡ part 0x0e 0x0b 0x0d 0x09 (get_or xs 3 0)
     → rb ≡ rotate_right w32 wb 8 → rc ≡ rotate_right w32 wc 16 → rd ≡ rotate_right w32 wd 24
-    → to_be_bytes w32 (bit_xor (bit_xor (bit_xor wa rb) rc) rd) ≡ mix_column 14 11 13 9 (byte_in column 0) (byte_in column 1) (byte_in column 2) (byte_in column 3)
+    → to_be_bytes w32 (bit_xor (bit_xor (bit_xor wa rb) rc) rd) ≡ mix_column 0x0e 0x0b 0x0d 0x09 (byte_in column 0) (byte_in column 1) (byte_in column 2) (byte_in column 3)
 unmixed_column_is column xs wa wb wc wd rb rc rd is fa fb fc fd ea eb ec ed tb tc td =
     (λ i. to_be_bytes w32 (bit_xor (bit_xor (bit_xor wa (tb i)) (tc i)) (td i)))
-    ∙ mixed_words 14 11 13 9 (byte_in column 0) (byte_in column 1) (byte_in column 2) (byte_in column 3) wa wb wc wd
+    ∙ mixed_words 0x0e 0x0b 0x0d 0x09 (byte_in column 0) (byte_in column 1) (byte_in column 2) (byte_in column 3) wa wb wc wd
     (omega arith) (omega arith) (omega arith) (omega arith) fa fb fc fd
     (unmixed_entry xs column 0 wa is ea) (unmixed_entry xs column 1 wb is eb) (unmixed_entry xs column 2 wc is ec) (unmixed_entry xs column 3 wd is ed)
 

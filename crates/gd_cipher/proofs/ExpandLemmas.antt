@@ -1,35 +1,32 @@
 -- Words and their bytes in the key expansion.
-use Rattle.std.proofs.Common.{◌≡◌, ℕ, zero, suc, ◌+◌, ◌-◌, ◌*◌, ◌/◌, ◌%◌, ◌^◌, ◌<◌, ◌≤◌, Bool, cond, ltb, le-ltb, List, [], ◌∷◌, ◌++◌, map, length, take, drop, get_or, set, replicate, bit_or, bit_xor, sym, refl, ap, ◌∙◌, zero-add, div-add-mod', eqb, eq-eqb, ne_eqb, ◌&&◌, lt-ltb, arith}
+use Rattle.std.proofs.Common.{◌≡◌, ℕ, zero, suc, ◌+◌, ◌-◌, ◌*◌, ◌/◌, ◌%◌, ◌^◌, ◌<◌, ◌≤◌, Bool, cond, ltb, le-ltb, List, [], ◌∷◌, ◌++◌, map, length, take, drop, get_or, set, replicate, bit_or, bit_xor, sym, refl, ap, ◌∙◌, All, subst, zero-add, div-add-mod', eqb, eq-eqb, ne_eqb, ◌&&◌, lt-ltb, arith}
 use Rattle.std.specs.Int.{w32, to_be_bytes, from_be_bytes, rotate_left}
 use Rattle.std.proofs.Math.Nat.{div-eq_of_lt-le}
 use Rattle.std.proofs.lemmas.Bool.{cond-true, cond-false, and_from, and_left, and_right}
 use Rattle.std.proofs.lemmas.List.{take-append-le, take_more_set, take_all, take_at, get_or-take, length-set, length-append, length-take-le}
 use Rattle.std.proofs.lemmas.List.Concat.{flat_map-append}
-use Rattle.std.proofs.lemmas.Nat.{xor_block, xor_shr, xor_mod, or_shifted, le-div, mod_below}
+use Rattle.std.proofs.lemmas.List.Elements.{All-append, All-from_get_or, All-nil, All-take}
+use Rattle.std.proofs.lemmas.Nat.{xor_block, or_shifted, le-div, mod_below}
 use Rattle.byteorder.specs.Endian.{big_number, IsRead}
 use Rattle.gd_cipher.specs.Fields.{times_x, substitute}
 use Rattle.gd_cipher.specs.Blocks.{xor_all}
 use Rattle.gd_cipher.specs.Schedules.{word_at, rotated, power_of_x, changed_word, next_word, expanded, key_words, rounds_of, schedule}
 use Rattle.gd_cipher.specs.Ciphers.{encrypted, decrypted, cipher, decipher}
+use Rattle.gd_cipher.specs.Bytes.{IsByte, AreBytes}
 use Rattle.gd_cipher.specs.Words.{bytes_of}
+use Rattle.gd_cipher.proofs.WordLemmas.{xor_bytes, bytes_read}
 
 -- x times a byte whose highest bit is set, by the bits that stay in a byte
-pub times_x_high : (p : ℕ) → 128 ≤ p → p < 256 → bit_xor (p * 2 % 256) 27 ≡ times_x p
+pub times_x_high : (p : ℕ) → 128 ≤ p → p < 256 → bit_xor (p * 2 % 256) 0x1b ≡ times_x p
 times_x_high p high fits =
     let low : p * 2 % 256 ≡ 2 * p - 256 = omega arith in
     let whole : 2 * p ≡ 1 * 2 ^ 8 + (2 * p - 256) = omega arith in
-    let split : bit_xor (1 * 2 ^ 8 + (2 * p - 256)) (1 * 2 ^ 8 + 27) ≡ bit_xor (2 * p - 256) 27 = xor_block 8 1 1 (2 * p - 256) 27 (omega arith) (omega arith) ∙ zero-add (bit_xor (2 * p - 256) 27) in
-    ap (λ (n : ℕ). bit_xor n 27) low ∙ sym split ∙ ap (λ (n : ℕ). bit_xor n 283) (sym whole)
-    ∙ ap (λ (b : Bool). cond b (2 * p) (bit_xor (2 * p) 283)) (sym (le-ltb p 128 high))
-
--- the bytes of a sum are the sums of the bytes
-pub bytes_xor : (a b : ℕ) → to_be_bytes w32 (bit_xor a b) ≡ xor_all (to_be_bytes w32 a) (to_be_bytes w32 b)
-bytes_xor a b =
-    let byte : (k : ℕ) → bit_xor a b / 2 ^ k % 2 ^ 8 ≡ bit_xor (a / 2 ^ k % 2 ^ 8) (b / 2 ^ k % 2 ^ 8) = λ k. ap (λ (n : ℕ). n % 2 ^ 8) (xor_shr a b k) ∙ xor_mod (a / 2 ^ k) (b / 2 ^ k) 8 in
-    rw (byte 24, byte 16, byte 8, xor_mod a b 8) refl
+    let split : bit_xor (1 * 2 ^ 8 + (2 * p - 256)) (1 * 2 ^ 8 + 0x1b) ≡ bit_xor (2 * p - 256) 0x1b = xor_block 8 1 1 (2 * p - 256) 0x1b (omega arith) (omega arith) ∙ zero-add (bit_xor (2 * p - 256) 0x1b) in
+    ap (λ (n : ℕ). bit_xor n 0x1b) low ∙ sym split ∙ ap (λ (n : ℕ). bit_xor n 0x11b) (sym whole)
+    ∙ ap (λ (b : Bool). cond b (2 * p) (bit_xor (2 * p) 0x11b)) (sym (le-ltb p 128 high))
 
 -- a word turned to the left by eight bits has its first byte last
-pub bytes_turned : (n : ℕ) → n < 2 ^ 32 → to_be_bytes w32 (rotate_left w32 n 8) ≡ rotated (to_be_bytes w32 n)
+bytes_turned : (n : ℕ) → n < 2 ^ 32 → to_be_bytes w32 (rotate_left w32 n 8) ≡ rotated (to_be_bytes w32 n)
 bytes_turned n fits =
     let high : n / 2 ^ 24 < 2 ^ 8 = omega arith in
     let low : n * 2 ^ 8 % 2 ^ 32 ≡ n % 2 ^ 24 * 2 ^ 8 = omega arith in
@@ -41,7 +38,7 @@ bytes_turned n fits =
     ap (to_be_bytes w32) whole ∙ rw (a, b, c, d) refl
 
 -- a byte moved to the first place
-pub bytes_highest : (p : ℕ) → p < 256 → to_be_bytes w32 (p * 2 ^ 24 % 2 ^ 32) ≡ p ∷ 0 ∷ 0 ∷ 0 ∷ []
+bytes_highest : (p : ℕ) → p < 256 → to_be_bytes w32 (p * 2 ^ 24 % 2 ^ 32) ≡ p ∷ 0 ∷ 0 ∷ 0 ∷ []
 bytes_highest p fits =
     let a : p * 2 ^ 24 % 2 ^ 32 / 256 ^ 3 % 256 ≡ p = omega arith in
     let b : p * 2 ^ 24 % 2 ^ 32 / 256 ^ 2 % 256 ≡ 0 = omega arith in
@@ -59,12 +56,12 @@ bytes_of_made f word bytes p q r s made cut a b c d first second third fourth wh
     let same : p ∷ q ∷ r ∷ s ∷ [] ≡ f (get_or bytes 0 0) ∷ f (get_or bytes 1 0) ∷ f (get_or bytes 2 0) ∷ f (get_or bytes 3 0) ∷ [] = rw (first, second, third, fourth) refl in
     rw (one, two, three, four) same ∙ ap (λ (bytes : List ℕ). f (get_or bytes 0 0) ∷ f (get_or bytes 1 0) ∷ f (get_or bytes 2 0) ∷ f (get_or bytes 3 0) ∷ []) cut
 
-pub length-bytes : (words : List ℕ) → length (bytes_of words) ≡ 4 * length words
+length-bytes : (words : List ℕ) → length (bytes_of words) ≡ 4 * length words
 length-bytes [] = refl
 length-bytes (word ∷ words) = let rest = length-bytes words in omega (arith, rest)
 
 -- the bytes of word i stand at its place
-pub word_at-bytes : (words : List ℕ) (i : ℕ) → i < length words → word_at (bytes_of words) i ≡ to_be_bytes w32 (get_or words i 0)
+word_at-bytes : (words : List ℕ) (i : ℕ) → i < length words → word_at (bytes_of words) i ≡ to_be_bytes w32 (get_or words i 0)
 word_at-bytes [] i h = absurd (omega arith)
 word_at-bytes (word ∷ words) zero h = refl
 word_at-bytes (word ∷ words) (suc i) h =
@@ -72,7 +69,7 @@ word_at-bytes (word ∷ words) (suc i) h =
     ap (λ (n : ℕ). take 4 (drop n (bytes_of (word ∷ words)))) places ∙ word_at-bytes words i (omega arith)
 
 -- the word behind these, where it has the bytes that are due
-pub next_bytes : (nk : ℕ) (words : List ℕ) (i y : ℕ) → 0 < nk → nk ≤ i → length words ≡ i → to_be_bytes w32 y ≡ xor_all (to_be_bytes w32 (get_or words (i - nk) 0)) (changed_word nk i (to_be_bytes w32 (get_or words (i - 1) 0))) → next_word nk (bytes_of words) ≡ to_be_bytes w32 y
+next_bytes : (nk : ℕ) (words : List ℕ) (i y : ℕ) → 0 < nk → nk ≤ i → length words ≡ i → to_be_bytes w32 y ≡ xor_all (to_be_bytes w32 (get_or words (i - nk) 0)) (changed_word nk i (to_be_bytes w32 (get_or words (i - 1) 0))) → next_word nk (bytes_of words) ≡ to_be_bytes w32 y
 next_bytes nk words i y some far len made =
     let count : length (bytes_of words) / 4 ≡ i = let all = length-bytes words in omega (arith, all) in
     let earlier = word_at-bytes words (i - nk) (omega arith) in
@@ -108,39 +105,16 @@ schedule_of_words nk words len =
     ∙ ap (λ (n : ℕ). expanded n (4 * (n + 6 + 1) - n) (bytes_of (take nk words))) (sym count)
 
 -- the bytes that are expanded stay in front
-pub take-expanded : (nk more n : ℕ) (bytes : List ℕ) → n ≤ length bytes → take n (expanded nk more bytes) ≡ take n bytes
+take-expanded : (nk more n : ℕ) (bytes : List ℕ) → n ≤ length bytes → take n (expanded nk more bytes) ≡ take n bytes
 take-expanded nk zero n bytes h = refl
 take-expanded nk (suc more) n bytes h =
     let longer = length-append bytes (next_word nk bytes) in
     take-expanded nk more n (bytes ++ next_word nk bytes) (omega (arith, longer)) ∙ take-append-le n bytes (next_word nk bytes) h
 
 -- the bytes of a key come first in its schedule
-pub take-schedule : (n : ℕ) (key bytes : List ℕ) → length key ≡ n → bytes ≡ schedule key → take n bytes ≡ key
+take-schedule : (n : ℕ) (key bytes : List ℕ) → length key ≡ n → bytes ≡ schedule key → take n bytes ≡ key
 take-schedule n key bytes len whole =
     ap (take n) whole ∙ take-expanded (key_words key) (4 * (rounds_of key + 1) - key_words key) n key (omega arith) ∙ take_all n key (omega arith)
-
--- words read from bytes have these
-pub bytes_read : (words bytes : List ℕ) → length bytes ≡ 4 * length words → ((i : ℕ) → get_or bytes i 0 < 256) → IsRead big_number 4 bytes words → bytes_of words ≡ bytes
-bytes_read [] [] len small read = refl
-bytes_read [] (a ∷ bytes) len small read = absurd (omega arith)
-bytes_read (word ∷ words) [] len small read = absurd (omega arith)
-bytes_read (word ∷ words) (a ∷ []) len small read = absurd (omega arith)
-bytes_read (word ∷ words) (a ∷ b ∷ []) len small read = absurd (omega arith)
-bytes_read (word ∷ words) (a ∷ b ∷ c ∷ []) len small read = absurd (omega arith)
-bytes_read (word ∷ words) (a ∷ b ∷ c ∷ d ∷ bytes) len small read =
-    let whole : word ≡ a * 256 ^ 3 + (b * 256 ^ 2 + (c * 256 ^ 1 + (d * 1 + 0))) = read 0 (omega arith) in
-    let p : a < 256 = small 0 in
-    let q : b < 256 = small 1 in
-    let r : c < 256 = small 2 in
-    let s : d < 256 = small 3 in
-    let one : word / 256 ^ 3 % 256 ≡ a = omega (arith, whole, p, q, r, s) in
-    let two : word / 256 ^ 2 % 256 ≡ b = omega (arith, whole, p, q, r, s) in
-    let three : word / 256 % 256 ≡ c = omega (arith, whole, p, q, r, s) in
-    let four : word % 256 ≡ d = omega (arith, whole, p, q, r, s) in
-    let rest = bytes_read words bytes (omega arith) (λ i. small (suc (suc (suc (suc i))))) (λ k h.
-    let places : 4 * suc k ≡ suc (suc (suc (suc (4 * k)))) = omega arith in
-    read (suc k) (omega arith) ∙ ap (λ (n : ℕ). big_number 4 (drop n (a ∷ b ∷ c ∷ d ∷ bytes))) places) in
-    rw (one, two, three, four, rest) refl
 
 -- the schedule made of words that were read from a key and zeros behind them
 pub key_made : (nk behind : ℕ) (key read new : List ℕ) → length key ≡ 4 * nk → ((i : ℕ) → get_or key i 0 < 256) → length read ≡ nk → IsRead big_number 4 key read → bytes_of new ≡ schedule (bytes_of (take nk (read ++ replicate behind 0))) → (take (4 * nk) (bytes_of new) ≡ key) × (bytes_of new ≡ schedule (take (4 * nk) (bytes_of new)))
@@ -150,6 +124,29 @@ key_made nk behind key read new len small count are whole =
     let all : bytes_of new ≡ schedule key = whole ∙ ap (λ (words : List ℕ). schedule (bytes_of words)) front ∙ ap schedule bytes in
     let first = take-schedule (4 * nk) key (bytes_of new) len all in
     (first, all ∙ ap schedule (sym first))
+
+-- the bytes of words are bytes
+each : (word i : ℕ) → i < 4 → get_or (to_be_bytes w32 word) i 0 < 256
+each word zero within = omega arith
+each word (suc zero) within = omega arith
+each word (suc (suc zero)) within = omega arith
+each word (suc (suc (suc zero))) within = omega arith
+each word (suc (suc (suc (suc i)))) within = omega (arith, within)
+
+All-to_be_bytes : (word : ℕ) → All IsByte (to_be_bytes w32 word)
+All-to_be_bytes word =
+    All-from_get_or IsByte (to_be_bytes w32 word) 0 (each word)
+
+All-bytes_of : (words : List ℕ) → All IsByte (bytes_of words)
+All-bytes_of [] = All-nil IsByte
+All-bytes_of (word ∷ words) = All-append IsByte (to_be_bytes w32 word) (bytes_of words) (All-to_be_bytes word) (All-bytes_of words)
+
+-- so are those of a key that is in front of them
+pub AreBytes-front : (n : ℕ) (words key : List ℕ) → n ≤ 4 * length words → take n (bytes_of words) ≡ key → AreBytes n key
+AreBytes-front n words key within same = subst (AreBytes n) same (record {
+  len = length-take-le n (bytes_of words) (omega (arith, within, length-bytes words));
+  small = All-take IsByte n (bytes_of words) (All-bytes_of words);
+})
 
 -- how many rounds a key has, by how many words
 pub rounds_of_front : (nk : ℕ) (words : List ℕ) → nk ≤ length words → rounds_of (take (4 * nk) (bytes_of words)) ≡ nk + 6
@@ -193,7 +190,7 @@ power_more nk i power some far first due =
 pub changed_first : (nk i word changed power made : ℕ) → i % nk ≡ 0 → word < 2 ^ 32 → power < 256 → power ≡ power_of_x (i / nk - 1) → to_be_bytes w32 changed ≡ map substitute (to_be_bytes w32 (rotate_left w32 word 8)) → made ≡ bit_xor changed (power * 2 ^ 24 % 2 ^ 32) → to_be_bytes w32 made ≡ changed_word nk i (to_be_bytes w32 word)
 changed_first nk i word changed power made first fits small due substituted whole =
     ap (to_be_bytes w32) whole
-    ∙ bytes_xor changed (power * 2 ^ 24 % 2 ^ 32)
+    ∙ xor_bytes changed (power * 2 ^ 24 % 2 ^ 32)
     ∙ ap (λ (bytes : List ℕ). xor_all bytes (to_be_bytes w32 (power * 2 ^ 24 % 2 ^ 32))) (substituted ∙ ap (map substitute) (bytes_turned word fits))
     ∙ ap (xor_all (map substitute (rotated (to_be_bytes w32 word)))) (bytes_highest power small ∙ ap (λ (p : ℕ). p ∷ 0 ∷ 0 ∷ 0 ∷ []) due)
     ∙ sym (cond-true (eqb (i % nk) 0) _ _ (eq-eqb (i % nk) 0 first))

@@ -4,10 +4,10 @@ use lib.Bits.{xor_assoc, xor_zero_r}
 use Rattle.std.specs.List.{range_with_len}
 use Rattle.std.proofs.lemmas.Nat.{xor_comm, xor_of_8, xor_block, xor_shr}
 use Rattle.gd_cipher.specs.Fields.{times, times_x, sum_of_terms}
-use Rattle.gd_cipher.specs.Blocks.{combine, mix_column}
+use Rattle.gd_cipher.specs.Blocks.{row_times, mix_column}
 use Rattle.gd_cipher.proofs.ByteLemmas.{each_byte, times_x-by_bits, times_x-small}
 
-pub xor_swap : (a b c d : ℕ) → bit_xor (bit_xor a b) (bit_xor c d) ≡ bit_xor (bit_xor a c) (bit_xor b d)
+xor_swap : (a b c d : ℕ) → bit_xor (bit_xor a b) (bit_xor c d) ≡ bit_xor (bit_xor a c) (bit_xor b d)
 xor_swap a b c d =
     xor_assoc a b (bit_xor c d) ∙ ap (bit_xor a) (sym (xor_assoc b c d) ∙ ap (λ n. bit_xor n d) (xor_comm b c) ∙ xor_assoc c b d) ∙ sym (xor_assoc a c (bit_xor b d))
 
@@ -20,7 +20,7 @@ xor-double a b =
     omega (arith, short)
 
 -- one bit each, times the polynomial that is taken off
-xor-carry : (i j : ℕ) → i < 2 → j < 2 → bit_xor i j * 283 ≡ bit_xor (i * 283) (j * 283)
+xor-carry : (i j : ℕ) → i < 2 → j < 2 → bit_xor i j * 0x11b ≡ bit_xor (i * 0x11b) (j * 0x11b)
 xor-carry zero zero i2 j2 = refl
 xor-carry zero (suc zero) i2 j2 = refl
 xor-carry (suc zero) zero i2 j2 = refl
@@ -31,11 +31,11 @@ xor-carry (suc zero) (suc (suc j)) i2 j2 = omega (arith, j2)
 
 times_x-xor : (a b : ℕ) → a < 256 → b < 256 → times_x (bit_xor a b) ≡ bit_xor (times_x a) (times_x b)
 times_x-xor a b a_small b_small =
-    let carry : bit_xor a b / 128 * 283 ≡ bit_xor (a / 128 * 283) (b / 128 * 283) =
-    ap (λ n. n * 283) (xor_shr a b 7) ∙ xor-carry (a / 128) (b / 128) (omega (arith, a_small)) (omega (arith, b_small)) in
+    let carry : bit_xor a b / 128 * 0x11b ≡ bit_xor (a / 128 * 0x11b) (b / 128 * 0x11b) =
+    ap (λ n. n * 0x11b) (xor_shr a b 7) ∙ xor-carry (a / 128) (b / 128) (omega (arith, a_small)) (omega (arith, b_small)) in
     times_x-by_bits (bit_xor a b) (xor_of_8 a b a_small b_small)
     ∙ ap₂ bit_xor (xor-double a b) carry
-    ∙ xor_swap (a * 2) (b * 2) (a / 128 * 283) (b / 128 * 283)
+    ∙ xor_swap (a * 2) (b * 2) (a / 128 * 0x11b) (b / 128 * 0x11b)
     ∙ sym (ap₂ bit_xor (times_x-by_bits a a_small) (times_x-by_bits b b_small))
 
 chosen-xor : (chosen : Bool) (a b : ℕ) → cond chosen (bit_xor a b) 0 ≡ bit_xor (cond chosen a 0) (cond chosen b 0)
@@ -58,13 +58,16 @@ sum_of_terms-small zero p a small = omega arith
 sum_of_terms-small (suc terms) p a small =
     xor_of_8 (cond (p % 2 == 1) a 0) (sum_of_terms terms (p / 2) (times_x a)) (chosen-small (p % 2 == 1) a small) (sum_of_terms-small terms (p / 2) (times_x a) (times_x-small a small))
 
+pub times-small : (p a : ℕ) → a < 256 → times p a < 256
+times-small p = sum_of_terms-small 8 p
+
 -- a function that maps bytes to bytes, and sums to sums
 record IsAdditive (f : ℕ → ℕ) : Type 0 where
   small : (a : ℕ) → a < 256 → f a < 256
   sums : (a b : ℕ) → a < 256 → b < 256 → f (bit_xor a b) ≡ bit_xor (f a) (f b)
 
 IsAdditive-times : (p : ℕ) → IsAdditive (times p)
-IsAdditive-times p = record { small = sum_of_terms-small 8 p; sums = sum_of_terms-xor 8 p }
+IsAdditive-times p = record { small = times-small p; sums = sum_of_terms-xor 8 p }
 
 abbrev four : ℕ → ℕ → ℕ → ℕ → ℕ
 four a b c d = bit_xor (bit_xor a b) (bit_xor c d)
@@ -126,7 +129,7 @@ module _ (two three one : ℕ → ℕ) (twos : IsAdditive two) (threes : IsAddit
 -- The product of the two matrices is the one that leaves a column as it is: each row has 1 at its own place, and 0 elsewhere.
 module _ (a b c d : ℕ) (a_small : a < 256) (b_small : b < 256) (c_small : c < 256) (d_small : d < 256) where
   abbrev undo_by : ℕ → ℕ → ℕ → ℕ → ℕ
-  undo_by p q r s = combine p q r s (combine 2 3 1 1 a b c d) (combine 1 2 3 1 a b c d) (combine 1 1 2 3 a b c d) (combine 3 1 1 2 a b c d)
+  undo_by p q r s = row_times p q r s (row_times 2 3 1 1 a b c d) (row_times 1 2 3 1 a b c d) (row_times 1 1 2 3 a b c d) (row_times 3 1 1 2 a b c d)
 
   undo_by-row : (p q r s : ℕ) → (f g h j : ℕ → ℕ) →
       map (λ n. four (times p (times 2 n)) (times q (times 1 n)) (times r (times 1 n)) (times s (times 3 n))) (range_with_len 0 256) ≡ map f (range_with_len 0 256) →
@@ -145,22 +148,21 @@ module _ (a b c d : ℕ) (a_small : a < 256) (b_small : b < 256) (c_small : c < 
   abbrev none : ℕ → ℕ
   none byte = 0
 
-  first_row : undo_by 14 11 13 9 ≡ a
-  first_row = undo_by-row 14 11 13 9 same none none none refl refl refl refl ∙ xor_zero_r (bit_xor a 0) ∙ xor_zero_r a
+  first_row : undo_by 0x0e 0x0b 0x0d 0x09 ≡ a
+  first_row = undo_by-row 0x0e 0x0b 0x0d 0x09 same none none none refl refl refl refl ∙ xor_zero_r (bit_xor a 0) ∙ xor_zero_r a
 
-  second_row : undo_by 9 14 11 13 ≡ b
-  second_row = undo_by-row 9 14 11 13 none same none none refl refl refl refl ∙ xor_zero_r b
+  second_row : undo_by 0x09 0x0e 0x0b 0x0d ≡ b
+  second_row = undo_by-row 0x09 0x0e 0x0b 0x0d none same none none refl refl refl refl ∙ xor_zero_r b
 
-  third_row : undo_by 13 9 14 11 ≡ c
-  third_row = undo_by-row 13 9 14 11 none none same none refl refl refl refl ∙ xor_zero_r c
+  third_row : undo_by 0x0d 0x09 0x0e 0x0b ≡ c
+  third_row = undo_by-row 0x0d 0x09 0x0e 0x0b none none same none refl refl refl refl ∙ xor_zero_r c
 
-  fourth_row : undo_by 11 13 9 14 ≡ d
-  fourth_row = undo_by-row 11 13 9 14 none none none same refl refl refl refl
+  fourth_row : undo_by 0x0b 0x0d 0x09 0x0e ≡ d
+  fourth_row = undo_by-row 0x0b 0x0d 0x09 0x0e none none none same refl refl refl refl
 
-  pub undo_column : mix_column 14 11 13 9 (combine 2 3 1 1 a b c d) (combine 1 2 3 1 a b c d) (combine 1 1 2 3 a b c d) (combine 3 1 1 2 a b c d) ≡ a ∷ b ∷ c ∷ d ∷ []
+  pub undo_column : mix_column 0x0e 0x0b 0x0d 0x09 (row_times 2 3 1 1 a b c d) (row_times 1 2 3 1 a b c d) (row_times 1 1 2 3 a b c d) (row_times 3 1 1 2 a b c d) ≡ a ∷ b ∷ c ∷ d ∷ []
   undo_column = λ i. first_row i ∷ second_row i ∷ third_row i ∷ fourth_row i ∷ []
 
-pub combine-small : (p q r s a b c d : ℕ) → a < 256 → b < 256 → c < 256 → d < 256 → combine p q r s a b c d < 256
-combine-small p q r s a b c d a_small b_small c_small d_small =
-    four-small (times p a) (times q b) (times r c) (times s d) (sum_of_terms-small 8 p a a_small) (sum_of_terms-small 8 q b b_small) (sum_of_terms-small 8 r c c_small)
-    (sum_of_terms-small 8 s d d_small)
+pub row_times-small : (p q r s a b c d : ℕ) → a < 256 → b < 256 → c < 256 → d < 256 → row_times p q r s a b c d < 256
+row_times-small p q r s a b c d a_small b_small c_small d_small =
+    four-small (times p a) (times q b) (times r c) (times s d) (times-small p a a_small) (times-small q b b_small) (times-small r c c_small) (times-small s d d_small)

@@ -1,12 +1,14 @@
 -- That each round has a key of 16 bytes.
-use Rattle.std.proofs.Common.{◌≡◌, ℕ, zero, suc, ◌+◌, ◌-◌, ◌*◌, ◌/◌, ◌%◌, ◌<◌, ◌≤◌, ◌⊎◌, Bool, true, false, cond, ◌==◌, ◌&&◌, nat_lt, List, [], ◌∷◌, ◌++◌, length, take, drop, map, All, inl, inr, refl, arith, length-drop}
+use Rattle.std.proofs.Common.{◌≡◌, ℕ, zero, suc, ◌+◌, ◌-◌, ◌*◌, ◌/◌, ◌%◌, ◌<◌, ◌≤◌, Bool, true, false, cond, ◌==◌, ◌&&◌, nat_lt, List, [], ◌∷◌, ◌++◌, length, take, drop, map, inl, inr, refl, arith, length-drop}
 use Rattle.std.proofs.lemmas.List.{length-take-le}
 use Rattle.std.proofs.lemmas.List.Elements.{All-cons, All-drop, All-nil, All-take}
+use Rattle.gd_cipher.specs.Bytes.{IsByte, AreBytes, IsKey}
 use Rattle.gd_cipher.specs.Fields.{substitute}
-use Rattle.gd_cipher.specs.Blocks.{xor_all}
-use Rattle.gd_cipher.specs.Schedules.{word_at, rotated, power_of_x, round_constant, changed_word, next_word, expanded, key_words, rounds_of, schedule, round_key}
+use Rattle.gd_cipher.specs.Blocks.{xor_all, block_at}
+use Rattle.gd_cipher.specs.Schedules.{word_at, rotated, power_of_x, round_constant, changed_word, next_word, expanded, key_words, rounds_of, schedule}
 use Rattle.gd_cipher.proofs.ByteLemmas.{times_x-small}
-use Rattle.gd_cipher.proofs.UndoLemmas.{IsByte, AreBytes, AreBytes-as, AreBytes-append, AreBytes-part, AreBytes-xor_all, AreBytes-substituted}
+use Rattle.gd_cipher.proofs.SumLemmas.{AreBytes-xor_all}
+use Rattle.gd_cipher.proofs.UndoLemmas.{AreBytes-as, AreBytes-append, AreBytes-part, AreBytes-substituted}
 
 power_of_x-small : (n : ℕ) → power_of_x n < 256
 power_of_x-small zero = omega arith
@@ -52,17 +54,20 @@ AreBytes-expanded nk (suc more) words bytes some within are =
     (AreBytes-append (4 * words) 4 bytes (next_word nk bytes) are (AreBytes-next_word nk words bytes some within are))))
 
 -- a key of 16 or 32 bytes
-module _ (key : List ℕ) (long : (length key ≡ 16) ⊎ (length key ≡ 32)) (small : All IsByte key) where
+module _ (key : List ℕ) (is_key : IsKey key) where
   whole_words : length key ≡ 4 * key_words key
-  whole_words = elim long [ inl short ↦ omega (arith, short) | inr twice ↦ omega (arith, twice) ]
+  whole_words = elim is_key [ inl short ↦ omega (arith, short.len) | inr twice ↦ omega (arith, twice.len) ]
 
   some_words : 0 < key_words key
-  some_words = elim long [ inl short ↦ omega (arith, short) | inr twice ↦ omega (arith, twice) ]
+  some_words = elim is_key [ inl short ↦ omega (arith, short.len) | inr twice ↦ omega (arith, twice.len) ]
+
+  key_bytes : AreBytes (4 * key_words key) key
+  key_bytes = record { len = whole_words; small = elim is_key [ inl short ↦ short.small | inr twice ↦ twice.small ] }
 
   AreBytes-schedule : AreBytes (16 * (rounds_of key + 1)) (schedule key)
   AreBytes-schedule =
       AreBytes-as (4 * (key_words key + (4 * (rounds_of key + 1) - key_words key))) (16 * (rounds_of key + 1)) (schedule key) (omega arith)
-      (AreBytes-expanded (key_words key) (4 * (rounds_of key + 1) - key_words key) (key_words key) key some_words (omega arith) (record { len = whole_words; small = small }))
+      (AreBytes-expanded (key_words key) (4 * (rounds_of key + 1) - key_words key) (key_words key) key some_words (omega arith) key_bytes)
 
-  pub AreBytes-round_key : (round : ℕ) → round ≤ rounds_of key → AreBytes 16 (round_key (schedule key) round)
+  pub AreBytes-round_key : (round : ℕ) → round ≤ rounds_of key → AreBytes 16 (block_at (schedule key) round)
   AreBytes-round_key round within = AreBytes-part (16 * (rounds_of key + 1)) (16 * round) 16 (schedule key) (omega (arith, within)) AreBytes-schedule

@@ -3,17 +3,15 @@ use Rattle.std.proofs.Common.{◌≡◌, ◌<◌, ◌≤◌, ◌+◌, ◌*◌, �
 use Rattle.std.proofs.lemmas.List.FromFn.{fill_by_all}
 use Rattle.std.proofs.lemmas.List.{get_or-drop, length-drop}
 use Rattle.std.specs.Int.{w32, to_be_bytes}
-use Rattle.byteorder.specs.Endian.{big_number}
-use Rattle.gd_cipher.specs.Blocks.{xor_all, mix_column, mix_by, shift_rows, undo_shift_rows}
+use Rattle.gd_cipher.specs.Blocks.{xor_all, block_at, mix_column, mix_by, shift_rows, undo_shift_rows}
 use Rattle.gd_cipher.specs.Ciphers.{add_round_key}
-use Rattle.gd_cipher.specs.Schedules.{round_key}
 use Rattle.gd_cipher.specs.Words.{byte_in, bytes_of}
-use Rattle.gd_cipher.proofs.WordLemmas.{bytes_of_word, xor_bytes}
+use Rattle.gd_cipher.proofs.WordLemmas.{xor_bytes}
 
 abbrev four_of : List ℕ → List ℕ
 four_of xs = get_or xs 0 0 ∷ get_or xs 1 0 ∷ get_or xs 2 0 ∷ get_or xs 3 0 ∷ []
 
-pub four_words : (xs : List ℕ) → length xs ≡ 4 → xs ≡ four_of xs
+four_words : (xs : List ℕ) → length xs ≡ 4 → xs ≡ four_of xs
 four_words xs len = fill_by_all (λ k. get_or xs k 0) xs 4 0 len (λ k within. refl)
 
 -- four columns, given one by one
@@ -53,22 +51,6 @@ changed_state state columns p q r s of_state of_columns each =
     ∙ joined (get_or columns 0 0) (get_or columns 1 0) (get_or columns 2 0) (get_or columns 3 0) _ _ _ _ (each 0 (omega arith)) (each 1 (omega arith)) (each 2 (omega arith)) (each 3 (omega arith))
     ∙ ap (λ (words : List ℕ). mix_by p q r s (bytes_of words)) (sym (four_words state of_state))
 
-module _ (block columns : List ℕ) (fits : (i : ℕ) → get_or block i 0 < 256) (each : (k : ℕ) → k < length columns → get_or columns k 0 ≡ big_number 4 (drop (4 * k) block)) where
-  read_column : (k : ℕ) → k < length columns → to_be_bytes w32 (get_or columns k 0) ≡ get_or block (4 * k) 0 ∷ get_or block (4 * k + 1) 0 ∷ get_or block (4 * k + 2) 0 ∷ get_or block (4 * k + 3) 0 ∷ []
-  read_column k within =
-      let first : get_or (drop (4 * k) block) 0 0 ≡ get_or block (4 * k) 0 = get_or-drop (4 * k) block 0 0 ∙ ap (λ (n : ℕ). get_or block n 0) (omega arith) in
-      let second : get_or (drop (4 * k) block) 1 0 ≡ get_or block (4 * k + 1) 0 = get_or-drop (4 * k) block 1 0 in
-      let third : get_or (drop (4 * k) block) 2 0 ≡ get_or block (4 * k + 2) 0 = get_or-drop (4 * k) block 2 0 in
-      let fourth : get_or (drop (4 * k) block) 3 0 ≡ get_or block (4 * k + 3) 0 = get_or-drop (4 * k) block 3 0 in
-      bytes_of_word (get_or columns k 0) (get_or block (4 * k) 0) (get_or block (4 * k + 1) 0) (get_or block (4 * k + 2) 0) (get_or block (4 * k + 3) 0)
-      (fits (4 * k)) (fits (4 * k + 1)) (fits (4 * k + 2)) (fits (4 * k + 3)) (omega (arith, each k within))
-
-  pub read_state : length block ≡ 16 → length columns ≡ 4 → bytes_of columns ≡ block
-  read_state of_block of_columns =
-      ap bytes_of (four_words columns of_columns)
-      ∙ joined (get_or columns 0 0) (get_or columns 1 0) (get_or columns 2 0) (get_or columns 3 0) _ _ _ _ (read_column 0 (omega arith)) (read_column 1 (omega arith)) (read_column 2 (omega arith)) (read_column 3 (omega arith))
-      ∙ sym (fill_by_all (λ k. get_or block k 0) block 16 0 of_block (λ k within. refl))
-
 nothing_behind : (n : ℕ) → drop {A = ℕ} n [] ≡ []
 nothing_behind zero = refl
 nothing_behind (suc n) = refl
@@ -98,7 +80,7 @@ keyed_state state words round len enough =
     let second : get_or words (4 * round + 1) 0 ≡ get_or behind 1 0 = sym (get_or-drop (4 * round) words 1 0) in
     let third : get_or words (4 * round + 2) 0 ≡ get_or behind 2 0 = sym (get_or-drop (4 * round) words 2 0) in
     let fourth : get_or words (4 * round + 3) 0 ≡ get_or behind 3 0 = sym (get_or-drop (4 * round) words 3 0) in
-    let key : bytes_of (four_of behind) ≡ round_key (bytes_of words) round =
+    let key : bytes_of (four_of behind) ≡ block_at (bytes_of words) round =
     sym (take_bytes behind (simp length-drop (omega arith))) ∙ ap (take 16) (sym (drop_bytes (4 * round) words) ∙ ap (λ (n : ℕ). drop n (bytes_of words)) (omega arith)) in
     (λ i. bytes_of (bit_xor (get_or state 0 0) (first i) ∷ bit_xor (get_or state 1 0) (second i) ∷ bit_xor (get_or state 2 0) (third i) ∷ bit_xor (get_or state 3 0) (fourth i) ∷ []))
     ∙ joined _ _ _ _ _ _ _ _ (xor_bytes (get_or state 0 0) (get_or behind 0 0)) (xor_bytes (get_or state 1 0) (get_or behind 1 0)) (xor_bytes (get_or state 2 0) (get_or behind 2 0)) (xor_bytes (get_or state 3 0) (get_or behind 3 0))

@@ -1,23 +1,14 @@
 -- Lists of so many bytes: what the steps of a round make of them, and that each step can be undone.
-use Rattle.std.proofs.Common.{◌≡◌, ℕ, suc, ◌+◌, ◌*◌, ◌%◌, ◌<◌, ◌≤◌, List, [], ◌∷◌, ◌++◌, map, length, take, drop, bit_xor, slice_index_or, All, refl, ap, sym, ◌∙◌, subst, arith, length-append, length-drop, suc-le-suc}
-use lib.Bits.{xor_assoc, xor_zero_r, xor_self}
+use Rattle.std.proofs.Common.{◌≡◌, ℕ, suc, ◌+◌, ◌<◌, ◌≤◌, List, [], ◌∷◌, ◌++◌, map, length, take, drop, slice_index_or, All, refl, sym, ◌∙◌, arith, length-append, length-drop, suc-le-suc}
 use Rattle.std.specs.List.{range_with_len}
-use Rattle.std.proofs.lemmas.Nat.{xor_of_8}
 use Rattle.std.proofs.lemmas.List.{length-map, length-take-le}
 use Rattle.std.proofs.lemmas.List.Elements.{All-append, All-cons, All-drop, All-map, All-nil, All-take}
-use Rattle.std.proofs.lemmas.List.FromFn.{fill_by_all, get_or-map-range_with_len}
+use Rattle.std.proofs.lemmas.List.FromFn.{fill_by_all}
+use Rattle.gd_cipher.specs.Bytes.{IsByte, AreBytes}
 use Rattle.gd_cipher.specs.Fields.{substitute, undo_substitute}
-use Rattle.gd_cipher.specs.Blocks.{xor_all, sub_bytes, shift_rows, mix_columns, mix_column, undo_sub_bytes, undo_shift_rows, undo_mix_columns, combine}
+use Rattle.gd_cipher.specs.Blocks.{sub_bytes, shift_rows, mix_columns, mix_column, undo_sub_bytes, undo_shift_rows, undo_mix_columns, row_times}
 use Rattle.gd_cipher.proofs.ByteLemmas.{substitute-small, undo_substitute-substitute}
-use Rattle.gd_cipher.proofs.MixLemmas.{combine-small, undo_column}
-
-abbrev pub IsByte : ℕ → Type 0
-IsByte byte = byte < 256
-
--- the list has n bytes
-pub record AreBytes (n : ℕ) (bytes : List ℕ) : Type 0 where
-  pub len : length bytes ≡ n
-  pub small : All IsByte bytes
+use Rattle.gd_cipher.proofs.MixLemmas.{row_times-small, undo_column}
 
 pub AreBytes-as : (m n : ℕ) (bytes : List ℕ) → m ≡ n → AreBytes m bytes → AreBytes n bytes
 AreBytes-as m n bytes same are = record { len = are.len ∙ same; small = are.small }
@@ -34,49 +25,13 @@ AreBytes-part n from many bytes within are = record {
   small = All-take IsByte many (drop from bytes) (All-drop IsByte from bytes are.small);
 }
 
--- ---- a key is added
+-- ---- bytes are substituted
 
 first_of : (byte : ℕ) (bytes : List ℕ) → All IsByte (byte ∷ bytes) → byte < 256
 first_of byte bytes small = small 0 0 (omega arith)
 
 rest_of : (byte : ℕ) (bytes : List ℕ) → All IsByte (byte ∷ bytes) → All IsByte bytes
 rest_of byte bytes small k d within = small (suc k) d (suc-le-suc within)
-
-xor_all-len : (these those : List ℕ) → length these ≡ length those → length (xor_all these those) ≡ length these
-xor_all-len [] those same = refl
-xor_all-len (x ∷ these) [] same = omega (arith, same)
-xor_all-len (x ∷ these) (y ∷ those) same =
-    let rest : length these ≡ length those = omega (arith, same) in
-    ap suc (xor_all-len these those rest)
-
-xor_all-small : (these those : List ℕ) → All IsByte these → All IsByte those → All IsByte (xor_all these those)
-xor_all-small [] those first second = All-nil IsByte
-xor_all-small (x ∷ these) [] first second = All-nil IsByte
-xor_all-small (x ∷ these) (y ∷ those) first second =
-    All-cons IsByte (bit_xor x y) (xor_all these those) (xor_of_8 x y (first_of x these first) (first_of y those second))
-    (xor_all-small these those (rest_of x these first) (rest_of y those second))
-
-pub AreBytes-xor_all : (n : ℕ) (these those : List ℕ) → AreBytes n these → AreBytes n those → AreBytes n (xor_all these those)
-AreBytes-xor_all n these those first second = record {
-  len = xor_all-len these those (first.len ∙ sym second.len) ∙ first.len;
-  small = xor_all-small these those first.small second.small;
-}
-
-xor_twice : (x y : ℕ) → bit_xor (bit_xor x y) y ≡ x
-xor_twice x y = xor_assoc x y y ∙ ap (bit_xor x) (xor_self y) ∙ xor_zero_r x
-
-xor_all-again : (these those : List ℕ) → length these ≡ length those → xor_all (xor_all these those) those ≡ these
-xor_all-again [] those same = refl
-xor_all-again (x ∷ these) [] same = absurd (omega (arith, same))
-xor_all-again (x ∷ these) (y ∷ those) same =
-    let rest : length these ≡ length those = omega (arith, same) in
-    λ i. xor_twice x y i ∷ xor_all-again these those rest i
-
--- what was added once more is as it was
-pub xor_all-undone : (n : ℕ) (these those : List ℕ) → AreBytes n these → AreBytes n those → xor_all (xor_all these those) those ≡ these
-xor_all-undone n these those first second = xor_all-again these those (first.len ∙ sym second.len)
-
--- ---- bytes are substituted
 
 AreBytes-map : (f : ℕ → ℕ) → ((byte : ℕ) → byte < 256 → f byte < 256) → (n : ℕ) (bytes : List ℕ) → AreBytes n bytes → AreBytes n (map f bytes)
 AreBytes-map f stays n bytes are = record {
@@ -85,7 +40,7 @@ AreBytes-map f stays n bytes are = record {
 }
 
 pub AreBytes-substituted : (n : ℕ) (bytes : List ℕ) → AreBytes n bytes → AreBytes n (map substitute bytes)
-AreBytes-substituted = AreBytes-map substitute substitute-small
+AreBytes-substituted = AreBytes-map substitute (λ byte small. substitute-small byte)
 
 map_back : (f g : ℕ → ℕ) → ((byte : ℕ) → byte < 256 → g (f byte) ≡ byte) → (bytes : List ℕ) → All IsByte bytes → map g (map f bytes) ≡ bytes
 map_back f g back [] small = refl
@@ -99,15 +54,6 @@ sub_bytes-undone n bytes are = map_back substitute undo_substitute undo_substitu
 written_out : (state : List ℕ) → length state ≡ 16 → map (λ i. slice_index_or state i 0) (range_with_len 0 16) ≡ state
 written_out state len = sym (fill_by_all (λ i. slice_index_or state i 0) state 16 0 len (λ k small. refl))
 
-pub AreBytes-shift_rows : (state : List ℕ) → AreBytes 16 state → AreBytes 16 (shift_rows state)
-AreBytes-shift_rows state are = record {
-  len = refl;
-  small = λ k d within.
-      let moved : slice_index_or (shift_rows state) k d ≡ slice_index_or state ((k + 4 * (k % 4)) % 16) 0 =
-      get_or-map-range_with_len (λ i. slice_index_or state ((i + 4 * (i % 4)) % 16) 0) 0 16 k k d within (omega arith) in
-      subst IsByte (sym moved) (are.small ((k + 4 * (k % 4)) % 16) 0 (omega (arith, are.len)));
-}
-
 pub shift_rows-undone : (state : List ℕ) → AreBytes 16 state → undo_shift_rows (shift_rows state) ≡ state
 shift_rows-undone state are = written_out state are.len
 
@@ -118,11 +64,11 @@ small_before a b c d rest a_small b_small c_small d_small rest_small =
 
 column-small : (a b c d : ℕ) (rest : List ℕ) → a < 256 → b < 256 → c < 256 → d < 256 → All IsByte rest → All IsByte (mix_column 2 3 1 1 a b c d ++ rest)
 column-small a b c d rest a_small b_small c_small d_small rest_small =
-    small_before (combine 2 3 1 1 a b c d) (combine 1 2 3 1 a b c d) (combine 1 1 2 3 a b c d) (combine 3 1 1 2 a b c d) rest
-    (combine-small 2 3 1 1 a b c d a_small b_small c_small d_small)
-    (combine-small 1 2 3 1 a b c d a_small b_small c_small d_small)
-    (combine-small 1 1 2 3 a b c d a_small b_small c_small d_small)
-    (combine-small 3 1 1 2 a b c d a_small b_small c_small d_small)
+    small_before (row_times 2 3 1 1 a b c d) (row_times 1 2 3 1 a b c d) (row_times 1 1 2 3 a b c d) (row_times 3 1 1 2 a b c d) rest
+    (row_times-small 2 3 1 1 a b c d a_small b_small c_small d_small)
+    (row_times-small 1 2 3 1 a b c d a_small b_small c_small d_small)
+    (row_times-small 1 1 2 3 a b c d a_small b_small c_small d_small)
+    (row_times-small 3 1 1 2 a b c d a_small b_small c_small d_small)
     rest_small
 
 module _ (state : List ℕ) (are : AreBytes 16 state) where
@@ -131,6 +77,23 @@ module _ (state : List ℕ) (are : AreBytes 16 state) where
 
   byte-small : (i : ℕ) → i < 16 → byte i < 256
   byte-small i within = are.small i 0 (omega (arith, within, are.len))
+
+  -- four bytes of the state in front of others
+  abbrev bytes_before : ℕ → ℕ → ℕ → ℕ → List ℕ → List ℕ
+  bytes_before i j k l rest = byte i ∷ byte j ∷ byte k ∷ byte l ∷ rest
+
+  moved-small : (i j k l : ℕ) (rest : List ℕ) → i < 16 → j < 16 → k < 16 → l < 16 → All IsByte rest → All IsByte (bytes_before i j k l rest)
+  moved-small i j k l rest i_within j_within k_within l_within =
+      small_before (byte i) (byte j) (byte k) (byte l) rest (byte-small i i_within) (byte-small j j_within) (byte-small k k_within) (byte-small l l_within)
+
+  pub AreBytes-shift_rows : AreBytes 16 (shift_rows state)
+  AreBytes-shift_rows = record {
+    len = refl;
+    small = moved-small 0 5 10 15 (bytes_before 4 9 14 3 (bytes_before 8 13 2 7 (bytes_before 12 1 6 11 []))) (omega arith) (omega arith) (omega arith) (omega arith)
+        (moved-small 4 9 14 3 (bytes_before 8 13 2 7 (bytes_before 12 1 6 11 [])) (omega arith) (omega arith) (omega arith) (omega arith)
+        (moved-small 8 13 2 7 (bytes_before 12 1 6 11 []) (omega arith) (omega arith) (omega arith) (omega arith)
+        (moved-small 12 1 6 11 [] (omega arith) (omega arith) (omega arith) (omega arith) (All-nil IsByte))));
+  }
 
   -- the mixed column of the four bytes from this place on
   abbrev mixed : ℕ → List ℕ
@@ -151,7 +114,7 @@ module _ (state : List ℕ) (are : AreBytes 16 state) where
   }
 
   abbrev undone : ℕ → ℕ → ℕ → ℕ → List ℕ
-  undone a b c d = mix_column 14 11 13 9 (combine 2 3 1 1 a b c d) (combine 1 2 3 1 a b c d) (combine 1 1 2 3 a b c d) (combine 3 1 1 2 a b c d)
+  undone a b c d = mix_column 0x0e 0x0b 0x0d 0x09 (row_times 2 3 1 1 a b c d) (row_times 1 2 3 1 a b c d) (row_times 1 1 2 3 a b c d) (row_times 3 1 1 2 a b c d)
 
   column_undone : (i : ℕ) → i + 3 < 16 → undone (byte i) (byte (i + 1)) (byte (i + 2)) (byte (i + 3)) ≡ byte i ∷ byte (i + 1) ∷ byte (i + 2) ∷ byte (i + 3) ∷ []
   column_undone i within =

@@ -1,8 +1,10 @@
 -- The bytes of a word of 32 bits.
-use Rattle.std.proofs.Common.{◌≡◌, ◌<◌, ◌+◌, ◌*◌, ◌/◌, ◌%◌, ◌^◌, ◌∙◌, ℕ, List, [], ◌∷◌, ap, arith, get_or, bit_xor, bit_or}
+use Rattle.std.proofs.Common.{◌≡◌, ◌<◌, ◌+◌, ◌*◌, ◌/◌, ◌%◌, ◌^◌, ◌∙◌, ℕ, suc, List, [], ◌∷◌, ap, refl, arith, length, drop, get_or, bit_xor, bit_or}
 use Rattle.std.proofs.lemmas.Nat.{or_comm, or_shifted, xor_shr, xor_mod}
 use Rattle.std.specs.Int.{w32, to_be_bytes, from_be_bytes, rotate_right}
-use Rattle.gd_cipher.specs.Words.{byte_in}
+use Rattle.byteorder.specs.Endian.{big_number, IsRead}
+use Rattle.gd_cipher.specs.Blocks.{xor_all}
+use Rattle.gd_cipher.specs.Words.{bytes_of}
 
 -- bytes put together and taken apart again
 pub bytes_of_word : (n a b c d : ℕ) → a < 256 → b < 256 → c < 256 → d < 256 → n ≡ from_be_bytes w32 (a ∷ b ∷ c ∷ d ∷ []) → to_be_bytes w32 n ≡ a ∷ b ∷ c ∷ d ∷ []
@@ -17,13 +19,36 @@ bytes_of_word n a b c d la lb lc ld e =
 xor_byte : (k x y : ℕ) → bit_xor x y / 2 ^ k % 256 ≡ bit_xor (x / 2 ^ k % 256) (y / 2 ^ k % 256)
 xor_byte k x y = ap (λ (z : ℕ). z % 256) (xor_shr x y k) ∙ xor_mod (x / 2 ^ k) (y / 2 ^ k) 8
 
--- the sum of two words is that of their bytes
-pub xor_bytes : (x y : ℕ) → to_be_bytes w32 (bit_xor x y) ≡ bit_xor (byte_in x 0) (byte_in y 0) ∷ bit_xor (byte_in x 1) (byte_in y 1) ∷ bit_xor (byte_in x 2) (byte_in y 2) ∷ bit_xor (byte_in x 3) (byte_in y 3) ∷ []
+-- the bytes of a sum are the sums of the bytes
+pub xor_bytes : (x y : ℕ) → to_be_bytes w32 (bit_xor x y) ≡ xor_all (to_be_bytes w32 x) (to_be_bytes w32 y)
 xor_bytes x y = λ i. xor_byte 24 x y i ∷ xor_byte 16 x y i ∷ xor_byte 8 x y i ∷ xor_mod x y 8 i ∷ []
 
+-- words read from bytes have these
+pub bytes_read : (words bytes : List ℕ) → length bytes ≡ 4 * length words → ((i : ℕ) → get_or bytes i 0 < 256) → IsRead big_number 4 bytes words → bytes_of words ≡ bytes
+bytes_read [] [] len small read = refl
+bytes_read [] (a ∷ bytes) len small read = absurd (omega arith)
+bytes_read (word ∷ words) [] len small read = absurd (omega arith)
+bytes_read (word ∷ words) (a ∷ []) len small read = absurd (omega arith)
+bytes_read (word ∷ words) (a ∷ b ∷ []) len small read = absurd (omega arith)
+bytes_read (word ∷ words) (a ∷ b ∷ c ∷ []) len small read = absurd (omega arith)
+bytes_read (word ∷ words) (a ∷ b ∷ c ∷ d ∷ bytes) len small read =
+    let whole : word ≡ a * 256 ^ 3 + (b * 256 ^ 2 + (c * 256 ^ 1 + (d * 1 + 0))) = read 0 (omega arith) in
+    let p : a < 256 = small 0 in
+    let q : b < 256 = small 1 in
+    let r : c < 256 = small 2 in
+    let s : d < 256 = small 3 in
+    let one : word / 256 ^ 3 % 256 ≡ a = omega (arith, whole, p, q, r, s) in
+    let two : word / 256 ^ 2 % 256 ≡ b = omega (arith, whole, p, q, r, s) in
+    let three : word / 256 % 256 ≡ c = omega (arith, whole, p, q, r, s) in
+    let four : word % 256 ≡ d = omega (arith, whole, p, q, r, s) in
+    let rest = bytes_read words bytes (omega arith) (λ i. small (suc (suc (suc (suc i))))) (λ k h.
+    let places : 4 * suc k ≡ suc (suc (suc (suc (4 * k)))) = omega arith in
+    read (suc k) (omega arith) ∙ ap (λ (n : ℕ). big_number 4 (drop n (a ∷ b ∷ c ∷ d ∷ bytes))) places) in
+    rw (one, two, three, four, rest) refl
+
 module _ (x a b c d : ℕ) (is : to_be_bytes w32 x ≡ a ∷ b ∷ c ∷ d ∷ []) where
-  byte_at : (row : ℕ) → get_or (to_be_bytes w32 x) row 0 ≡ get_or (a ∷ b ∷ c ∷ d ∷ []) row 0
-  byte_at row = ap (λ (bytes : List ℕ). get_or bytes row 0) is
+  in_row : (row : ℕ) → get_or (to_be_bytes w32 x) row 0 ≡ get_or (a ∷ b ∷ c ∷ d ∷ []) row 0
+  in_row row = ap (λ (bytes : List ℕ). get_or bytes row 0) is
 
   pub xor_words : (y e f g h : ℕ) → to_be_bytes w32 y ≡ e ∷ f ∷ g ∷ h ∷ [] → to_be_bytes w32 (bit_xor x y) ≡ bit_xor a e ∷ bit_xor b f ∷ bit_xor c g ∷ bit_xor d h ∷ []
   xor_words y e f g h same =
@@ -38,10 +63,10 @@ module _ (x a b c d : ℕ) (is : to_be_bytes w32 x ≡ a ∷ b ∷ c ∷ d ∷ [
         let high : x * 16777216 % 4294967296 ≡ x % 256 * 16777216 = omega arith in
         let turned : rotate_right w32 x 8 ≡ x % 256 * 16777216 + x / 256 =
         ap (bit_or (x / 256)) high ∙ or_comm (x / 256) (x % 256 * 16777216) ∙ or_shifted (x % 256) 24 (x / 256) (omega arith) in
-        let first : rotate_right w32 x 8 / 16777216 % 256 ≡ d = omega (arith, byte_at 3) in
-        let second : rotate_right w32 x 8 / 65536 % 256 ≡ a = omega (arith, byte_at 0) in
-        let third : rotate_right w32 x 8 / 256 % 256 ≡ b = omega (arith, byte_at 1) in
-        let fourth : rotate_right w32 x 8 % 256 ≡ c = omega (arith, byte_at 2) in
+        let first : rotate_right w32 x 8 / 16777216 % 256 ≡ d = omega (arith, in_row 3) in
+        let second : rotate_right w32 x 8 / 65536 % 256 ≡ a = omega (arith, in_row 0) in
+        let third : rotate_right w32 x 8 / 256 % 256 ≡ b = omega (arith, in_row 1) in
+        let fourth : rotate_right w32 x 8 % 256 ≡ c = omega (arith, in_row 2) in
         λ i. first i ∷ second i ∷ third i ∷ fourth i ∷ []
 
     pub turned_16 : to_be_bytes w32 (rotate_right w32 x 16) ≡ c ∷ d ∷ a ∷ b ∷ []
@@ -49,10 +74,10 @@ module _ (x a b c d : ℕ) (is : to_be_bytes w32 x ≡ a ∷ b ∷ c ∷ d ∷ [
         let high : x * 65536 % 4294967296 ≡ x % 65536 * 65536 = omega arith in
         let turned : rotate_right w32 x 16 ≡ x % 65536 * 65536 + x / 65536 =
         ap (bit_or (x / 65536)) high ∙ or_comm (x / 65536) (x % 65536 * 65536) ∙ or_shifted (x % 65536) 16 (x / 65536) (omega arith) in
-        let first : rotate_right w32 x 16 / 16777216 % 256 ≡ c = omega (arith, byte_at 2) in
-        let second : rotate_right w32 x 16 / 65536 % 256 ≡ d = omega (arith, byte_at 3) in
-        let third : rotate_right w32 x 16 / 256 % 256 ≡ a = omega (arith, byte_at 0) in
-        let fourth : rotate_right w32 x 16 % 256 ≡ b = omega (arith, byte_at 1) in
+        let first : rotate_right w32 x 16 / 16777216 % 256 ≡ c = omega (arith, in_row 2) in
+        let second : rotate_right w32 x 16 / 65536 % 256 ≡ d = omega (arith, in_row 3) in
+        let third : rotate_right w32 x 16 / 256 % 256 ≡ a = omega (arith, in_row 0) in
+        let fourth : rotate_right w32 x 16 % 256 ≡ b = omega (arith, in_row 1) in
         λ i. first i ∷ second i ∷ third i ∷ fourth i ∷ []
 
     pub turned_24 : to_be_bytes w32 (rotate_right w32 x 24) ≡ b ∷ c ∷ d ∷ a ∷ []
@@ -60,8 +85,8 @@ module _ (x a b c d : ℕ) (is : to_be_bytes w32 x ≡ a ∷ b ∷ c ∷ d ∷ [
         let high : x * 256 % 4294967296 ≡ x % 16777216 * 256 = omega arith in
         let turned : rotate_right w32 x 24 ≡ x % 16777216 * 256 + x / 16777216 =
         ap (bit_or (x / 16777216)) high ∙ or_comm (x / 16777216) (x % 16777216 * 256) ∙ or_shifted (x % 16777216) 8 (x / 16777216) (omega arith) in
-        let first : rotate_right w32 x 24 / 16777216 % 256 ≡ b = omega (arith, byte_at 1) in
-        let second : rotate_right w32 x 24 / 65536 % 256 ≡ c = omega (arith, byte_at 2) in
-        let third : rotate_right w32 x 24 / 256 % 256 ≡ d = omega (arith, byte_at 3) in
-        let fourth : rotate_right w32 x 24 % 256 ≡ a = omega (arith, byte_at 0) in
+        let first : rotate_right w32 x 24 / 16777216 % 256 ≡ b = omega (arith, in_row 1) in
+        let second : rotate_right w32 x 24 / 65536 % 256 ≡ c = omega (arith, in_row 2) in
+        let third : rotate_right w32 x 24 / 256 % 256 ≡ d = omega (arith, in_row 3) in
+        let fourth : rotate_right w32 x 24 % 256 ≡ a = omega (arith, in_row 0) in
         λ i. first i ∷ second i ∷ third i ∷ fourth i ∷ []

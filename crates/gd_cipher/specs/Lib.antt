@@ -1,4 +1,5 @@
 pub mod Blocks
+pub mod Bytes
 pub mod Chains
 pub mod Ciphers
 pub mod Fields

@@ -11,19 +11,20 @@ block_key key =
     let short = if nat_lt 64 (length key) then sha256 key else key in
     short ++ replicate (64 - length short) 0
 
--- the key with each byte added to one byte
+-- the key of a block's length, with one byte added to each of its bytes
 abbrev pub padded : ℕ → List ℕ → List ℕ
 padded pad key = xor_all (block_key key) (replicate 64 pad)
 
--- the inner pad is 36 in hexadecimal digits, the outer 5c
+-- the hash of the key with the outer pad and of the hash of the key with the inner pad and the text
 abbrev pub hmac : List ℕ → List ℕ → List ℕ
-hmac key text = sha256 (padded 92 key ++ sha256 (padded 54 key ++ text))
+hmac key text = sha256 (padded 0x5c key ++ sha256 (padded 0x36 key ++ text))
 
--- The hash has been fed with the key and a text so far: its inner hasher holds the inner pad and the text, its outer one the outer pad.
+-- A text so far has been taken under a key: the inner hasher holds the key with the inner pad added and then the text, and the outer one holds
+-- the key with the outer pad added.
 abbrev pub IsHmacOf : Hmac → List ℕ → List ℕ → Type 0
-IsHmacOf hash key text = Holds256 hash.inner (padded 54 key ++ text) × Holds256 hash.outer (padded 92 key)
+IsHmacOf hash key text = Holds256 hash.inner (padded 0x36 key ++ text) × Holds256 hash.outer (padded 0x5c key)
 
--- the IV of a later phase 2 exchange: of the last cipher block of phase 1 and the message id, as many bytes of the hash as a block has
--- (RFC 2409 appendix B)
-abbrev pub iv_of : List ℕ → List ℕ → List ℕ
-iv_of last message = take 16 (sha256 (last ++ message))
+-- The IV of the first message of a phase 2 exchange, as quick mode is (RFC 2409 appendix B), where SHA-256 is the negotiated hash: of the hash
+-- of the last cipher block of phase 1 and the message id, as many bytes as a block has.
+abbrev pub phase2_first_iv : List ℕ → List ℕ → List ℕ
+phase2_first_iv last message = take 16 (sha256 (last ++ message))

@@ -3,6 +3,7 @@ use Rattle.std.specs.Prelude.{ℕ, zero, suc, ◌+◌, ◌-◌, ◌*◌, ◌/◌
 use Rattle.gd_cipher.specs.Fields.{times_x, substitute}
 use Rattle.gd_cipher.specs.Blocks.{xor_all}
 
+-- word i of a list of bytes, counted from 0
 abbrev pub word_at : List ℕ → ℕ → List ℕ
 word_at bytes i = take 4 (drop (4 * i) bytes)
 
@@ -10,12 +11,12 @@ word_at bytes i = take 4 (drop (4 * i) bytes)
 abbrev pub rotated : List ℕ → List ℕ
 rotated word = drop 1 word ++ take 1 word
 
--- x to a power
+-- x to the power n
 abbrev pub power_of_x : ℕ → ℕ
 power_of_x zero = 1
 power_of_x (suc n) = times_x (power_of_x n)
 
--- the round constant of a number from 1 on
+-- round constant j, counted from 1: x to the power j - 1 and three zeros
 abbrev pub round_constant : ℕ → List ℕ
 round_constant j = power_of_x (j - 1) ∷ 0 ∷ 0 ∷ 0 ∷ []
 
@@ -37,17 +38,14 @@ abbrev pub expanded : ℕ → ℕ → List ℕ → List ℕ
 expanded nk zero bytes = bytes
 expanded nk (suc more) bytes = expanded nk more (bytes ++ next_word nk bytes)
 
--- how many words a key has, and how many rounds (section 5, figure 4)
+-- how many words a key has
 abbrev pub key_words : List ℕ → ℕ
 key_words key = length key / 4
 
+-- how many rounds there are under a key (section 5, table 3)
 abbrev pub rounds_of : List ℕ → ℕ
 rounds_of key = key_words key + 6
 
 -- the words of all round keys
 abbrev pub schedule : List ℕ → List ℕ
 schedule key = expanded (key_words key) (4 * (rounds_of key + 1) - key_words key) key
-
--- the key of a round, from round 0 on
-abbrev pub round_key : List ℕ → ℕ → List ℕ
-round_key bytes round = take 16 (drop (16 * round) bytes)

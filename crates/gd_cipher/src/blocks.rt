@@ -1,6 +1,5 @@
 //! A block through the rounds.
-ghost use Rattle.std.specs.Prelude.{◌≡◌, ◌+◌, ◌*◌, ◌<◌, ◌≤◌, length};
-ghost use Rattle.std.specs.Prelude.{[], ◌∷◌};
+ghost use Rattle.std.specs.Prelude.{◌≡◌, ◌+◌, ◌*◌, ◌≤◌, [], ◌∷◌, length};
 ghost use Rattle.std.specs.Int.{w32, to_be_bytes};
 ghost use Rattle.gd_cipher.specs.Fields.{substitute, undo_substitute};
 ghost use Rattle.gd_cipher.specs.Blocks.{mix_column, sub_bytes, shift_rows, mix_columns, undo_sub_bytes, undo_shift_rows, undo_mix_columns};
@@ -22,9 +21,9 @@ pub(crate) fn encrypt(words: &[u32], rounds: usize, block: &mut [u8; 16])
 {
     let mut state = with_key(read(block), words, 0);
     for round in 1..rounds {
-        state = with_key(mixed_columns(state), words, round);
+        state = with_key(whole_round(state), words, round);
     }
-    write(with_key(substituted_columns(state), words, rounds), block);
+    write(with_key(last_round(state), words, rounds), block);
 }
 
 /// Decrypts a block (FIPS 197 section 5.3).
@@ -41,6 +40,7 @@ pub(crate) fn decrypt(words: &[u32], rounds: usize, block: &mut [u8; 16])
     write(with_key(unsubstituted_columns(state), words, 0), block);
 }
 
+/// The columns of a block.
 fn read(block: &[u8; 16]) -> Columns
     ensures { bytes_of result ≡ block.now }
 {
@@ -49,6 +49,7 @@ fn read(block: &[u8; 16]) -> Columns
     columns
 }
 
+/// The block of these columns.
 fn write(columns: Columns, block: &mut [u8; 16])
     ensures { block.new ≡ bytes_of columns }
 {
@@ -70,8 +71,8 @@ fn with_key(state: Columns, words: &[u32], round: usize) -> Columns
     ]
 }
 
-/// The bytes substituted, the rows shifted and the columns mixed.
-fn mixed_columns(state: Columns) -> Columns
+/// A whole round up to its key: the bytes substituted, the rows shifted and the columns mixed.
+fn whole_round(state: Columns) -> Columns
     ensures { bytes_of result ≡ mix_columns (shift_rows (sub_bytes (bytes_of state))) }
 {
     let [a, b, c, d] = state;
@@ -83,9 +84,10 @@ fn mixed_columns(state: Columns) -> Columns
     ]
 }
 
-/// A column of which each row comes from one of these.
+/// A column of which each row comes from one of these, substituted, and then mixed.
 fn mixed_column(first: u32, second: u32, third: u32, fourth: u32) -> u32
-    ensures { to_be_bytes w32 result ≡ mix_column 2 3 1 1 (substitute (byte_in first 0)) (substitute (byte_in second 1)) (substitute (byte_in third 2)) (substitute (byte_in fourth 3)) }
+    ensures { to_be_bytes w32 result ≡ mix_column 0x02 0x03 0x01 0x01
+        (substitute (byte_in first 0)) (substitute (byte_in second 1)) (substitute (byte_in third 2)) (substitute (byte_in fourth 3)) }
 {
     let [a, _, _, _] = first.to_be_bytes();
     let [_, b, _, _] = second.to_be_bytes();
@@ -94,8 +96,8 @@ fn mixed_column(first: u32, second: u32, third: u32, fourth: u32) -> u32
     mixed(a) ^ mixed(b).rotate_right(8) ^ mixed(c).rotate_right(16) ^ mixed(d).rotate_right(24)
 }
 
-/// The bytes substituted and the rows shifted.
-fn substituted_columns(state: Columns) -> Columns
+/// The last round up to its key: the bytes substituted and the rows shifted.
+fn last_round(state: Columns) -> Columns
     ensures { bytes_of result ≡ shift_rows (sub_bytes (bytes_of state)) }
 {
     let [a, b, c, d] = state;
@@ -107,8 +109,10 @@ fn substituted_columns(state: Columns) -> Columns
     ]
 }
 
+/// A column of which each row comes from one of these, substituted.
 fn substituted_column(first: u32, second: u32, third: u32, fourth: u32) -> u32
-    ensures { to_be_bytes w32 result ≡ substitute (byte_in first 0) ∷ substitute (byte_in second 1) ∷ substitute (byte_in third 2) ∷ substitute (byte_in fourth 3) ∷ [] }
+    ensures { to_be_bytes w32 result ≡
+        substitute (byte_in first 0) ∷ substitute (byte_in second 1) ∷ substitute (byte_in third 2) ∷ substitute (byte_in fourth 3) ∷ [] }
 {
     let [a, _, _, _] = first.to_be_bytes();
     let [_, b, _, _] = second.to_be_bytes();
@@ -135,8 +139,10 @@ fn unsubstituted_columns(state: Columns) -> Columns
     ]
 }
 
+/// A column of which each row comes from one of these, its substitution undone.
 fn unsubstituted_column(first: u32, second: u32, third: u32, fourth: u32) -> u32
-    ensures { to_be_bytes w32 result ≡ undo_substitute (byte_in first 0) ∷ undo_substitute (byte_in second 1) ∷ undo_substitute (byte_in third 2) ∷ undo_substitute (byte_in fourth 3) ∷ [] }
+    ensures { to_be_bytes w32 result ≡ undo_substitute (byte_in first 0) ∷ undo_substitute (byte_in second 1)
+        ∷ undo_substitute (byte_in third 2) ∷ undo_substitute (byte_in fourth 3) ∷ [] }
 {
     let [a, _, _, _] = first.to_be_bytes();
     let [_, b, _, _] = second.to_be_bytes();
@@ -157,8 +163,10 @@ fn unmixed_columns(state: Columns) -> Columns
     state.map(unmixed_column)
 }
 
+/// The column before it was mixed.
 fn unmixed_column(column: u32) -> u32
-    ensures { to_be_bytes w32 result ≡ mix_column 14 11 13 9 (byte_in column 0) (byte_in column 1) (byte_in column 2) (byte_in column 3) }
+    ensures { to_be_bytes w32 result ≡ mix_column 0x0e 0x0b 0x0d 0x09
+        (byte_in column 0) (byte_in column 1) (byte_in column 2) (byte_in column 3) }
 {
     let [a, b, c, d] = column.to_be_bytes();
     unmixed(a)

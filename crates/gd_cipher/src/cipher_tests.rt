@@ -1,3 +1,4 @@
+use crate::test_octets::octets;
 use crate::{Key128, Key256, cbc_open, cbc_seal};
 use std::test::Fail;
 
@@ -6,7 +7,7 @@ const PLAIN: &str = "6bc1bee22e409f96e93d7e117393172aae2d8a571e03ac9c9eb76fac45a
 
 const IV: &str = "000102030405060708090a0b0c0d0e0f";
 
-/// FIPS 197 appendices B and C.1: a key of 128 bits, a block, and the block encrypted.
+/// FIPS 197 as it stood in 2001, appendices B and C.1: a key of 128 bits, a block, and the block encrypted.
 #[test]
 fn blocks_under_keys_of_128_bits(rt: HostRuntime) -> Result<(), Fail> {
     let table = [
@@ -32,7 +33,7 @@ fn blocks_under_keys_of_128_bits(rt: HostRuntime) -> Result<(), Fail> {
     Ok(())
 }
 
-/// FIPS 197 appendix C.3: a key of 256 bits.
+/// FIPS 197 as it stood in 2001, appendix C.3: a key of 256 bits.
 #[test]
 fn a_block_under_a_key_of_256_bits(rt: HostRuntime) -> Result<(), Fail> {
     let key = octets("000102030405060708090a0b0c0d0e0f101112131415161718191a1b1c1d1e1f")?;
@@ -121,13 +122,6 @@ fn sum(these: &[u8; 16], those: &[u8; 16]) -> [u8; 16] {
         *byte ^= *other;
     }
     sum
-}
-
-/// The octets of hexadecimal digits.
-fn octets<const N: usize>(text: &str) -> Result<[u8; N], Fail> {
-    let mut octets = [0; N];
-    hex::decode_to_slice(text, &mut octets)?;
-    Ok(octets)
 }
 
 /// Octets drawn by a linear congruence.

@@ -1,5 +1,6 @@
 //! Keys with their schedules.
 ghost use Rattle.std.specs.Prelude.{◌≡◌};
+ghost use Rattle.gd_cipher.specs.Bytes.{AreBytes};
 ghost use Rattle.gd_cipher.specs.Ciphers.{cipher, decipher};
 
 use crate::blocks::{decrypt, encrypt};
@@ -38,16 +39,25 @@ impl Key128 {
 
     /// Encrypts a block in place (FIPS 197 section 5.1).
     pub fn encrypt_block(&self, block: &mut [u8; 16])
-        ensures { block.new ≡ cipher self.now block.old }
+        ensures block { block.new ≡ cipher self.now block.old }
+        ensures key { AreBytes 16 self.now }
     {
         encrypt(&self.words, 10, block);
     }
 
     /// Decrypts a block in place (FIPS 197 section 5.3).
     pub fn decrypt_block(&self, block: &mut [u8; 16])
-        ensures { block.new ≡ decipher self.now block.old }
+        ensures block { block.new ≡ decipher self.now block.old }
+        ensures key { AreBytes 16 self.now }
     {
         decrypt(&self.words, 10, block);
+    }
+
+    /// Tells contracts that the key has 16 bytes.
+    pub(crate) fn has_16_bytes(&self)
+        ensures { AreBytes 16 self.now }
+    {
+        let _ = &self.words;
     }
 }
 
@@ -82,14 +92,16 @@ impl Key256 {
 
     /// Encrypts a block in place (FIPS 197 section 5.1).
     pub fn encrypt_block(&self, block: &mut [u8; 16])
-        ensures { block.new ≡ cipher self.now block.old }
+        ensures block { block.new ≡ cipher self.now block.old }
+        ensures key { AreBytes 32 self.now }
     {
         encrypt(&self.words, 14, block);
     }
 
     /// Decrypts a block in place (FIPS 197 section 5.3).
     pub fn decrypt_block(&self, block: &mut [u8; 16])
-        ensures { block.new ≡ decipher self.now block.old }
+        ensures block { block.new ≡ decipher self.now block.old }
+        ensures key { AreBytes 32 self.now }
     {
         decrypt(&self.words, 14, block);
     }

@@ -1,21 +1,22 @@
-//! That opening undoes sealing, and that a text is sealed in one way.
-ghost use Rattle.std.specs.Prelude.{◌≡◌, ◌⊎◌, ◌%◌, ◌<◌, ℕ, List, length, All};
+//! That decrypting undoes encrypting, that opening undoes sealing, and that a text is sealed in one way.
+ghost use Rattle.std.specs.Prelude.{◌≡◌, ℕ, List, length, All};
+ghost use Rattle.gd_cipher.specs.Bytes.{IsByte, AreBytes, IsKey};
 ghost use Rattle.gd_cipher.specs.Ciphers.{cipher, decipher};
 ghost use Rattle.gd_cipher.specs.Chains.{IsSealed, IsOpened};
 
-/// A block encrypted and then decrypted under one key is as it was, for keys of 16 and of 32 bytes.
+/// A block encrypted and then decrypted under one key is as it was.
 pub fn decrypt_undoes_encrypt()
-    ensures { (key block : List ℕ) → (length key ≡ 16) ⊎ (length key ≡ 32) → All (λ byte. byte < 256) key → length block ≡ 16 → All (λ byte. byte < 256) block →
-        decipher key (cipher key block) ≡ block }
+    ensures { (key block : List ℕ) → IsKey key → AreBytes 16 block → decipher key (cipher key block) ≡ block }
 {}
 
 /// A text sealed and then opened under one key and IV is as it was.
 pub fn open_undoes_seal()
-    ensures { (key iv text sealed opened : List ℕ) → (length key ≡ 16) ⊎ (length key ≡ 32) → All (λ byte. byte < 256) key → length iv ≡ 16 → All (λ byte. byte < 256) iv →
-        length text % 16 ≡ 0 → All (λ byte. byte < 256) text → IsSealed key iv text sealed → IsOpened key iv sealed opened → opened ≡ text }
+    ensures { (key iv text sealed opened : List ℕ) → IsKey key → AreBytes 16 iv → All IsByte text →
+        IsSealed key iv text sealed → IsOpened key iv sealed opened → opened ≡ text }
 {}
 
 /// A text has one sealed form under a key and an IV.
 pub fn a_text_is_sealed_in_one_way()
-    ensures { (key iv text one other : List ℕ) → length iv ≡ 16 → IsSealed key iv text one → IsSealed key iv text other → one ≡ other }
+    ensures { (key iv text one other : List ℕ) → length iv ≡ 16 →
+        IsSealed key iv text one → IsSealed key iv text other → one ≡ other }
 {}

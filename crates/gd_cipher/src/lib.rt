@@ -1,4 +1,5 @@
-//! AES (FIPS 197) with keys of 128 and 256 bits, its cipher block chaining (SP 800-38A), and HMAC with SHA-256 (RFC 2104).
+//! AES (FIPS 197) with keys of 128 and 256 bits, its cipher block chaining under keys of 128 bits (SP 800-38A), HMAC with
+//! SHA-256 (RFC 2104), and the IV of the first message of a phase 2 exchange (RFC 2409).
 //!
 //! No call takes memory, and none refuses.
 #![tactic(auto)]
@@ -6,7 +7,7 @@
 pub use chains::{cbc_open, cbc_seal};
 pub use keys::{Key128, Key256};
 pub use laws::{a_text_is_sealed_in_one_way, decrypt_undoes_encrypt, open_undoes_seal};
-pub use macs::{Hmac, phase2_iv};
+pub use macs::{Hmac, phase2_first_iv};
 
 mod blocks;
 mod chains;
@@ -19,3 +20,5 @@ mod mac_tests;
 mod macs;
 mod schedules;
 mod tables;
+#[cfg(test)]
+mod test_octets;

@@ -1,7 +1,7 @@
-//! HMAC with SHA-256, and the IVs of later exchanges.
+//! HMAC with SHA-256, and the IV of the first message of a phase 2 exchange.
 ghost use Rattle.std.specs.Prelude.{◌≡◌, ℕ, ◌-◌, ◌≤◌, List, [], ◌++◌, length, replicate};
 ghost use Rattle.gd_cipher.specs.Blocks.{xor_all};
-ghost use Rattle.gd_cipher.specs.Macs.{block_key, hmac, iv_of, IsHmacOf};
+ghost use Rattle.gd_cipher.specs.Macs.{block_key, hmac, phase2_first_iv, IsHmacOf};
 
 use sha2::{Digest, Sha256};
 
@@ -47,9 +47,10 @@ fn block_of(key: &[u8]) -> [u8; 64]
     ensures { result ≡ block_key key.now }
 {
     if key.len() > 64 {
-        return filled(&Sha256::digest(key));
+        filled(&Sha256::digest(key))
+    } else {
+        filled(key)
     }
-    filled(key)
 }
 
 /// Filled up with zeros to a block.
@@ -62,7 +63,7 @@ fn filled(key: &[u8]) -> [u8; 64]
     block
 }
 
-/// Each byte added to the same one.
+/// Adds `pad` to each byte.
 fn with_pad(mut block: [u8; 64], pad: u8) -> [u8; 64]
     ensures { result ≡ xor_all block (replicate 64 pad) }
 {
@@ -72,9 +73,10 @@ fn with_pad(mut block: [u8; 64], pad: u8) -> [u8; 64]
     block
 }
 
-/// The IV of an exchange behind phase 1: of the last cipher block of phase 1 and the message id (RFC 2409 appendix B).
-pub fn phase2_iv(last: &[u8; 16], message: &[u8; 4]) -> [u8; 16]
-    ensures { result ≡ iv_of last.now message.now }
+/// The IV of the first message of a phase 2 exchange, where SHA-256 is the negotiated hash: of the last cipher block of
+/// phase 1 and the message id (RFC 2409 appendix B).
+pub fn phase2_first_iv(last: &[u8; 16], message: &[u8; 4]) -> [u8; 16]
+    ensures { result ≡ phase2_first_iv last.now message.now }
 {
     let mut hasher = Sha256::new();
     hasher.update(last);

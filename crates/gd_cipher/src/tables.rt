@@ -1,5 +1,5 @@
 //! The tables of the substitution and of the mixing of columns.
-ghost use Rattle.std.specs.Prelude.{◌≡◌, ◌<◌, [], ◌∷◌};
+ghost use Rattle.std.specs.Prelude.{◌≡◌, [], ◌∷◌};
 ghost use Rattle.std.specs.Int.{w32, from_be_bytes};
 ghost use Rattle.gd_cipher.specs.Fields.{times, substitute, undo_substitute};
 
@@ -19,14 +19,15 @@ pub(crate) fn unsubstituted(byte: u8) -> u8
 
 /// What the substitution of a byte in the first row adds to the mixed column.
 pub(crate) fn mixed(byte: u8) -> u32
-    ensures { result ≡ from_be_bytes w32 (times 2 (substitute byte) ∷ substitute byte ∷ substitute byte ∷ times 3 (substitute byte) ∷ []) }
+    ensures { result ≡ from_be_bytes w32
+        (times 0x02 (substitute byte) ∷ substitute byte ∷ substitute byte ∷ times 0x03 (substitute byte) ∷ []) }
 {
     MIXED[usize::from(byte)]
 }
 
 /// What a byte in the first row adds to the column before it was mixed.
 pub(crate) fn unmixed(byte: u8) -> u32
-    ensures { result ≡ from_be_bytes w32 (times 14 byte ∷ times 9 byte ∷ times 13 byte ∷ times 11 byte ∷ []) }
+    ensures { result ≡ from_be_bytes w32 (times 0x0e byte ∷ times 0x09 byte ∷ times 0x0d byte ∷ times 0x0b byte ∷ []) }
 {
     UNMIXED[usize::from(byte)]
 }
@@ -71,7 +72,7 @@ const ORIGINALS: [u8; 256] = [
     0x17, 0x2b, 0x04, 0x7e, 0xba, 0x77, 0xd6, 0x26, 0xe1, 0x69, 0x14, 0x63, 0x55, 0x21, 0x0c, 0x7d,
 ];
 
-/// The substitution of each byte times 2, 1, 1 and 3.
+/// The substitution of each byte times 0x02, 0x01, 0x01 and 0x03.
 const MIXED: [u32; 256] = [
     0xc663_63a5,
     0xf87c_7c84,
@@ -331,7 +332,7 @@ const MIXED: [u32; 256] = [
     0x2c16_163a,
 ];
 
-/// Each byte times 14, 9, 13 and 11.
+/// Each byte times 0x0e, 0x09, 0x0d and 0x0b.
 const UNMIXED: [u32; 256] = [
     0x0000_0000,
     0x0e09_0d0b,

@@ -8,11 +8,11 @@ pub loop-round-preserved : goal.loop-round-preserved
 loop-round-preserved c =
     let keys : List ℕ = bytes_of c.args.words.now in
     one_round keys c.loop-round.round c.args.block.now (bytes_of c.loop-round.state) (bytes_of c.with_key-state-in-loop-round.result) (omega arith) c.loop-round.invariant
-    (c.with_key-state-in-loop-round.ensures ∙ ap (add_round_key keys c.loop-round.round) c.mixed_columns.ensures)
+    (c.with_key-state-in-loop-round.ensures ∙ ap (add_round_key keys c.loop-round.round) c.whole_round.ensures)
 
 pub returns : goal.returns
 returns c =
     let keys : List ℕ = bytes_of c.args.words.now in
     let last : c.loop-round.round ≡ c.args.rounds = omega arith in
-    c.write.ensures ∙ c.with_key.ensures ∙ ap (add_round_key keys c.args.rounds) c.substituted_columns.ensures
+    c.write.ensures ∙ c.with_key.ensures ∙ ap (add_round_key keys c.args.rounds) c.last_round.ensures
     ∙ last_round keys c.loop-round.round c.args.rounds c.args.block.now (bytes_of c.loop-round.state) last c.loop-round.invariant

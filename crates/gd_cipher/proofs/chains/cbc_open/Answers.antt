@@ -11,6 +11,6 @@ loop-i-preserved c =
     OpensTo-part c.loop-i.i c.args.key.now c.args.iv.now c.args.text.now c.loop-i.text c.loop-i.before c.open_first.new.text c.open_first.new.before c.told-iv (omega arith)
     c.loop-i.invariant c.open_first.ensures.sealed c.open_first.auto.text c.open_first.ensures.text
 
-pub returns : goal.returns
-returns c =
+pub returns-clause-opened : goal.returns-clause-opened
+returns-clause-opened c =
     IsOpened-all c.loop-i.i c.args.key.now c.args.iv.now c.args.text.now c.loop-i.text c.loop-i.before c.loop-i.auto.text c.requires c.loop-i-test.false c.loop-i.invariant

@@ -11,6 +11,6 @@ loop-i-preserved c =
     SealsTo-part c.loop-i.i c.args.key.now c.args.iv.now c.args.text.now c.loop-i.text c.loop-i.before c.seal_first.new.text c.seal_first.new.before c.told-iv (omega arith)
     c.seal_first.array_long c.loop-i.invariant c.seal_first.ensures.sealed c.seal_first.ensures.text
 
-pub returns : goal.returns
-returns c =
+pub returns-clause-sealed : goal.returns-clause-sealed
+returns-clause-sealed c =
     IsSealed-all c.loop-i.i c.args.key.now c.args.iv.now c.args.text.now c.loop-i.text c.loop-i.before c.loop-i.auto.text c.requires c.loop-i-test.false c.loop-i.invariant

@@ -1,14 +1,14 @@
 -- The block was decrypted, and then added to the one before it.
-use Rattle.std.proofs.Common.{arith, ap, ◌∙◌, ◌++◌, drop}
+use Rattle.std.proofs.Common.{ap, ◌∙◌, ◌++◌, drop}
 use Rattle.gd_cipher.specs.Blocks.{xor_all}
 use Rattle.gd_cipher.specs.Ciphers.{decipher}
+use Rattle.gd_cipher.proofs.ChainLemmas.{first_block}
 use Rattle.gd_cipher.proofs.chains.open_first.Goals as goal
 
-pub returns-in-Some-clause-text : goal.returns-in-Some-clause-text
-returns-in-Some-clause-text c =
-    ap (λ block. block ++ drop 16 c.args.text.now)
-    (c.add.ensures ∙ ap (λ block. xor_all block c.args.before.now) (c.decrypt_block.ensures ∙ ap (decipher c.args.key.now) c.in-Some.ensures.cases.same))
+pub returns-clause-sealed : goal.returns-clause-sealed
+returns-clause-sealed c = first_block c.args.text.now c.first_chunk_mut.result c.unwrap-block.result c.unwrap-block.ensures c.first_chunk_mut.ensures.cases
 
--- a text of 16 bytes has a first block
-pub returns-in_default-clause-text : goal.returns-in_default-clause-text
-returns-in_default-clause-text c = absurd (omega (arith, c.in_default.ensures.cases))
+pub returns-clause-text : goal.returns-clause-text
+returns-clause-text c =
+    ap (λ block. block ++ drop 16 c.args.text.now)
+    (c.xor_into.ensures ∙ ap (λ block. xor_all block c.args.before.now) (c.decrypt_block.ensures.block ∙ ap (decipher c.args.key.now) (returns-clause-sealed c)))

@@ -2,8 +2,10 @@
 use Rattle.std.proofs.Common.{ap, ◌∙◌}
 use Rattle.gd_cipher.specs.Blocks.{xor_all}
 use Rattle.gd_cipher.specs.Ciphers.{cipher}
+use Rattle.gd_cipher.proofs.ChainLemmas.{first_block}
 use Rattle.gd_cipher.proofs.chains.seal_first.Goals as goal
 
-pub returns-in-Some-clause-sealed : goal.returns-in-Some-clause-sealed
-returns-in-Some-clause-sealed c =
-    c.encrypt_block.ensures ∙ ap (cipher c.args.key.now) (c.add.ensures ∙ ap (λ block. xor_all block c.args.before.now) c.in-Some.ensures.cases.same)
+pub returns-clause-sealed : goal.returns-clause-sealed
+returns-clause-sealed c =
+    let first = first_block c.args.text.now c.first_chunk_mut.result c.unwrap-block.result c.unwrap-block.ensures c.first_chunk_mut.ensures.cases in
+    c.encrypt_block.ensures.block ∙ ap (cipher c.args.key.now) (c.xor_into.ensures ∙ ap (λ block. xor_all block c.args.before.now) first)

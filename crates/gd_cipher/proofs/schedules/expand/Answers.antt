@@ -4,7 +4,8 @@ use Rattle.std.proofs.Math.Nat.{div-eq_of_lt}
 use Rattle.gd_cipher.specs.Blocks.{xor_all}
 use Rattle.gd_cipher.specs.Fields.{substitute}
 use Rattle.gd_cipher.specs.Schedules.{power_of_x, changed_word}
-use Rattle.gd_cipher.proofs.ExpandLemmas.{bytes_xor, schedule_of_words, expanded_more, passed_at, passed_between, power_more, changed_first, changed_middle, changed_short, changed_other}
+use Rattle.gd_cipher.proofs.ExpandLemmas.{schedule_of_words, expanded_more, passed_at, passed_between, power_more, changed_first, changed_middle, changed_short, changed_other}
+use Rattle.gd_cipher.proofs.WordLemmas.{xor_bytes}
 use Rattle.gd_cipher.proofs.schedules.expand.Goals as goal
 use Rattle.gd_cipher.proofs.schedules.expand.Goals.{then-i-key_words-eq0, else-i-key_words-eq0+then-key_words-gt6+then-i-key_words-eq4, else-i-key_words-eq0+else-key_words-gt6, else-key_words-gt6-via-then-key_words-gt6+else-i-key_words-eq4, else-key_words-gt6-via-else-key_words-gt6}
 
@@ -47,7 +48,7 @@ loop-i-preserved c =
       | else-i-key_words-eq0+else-key_words-gt6 w ↦ rw w.power-is c.loop-i.invariant.small
     ] in
     let made = get_or c.loop-i.words (c.loop-i.i - c.args.key_words) 0 in
-    let sum = bytes_xor made c.if-i-key_words-eq0.word ∙ ap (xor_all (to_be_bytes w32 made)) word in
+    let sum = xor_bytes made c.if-i-key_words-eq0.word ∙ ap (xor_all (to_be_bytes w32 made)) word in
     record {
       small = small;
       power = power ∙ ap (λ (n : ℕ). power_of_x (n / c.args.key_words)) (omega arith);

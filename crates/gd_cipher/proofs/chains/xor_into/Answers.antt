@@ -3,7 +3,7 @@ use Rattle.std.proofs.Common.{◌≡◌, arith, length, ◌∙◌, sym}
 use Rattle.std.proofs.lemmas.List.{ext_get_or}
 use Rattle.gd_cipher.specs.Blocks.{xor_all}
 use Rattle.gd_cipher.proofs.SumLemmas.{length-xor_all, get_or-xor_all}
-use Rattle.gd_cipher.proofs.chains.add.Goals as goal
+use Rattle.gd_cipher.proofs.chains.xor_into.Goals as goal
 
 pub returns : goal.returns
 returns c =

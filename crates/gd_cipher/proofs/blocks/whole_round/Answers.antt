@@ -1,7 +1,7 @@
 use Rattle.std.proofs.Common.{arith}
 use Rattle.gd_cipher.specs.Fields.{substitute}
 use Rattle.gd_cipher.proofs.StateLemmas.{mixed_state}
-use Rattle.gd_cipher.proofs.blocks.mixed_columns.Goals as goal
+use Rattle.gd_cipher.proofs.blocks.whole_round.Goals as goal
 
 pub returns : goal.returns
 returns c =
