@@ -15,6 +15,6 @@ test_signature digest = hmac test_key digest
 abbrev pub accepts_test : List ℕ → List ℕ → Bool
 accepts_test digest signature = bytes_eq signature (test_signature digest)
 
--- an algorithm of the numbers for private use, and the bits of its hash
+-- an algorithm for private use, whose stated key length is the length of the hash, 256 bits
 abbrev pub test_kind : SignKind
 test_kind = record { algorithm = 128; key_bits = 256 }

@@ -8,7 +8,7 @@ use std::marker::Model;
 pub struct SignKind {
     /// The number of the algorithm.
     pub algorithm: u16,
-    /// How many bits its key has.
+    /// The key length that the policy states, in bits.
     pub key_bits: u16,
 }
 

@@ -3,7 +3,7 @@ ghost use Rattle.gd_edges.specs.declared.signatures.SignKind.{SignKind};
 
 use crate::{SigBytes, SignKind};
 
-/// Who signs for a group (RFC 6407 section 5.3).
+/// Who signs the pushes of a group (RFC 6407 section 4).
 pub trait Signer {
     /// The signature of a digest.
     ghost signature: { Self → List ℕ → List ℕ };

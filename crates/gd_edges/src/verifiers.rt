@@ -3,9 +3,9 @@ ghost use Rattle.gd_edges.specs.declared.signatures.SignKind.{SignKind};
 
 use crate::SignKind;
 
-/// Who checks the signatures of a group (RFC 6407 section 5.3).
+/// Who checks the signatures of the pushes of a group (RFC 6407 section 4).
 pub trait Verifier {
-    /// Whether it accepts of a digest a signature.
+    /// Whether it accepts these octets as a signature of this digest.
     ghost accepts: { Self → List ℕ → List ℕ → Bool };
 
     /// Which signatures it checks.
