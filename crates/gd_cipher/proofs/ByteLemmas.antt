@@ -1,4 +1,4 @@
--- What was computed over all bytes.
+-- Facts of each byte, most of them computed over all bytes.
 use Rattle.std.proofs.Common.{◌≡◌, ℕ, ◌*◌, ◌/◌, ◌<◌, map, bit_xor, refl, ap, sym, ◌∙◌, get_or, arith}
 use Rattle.std.specs.List.{range_with_len}
 use Rattle.std.proofs.lemmas.List.FromFn.{get_or-map-range_with_len}

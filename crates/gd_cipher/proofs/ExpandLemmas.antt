@@ -1,6 +1,6 @@
 -- Words and their bytes in the key expansion.
 use Rattle.std.proofs.Common.{◌≡◌, ℕ, zero, suc, ◌+◌, ◌-◌, ◌*◌, ◌/◌, ◌%◌, ◌^◌, ◌<◌, ◌≤◌, Bool, cond, ltb, le-ltb, List, [], ◌∷◌, ◌++◌, map, length, take, drop, get_or, set, replicate, bit_or, bit_xor, sym, refl, ap, ◌∙◌, All, subst, zero-add, div-add-mod', eqb, eq-eqb, ne_eqb, ◌&&◌, lt-ltb, arith}
-use Rattle.std.specs.Int.{w32, to_be_bytes, from_be_bytes, rotate_left}
+use Rattle.std.specs.Int.{w32, to_be_bytes, rotate_left}
 use Rattle.std.proofs.Math.Nat.{div-eq_of_lt-le}
 use Rattle.std.proofs.lemmas.Bool.{cond-true, cond-false, and_from, and_left, and_right}
 use Rattle.std.proofs.lemmas.List.{take-append-le, take_more_set, take_all, take_at, get_or-take, length-set, length-append, length-take-le}
@@ -45,16 +45,6 @@ bytes_highest p fits =
     let c : p * 2 ^ 24 % 2 ^ 32 / 256 % 256 ≡ 0 = omega arith in
     let d : p * 2 ^ 24 % 2 ^ 32 % 256 ≡ 0 = omega arith in
     rw (a, b, c, d) refl
-
--- a word that is made of what a function gives for each byte of another word
-pub bytes_of_made : (f : ℕ → ℕ) (word : ℕ) (bytes : List ℕ) (p q r s made : ℕ) → bytes ≡ to_be_bytes w32 word → p < 256 → q < 256 → r < 256 → s < 256 → p ≡ f (get_or bytes 0 0) → q ≡ f (get_or bytes 1 0) → r ≡ f (get_or bytes 2 0) → s ≡ f (get_or bytes 3 0) → made ≡ from_be_bytes w32 (p ∷ q ∷ r ∷ s ∷ []) → to_be_bytes w32 made ≡ map f (to_be_bytes w32 word)
-bytes_of_made f word bytes p q r s made cut a b c d first second third fourth whole =
-    let one : made / 256 ^ 3 % 256 ≡ p = omega arith in
-    let two : made / 256 ^ 2 % 256 ≡ q = omega arith in
-    let three : made / 256 % 256 ≡ r = omega arith in
-    let four : made % 256 ≡ s = omega arith in
-    let same : p ∷ q ∷ r ∷ s ∷ [] ≡ f (get_or bytes 0 0) ∷ f (get_or bytes 1 0) ∷ f (get_or bytes 2 0) ∷ f (get_or bytes 3 0) ∷ [] = rw (first, second, third, fourth) refl in
-    rw (one, two, three, four) same ∙ ap (λ (bytes : List ℕ). f (get_or bytes 0 0) ∷ f (get_or bytes 1 0) ∷ f (get_or bytes 2 0) ∷ f (get_or bytes 3 0) ∷ []) cut
 
 length-bytes : (words : List ℕ) → length (bytes_of words) ≡ 4 * length words
 length-bytes [] = refl
@@ -126,16 +116,16 @@ key_made nk behind key read new len small count are whole =
     (first, all ∙ ap schedule (sym first))
 
 -- the bytes of words are bytes
-each : (word i : ℕ) → i < 4 → get_or (to_be_bytes w32 word) i 0 < 256
-each word zero within = omega arith
-each word (suc zero) within = omega arith
-each word (suc (suc zero)) within = omega arith
-each word (suc (suc (suc zero))) within = omega arith
-each word (suc (suc (suc (suc i)))) within = omega (arith, within)
+to_be_bytes-small : (word i : ℕ) → i < 4 → get_or (to_be_bytes w32 word) i 0 < 256
+to_be_bytes-small word zero within = omega arith
+to_be_bytes-small word (suc zero) within = omega arith
+to_be_bytes-small word (suc (suc zero)) within = omega arith
+to_be_bytes-small word (suc (suc (suc zero))) within = omega arith
+to_be_bytes-small word (suc (suc (suc (suc i)))) within = omega (arith, within)
 
 All-to_be_bytes : (word : ℕ) → All IsByte (to_be_bytes w32 word)
 All-to_be_bytes word =
-    All-from_get_or IsByte (to_be_bytes w32 word) 0 (each word)
+    All-from_get_or IsByte (to_be_bytes w32 word) 0 (to_be_bytes-small word)
 
 All-bytes_of : (words : List ℕ) → All IsByte (bytes_of words)
 All-bytes_of [] = All-nil IsByte
