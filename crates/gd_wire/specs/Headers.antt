@@ -1,0 +1,65 @@
+-- The ISAKMP header (RFC 2408 section 3.1): two cookies of 8 octets, the kind of the first payload, the version 1.0, the exchange, the flags, a
+-- message id of 4 octets, and the length of the datagram in 4. The exchange is 32 for GROUPKEY-PULL (RFC 6407 section 3) and 33 for
+-- GROUPKEY-PUSH (section 4); of the flags that of encryption is set, and no other (RFC 6407 section 4.2; for a pull this is our choice). UDP over
+-- IPv4 holds 65,507 octets.
+use Rattle.std.specs.Prelude.{◌≡◌, ℕ, ◌+◌, ◌-◌, ◌%◌, ◌<◌, ◌≤◌, ◌==◌, ◌&&◌, nat_le, nat_lt, not, Bool, true, List, [], ◌∷◌, ◌++◌, length, take, drop, Option, if◌then◌else◌, All}
+use Rattle.byteorder.specs.Endian.{big_from, big_bytes}
+use Rattle.group_terms.specs.declared.wires.WireFault.{WireFault}
+use Rattle.group_terms.specs.declared.wires.WireWhat.TheVariants.{Short, Length, Version, Kind, Value}
+use Rattle.gd_wire.specs.declared.headers.Header.{Header}
+use Rattle.gd_wire.specs.Faults.{octet_at, Test, test, first_fault}
+
+-- the text of a header
+abbrev pub header_text : Header → List ℕ
+header_text header = header.cookies ++ header.next ∷ 16 ∷ header.exchange ∷ 1 ∷ header.message ++ big_bytes 4 header.length
+
+-- a push has the message id zero (RFC 6407 section 4.2), and a pull another one, since zero is that of phase 1 (RFC 2408 section 3.1); of
+-- other exchanges nothing is asked
+abbrev pub suits_exchange : ℕ → ℕ → Bool
+suits_exchange exchange message =
+    if exchange == 32 then not (message == 0)
+    else (if exchange == 33 then message == 0
+    else true)
+
+-- the length that is told is that of the datagram, which has whole blocks of 16 octets behind the header (RFC 2409 appendix B), at least one
+abbrev pub is_due_length : ℕ → ℕ → Bool
+is_due_length told long = told == long && nat_lt 28 long && ((long - 28) % 16 == 0)
+
+module _ (exchange : ℕ) (datagram : List ℕ) where
+  abbrev pub header_tests : List Test
+  header_tests =
+      test (nat_le 28 (length datagram)) Short (length datagram)
+      ∷ test (nat_le (length datagram) 65507) Length 65507
+      ∷ test (octet_at datagram 17 == 16) Version 17
+      ∷ test (octet_at datagram 18 == exchange) (Kind (octet_at datagram 18)) 18
+      ∷ test (octet_at datagram 19 == 1) Value 19
+      ∷ test (suits_exchange exchange (big_from 20 4 datagram)) Value 20
+      ∷ test (is_due_length (big_from 24 4 datagram) (length datagram)) Length 24
+      ∷ []
+
+  abbrev pub header_fault : Option WireFault
+  header_fault = first_fault header_tests
+
+-- the fields of a header without fault
+abbrev pub header_fields : List ℕ → Header
+header_fields datagram = record {
+  cookies = take 16 datagram;
+  next = octet_at datagram 16;
+  exchange = octet_at datagram 18;
+  message = take 4 (drop 20 datagram);
+  length = big_from 24 4 datagram;
+}
+
+-- a header that suits what is behind it
+pub record HeaderFits (header : Header) (body : List ℕ) : Type 0 where
+  pub cookies : length header.cookies ≡ 16
+  pub cookie_octets : All (λ octet. octet < 256) header.cookies
+  pub next : header.next < 256
+  pub exchange : header.exchange < 256
+  pub message : length header.message ≡ 4
+  pub message_octets : All (λ octet. octet < 256) header.message
+  pub suits : suits_exchange header.exchange (big_from 0 4 header.message) ≡ true
+  pub told : header.length ≡ 28 + length body
+  pub some : 0 < length body
+  pub blocks : length body % 16 ≡ 0
+  pub small : 28 + length body ≤ 65507

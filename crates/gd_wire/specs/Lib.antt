@@ -1,0 +1,4 @@
+pub mod Attributes
+pub mod Chains
+pub mod Faults
+pub mod Headers

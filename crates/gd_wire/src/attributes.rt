@@ -1,0 +1,110 @@
+//! Data attributes.
+ghost use Rattle.std.specs.Prelude.{◌≡◌, ◌+◌, ◌≤◌, ◌++◌, length, IfOk, OnOk, OnErr};
+ghost use Rattle.gd_wire.specs.Faults.{answer};
+ghost use Rattle.gd_wire.specs.Attributes.{attribute_fault, attribute_fields, short_text, long_text};
+
+use crate::faults::fault;
+use byteorder::{BigEndian, ByteOrder};
+use group_terms::{NoMemory, Octets, WireFault, WireWhat};
+
+/// The bit that tells the short form.
+const SHORT_FORM: u16 = 0x8000;
+
+/// What an attribute says (RFC 2408 section 3.3).
+#[derive(Clone, Copy, Debug, PartialEq, Eq)]
+pub struct Attribute {
+    /// Its kind, without the bit of the form.
+    pub kind: u16,
+    pub value: AttrValue,
+    /// The place in the text of what is behind it.
+    pub next: usize,
+}
+
+/// The value of an attribute.
+#[derive(Clone, Copy, Debug, PartialEq, Eq)]
+pub enum AttrValue {
+    /// A number.
+    Short { number: u16 },
+    /// Octets of the text.
+    Long { start: usize, length: usize },
+}
+
+/// Reads the attribute at a place of a text whose first octet has the place `base` in its datagram; else `Short`, where the first field
+/// that is missing would begin.
+pub fn read_attribute(text: &[u8], at: usize, base: u32) -> Result<Attribute, WireFault>
+    requires within { at ≤ length text.now }
+    requires small { base + length text.now ≤ 4294967295 }
+    ensures answer { result ≡ answer (attribute_fault text.now at base) (attribute_fields text.now at) }
+    ensures within { IfOk result (λ attribute. (at + 4 ≤ attribute.next) × (attribute.next ≤ length text.now)) }
+{
+    let place = base + at as u32;
+    let left = &text[at..];
+    if left.len() < 2 {
+        return Err(fault(WireWhat::Short, place));
+    }
+    let kind = BigEndian::read_u16(left);
+    if left.len() < 4 {
+        return Err(fault(WireWhat::Short, place + 2));
+    }
+    let number = BigEndian::read_u16(&left[2..]);
+    if kind >= SHORT_FORM {
+        return Ok(Attribute {
+            kind: kind - SHORT_FORM,
+            value: AttrValue::Short { number },
+            next: at + 4,
+        });
+    }
+    let length = usize::from(number);
+    if left.len() < 4 + length {
+        return Err(fault(WireWhat::Short, place + 4));
+    }
+    Ok(Attribute {
+        kind,
+        value: AttrValue::Long {
+            start: at + 4,
+            length,
+        },
+        next: at + 4 + length,
+    })
+}
+
+/// Appends an attribute in the short form.
+pub fn write_short(kind: u16, number: u16, out: &mut Octets) -> Result<(), NoMemory>
+    requires { kind ≤ 32767 }
+    ensures ok { OnOk result (out.new ≡ out.old ++ short_text kind number) }
+    ensures err { OnErr result (out.new ≡ out.old) }
+{
+    let mut text = [0; 4];
+    BigEndian::write_u16(&mut text, SHORT_FORM + kind);
+    BigEndian::write_u16(&mut text[2..], number);
+    out.extend(&text)
+}
+
+/// Appends an attribute in the long form.
+pub fn write_long(kind: u16, value: &[u8], out: &mut Octets) -> Result<(), NoMemory>
+    requires kind { kind ≤ 32767 }
+    requires value { length value.now ≤ 65535 }
+    ensures ok { OnOk result (out.new ≡ out.old ++ long_text kind value.now) }
+    ensures err { OnErr result (out.new ≡ out.old) }
+{
+    let mut head = [0; 4];
+    BigEndian::write_u16(&mut head, kind);
+    BigEndian::write_u16(&mut head[2..], value.len() as u16);
+    append(&head, value, out)
+}
+
+/// Appends two pieces, or neither.
+pub(crate) fn append(head: &[u8], value: &[u8], out: &mut Octets) -> Result<(), NoMemory>
+    ensures ok { OnOk result (out.new ≡ out.old ++ head.now ++ value.now) }
+    ensures err { OnErr result (out.new ≡ out.old) }
+{
+    let before = out.len();
+    out.extend(head)?;
+    match out.extend(value) {
+        Ok(()) => Ok(()),
+        Err(NoMemory) => {
+            out.truncate(before);
+            Err(NoMemory)
+        }
+    }
+}

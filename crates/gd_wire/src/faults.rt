@@ -1,0 +1,10 @@
+ghost use Rattle.std.specs.Prelude.{◌≡◌};
+ghost use Rattle.gd_wire.specs.Faults.{fault_at};
+
+use group_terms::{WireFault, WireWhat};
+
+pub(crate) fn fault(what: WireWhat, at: u32) -> WireFault
+    ensures { result ≡ fault_at what at }
+{
+    WireFault { what, at }
+}

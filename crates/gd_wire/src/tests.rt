@@ -1,0 +1,171 @@
+use crate::{
+    AttrValue, Header, WireFault, WireWhat, read_attribute, read_chain, read_header, write_header,
+    write_long, write_payload, write_short,
+};
+use group_terms::List;
+use std::alloc::Global;
+use std::test::Fail;
+
+const PUSH: Header = Header {
+    cookies: [7; 16],
+    next: 8,
+    exchange: 33,
+    message: [0; 4],
+    length: 44,
+};
+
+/// Faults of a header: the places that are changed and what they get, and what is told. Where two are changed the first counts.
+#[test]
+fn headers_are_read_up_to_their_first_fault(rt: HostRuntime) {
+    let mut datagram = [0; 44];
+    datagram[..28].copy_from_slice(&write_header(&PUSH));
+    assert_eq!(rt; read_header(&datagram, 33), Ok(PUSH));
+    let table = [
+        (17, 0x11, WireWhat::Version),
+        (18, 32, WireWhat::Kind { number: 32 }),
+        (19, 0x03, WireWhat::Value),
+        (20, 0x80, WireWhat::Value),
+        (24, 0x01, WireWhat::Length),
+    ];
+    for (at, octet, what) in table {
+        let fault = WireFault { what, at };
+        let mut changed = datagram;
+        changed[at as usize] = octet;
+        assert_eq!(rt; read_header(&changed, 33), Err(fault));
+        changed[27] = 45;
+        assert_eq!(rt; read_header(&changed, 33), Err(fault));
+    }
+    let what = WireWhat::Short;
+    assert_eq!(rt;
+        read_header(&datagram[..27], 33),
+        Err(WireFault { what, at: 27 })
+    );
+    let what = WireWhat::Length;
+    assert_eq!(rt;
+        read_header(&datagram[..28], 33),
+        Err(WireFault { what, at: 24 })
+    );
+}
+
+/// A datagram has at most 65,507 octets.
+#[test]
+fn datagrams_are_as_long_as_udp_holds(rt: HostRuntime) -> Result<(), Fail> {
+    let alloc = rt.alloc();
+    let what = WireWhat::Length;
+    let long = Header {
+        length: 65_500,
+        ..PUSH
+    };
+    let table = [
+        (65_500, Ok(long)),
+        (65_507, Err(WireFault { what, at: 24 })),
+        (65_508, Err(WireFault { what, at: 65_507 })),
+    ];
+    for (octets, told) in table {
+        let mut datagram = List::copy_of(alloc, &write_header(&long))?;
+        datagram.extend(&vec![in alloc; 0; octets - 28]?)?;
+        assert_eq!(rt; read_header(datagram.as_slice(), 33), told);
+    }
+    Ok(())
+}
+
+/// The two forms of an attribute, written and read, and cut off at each length.
+#[test]
+fn attributes_are_written_and_read(rt: HostRuntime) -> Result<(), Fail> {
+    let mut text = List::new(rt.alloc());
+    write_short(1, 1, &mut text)?;
+    write_long(4, &[0, 1, 0x51, 0x80], &mut text)?;
+    let octets = [0x80, 1, 0, 1, 0, 4, 0, 4, 0, 1, 0x51, 0x80];
+    assert_eq!(rt; text.as_slice(), octets.as_slice());
+    let short = read_attribute(&octets, 0, 10).map(|read| (read.kind, read.value, read.next));
+    assert_eq!(rt; short, Ok((1, AttrValue::Short { number: 1 }, 4)));
+    let (start, length) = (8, 4);
+    let long = read_attribute(&octets, 4, 10).map(|read| (read.kind, read.value, read.next));
+    assert_eq!(rt; long, Ok((4, AttrValue::Long { start, length }, 12)));
+    let what = WireWhat::Short;
+    for (end, at) in [(4, 14), (5, 14), (6, 16), (7, 16), (8, 18), (11, 18)] {
+        let fault = WireFault { what, at };
+        assert_eq!(rt; read_attribute(&octets[..end], 4, 10).err(), Some(fault));
+    }
+    Ok(())
+}
+
+/// A chain of two payloads and four zeros, and then with one octet changed: the place, what it gets, and what is told. Where the last
+/// octet is changed too, the first fault counts.
+#[test]
+fn chains_are_read_up_to_their_first_fault(rt: HostRuntime) -> Result<(), Fail> {
+    let text = two_payloads(rt.alloc())?;
+    let read = read_chain(8, &[8, 10], &text, 28).map_err(|_| "a fault")?;
+    let parts = read.parts();
+    assert_eq!(rt; parts.len(), 2);
+    assert_eq!(rt;
+        (parts[0].kind, parts[0].at, parts[0].start, parts[0].length),
+        (8, 28, 4, 2)
+    );
+    assert_eq!(rt;
+        (parts[1].kind, parts[1].at, parts[1].start, parts[1].length),
+        (10, 34, 10, 2)
+    );
+    let table = [
+        (0, 5, WireWhat::Kind { number: 5 }, 28, 1),
+        (1, 1, WireWhat::Reserved, 29, 0),
+        (3, 3, WireWhat::Length, 30, 0),
+        (3, 17, WireWhat::Length, 30, 0),
+        (6, 8, WireWhat::Kind { number: 8 }, 34, 2),
+        (12, 1, WireWhat::Padding, 40, 2),
+        (15, 1, WireWhat::Padding, 43, 2),
+    ];
+    for (place, octet, what, at, before) in table {
+        let mut changed = text;
+        changed[15] = 1;
+        changed[place] = octet;
+        let told = read_chain(8, &[8, 10], &changed, 28).err();
+        let told = told.map(|error| (error.fault, error.before.parts().len()));
+        assert_eq!(rt; told, Some((WireFault { what, at }, before)));
+    }
+    Ok(())
+}
+
+/// What is told of the first kind, of a header that is missing, and of a block too many.
+#[test]
+fn chains_have_just_what_is_due(rt: HostRuntime) -> Result<(), Fail> {
+    let text = two_payloads(rt.alloc())?;
+    let table = [
+        (10, [8, 10], 16, WireWhat::Kind { number: 10 }, 16),
+        (8, [8, 10], 6, WireWhat::Short, 34),
+        (8, [8, 10], 9, WireWhat::Short, 34),
+        (8, [8, 10], 11, WireWhat::Length, 36),
+    ];
+    for (first, due, end, what, at) in table {
+        let told = read_chain(first, &due, &text[..end], 28).err();
+        assert_eq!(rt; told.map(|error| error.fault), Some(WireFault { what, at }));
+    }
+    Ok(())
+}
+
+/// Fewer than 16 zeros may stand behind the payloads.
+#[test]
+fn zeros_fill_less_than_a_block(rt: HostRuntime) {
+    let octets = [
+        10, 0, 0, 6, 1, 2, 0, 0, 0, 6, 3, 4, 0, 0, 0, 0, 0, 0, 0, 0, 0, 0, 0, 0, 0, 0, 0, 0,
+    ];
+    let what = WireWhat::Length;
+    let table = [
+        (12, None),
+        (27, None),
+        (28, Some(WireFault { what, at: 40 })),
+    ];
+    for (end, told) in table {
+        let fault = read_chain(8, &[8, 10], &octets[..end], 28).err();
+        assert_eq!(rt; fault.map(|error| error.fault), told);
+    }
+}
+
+/// Payloads of the kinds 8 and 10 with two octets each, and four zeros.
+fn two_payloads(alloc: Global) -> Result<[u8; 16], Fail> {
+    let mut text = List::new(alloc);
+    write_payload(10, &[1, 2], &mut text)?;
+    write_payload(0, &[3, 4], &mut text)?;
+    text.extend(&[0; 4])?;
+    Ok(*text.as_slice().first_chunk().ok_or("a block")?)
+}
