@@ -26,5 +26,5 @@ IsHmacOf hash key text = Holds256 hash.inner (padded 0x36 key ++ text) × Holds2
 
 -- The IV of the first message of a phase 2 exchange, as quick mode is (RFC 2409 appendix B), where SHA-256 is the negotiated hash: of the hash
 -- of the last cipher block of phase 1 and the message id, as many bytes as a block has.
-abbrev pub phase2_first_iv : List ℕ → List ℕ → List ℕ
-phase2_first_iv last message = take 16 (sha256 (last ++ message))
+abbrev pub phase2_iv : List ℕ → List ℕ → List ℕ
+phase2_iv last message = take 16 (sha256 (last ++ message))

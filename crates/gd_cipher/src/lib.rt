@@ -7,7 +7,7 @@
 pub use chains::{cbc_open, cbc_seal};
 pub use keys::{Key128, Key256};
 pub use laws::{a_text_is_sealed_in_one_way, decrypt_undoes_encrypt, open_undoes_seal};
-pub use macs::{Hmac, phase2_first_iv};
+pub use macs::{Hmac, phase2_iv};
 
 mod blocks;
 mod chains;

@@ -1,5 +1,5 @@
 use crate::test_octets::octets;
-use crate::{Hmac, phase2_first_iv};
+use crate::{Hmac, phase2_iv};
 use std::test::Fail;
 
 fn hash(key: &[u8], text: &[u8]) -> [u8; 32] {
@@ -68,7 +68,7 @@ fn a_text_in_two_pieces(rt: HostRuntime) {
 fn the_first_iv_of_a_phase_2_exchange(rt: HostRuntime) -> Result<(), Fail> {
     let last = octets("000102030405060708090a0b0c0d0e0f")?;
     let iv = octets("dd8b3d40e9b84419dad620439c1c814f")?;
-    assert_eq!(rt; phase2_first_iv(&last, &[0xde, 0xad, 0xbe, 0xef]), iv);
+    assert_eq!(rt; phase2_iv(&last, &[0xde, 0xad, 0xbe, 0xef]), iv);
     Ok(())
 }
 

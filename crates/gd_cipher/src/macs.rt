@@ -1,7 +1,7 @@
 //! HMAC with SHA-256, and the IV of the first message of a phase 2 exchange.
 ghost use Rattle.std.specs.Prelude.{◌≡◌, ℕ, ◌-◌, ◌≤◌, List, [], ◌++◌, length, replicate};
 ghost use Rattle.gd_cipher.specs.Blocks.{xor_all};
-ghost use Rattle.gd_cipher.specs.Macs.{block_key, hmac, phase2_first_iv, IsHmacOf};
+ghost use Rattle.gd_cipher.specs.Macs.{block_key, hmac, phase2_iv, IsHmacOf};
 
 use sha2::{Digest, Sha256};
 
@@ -75,8 +75,8 @@ fn with_pad(mut block: [u8; 64], pad: u8) -> [u8; 64]
 
 /// The IV of the first message of a phase 2 exchange, where SHA-256 is the negotiated hash: of the last cipher block of
 /// phase 1 and the message id (RFC 2409 appendix B).
-pub fn phase2_first_iv(last: &[u8; 16], message: &[u8; 4]) -> [u8; 16]
-    ensures { result ≡ phase2_first_iv last.now message.now }
+pub fn phase2_iv(last: &[u8; 16], message: &[u8; 4]) -> [u8; 16]
+    ensures { result ≡ phase2_iv last.now message.now }
 {
     let mut hasher = Sha256::new();
     hasher.update(last);

@@ -109,7 +109,9 @@ fn chains_are_read_up_to_their_first_fault(rt: HostRuntime) -> Result<(), Fail> 
     let table = [
         (0, 5, WireWhat::Kind { number: 5 }, 28, 1),
         (1, 1, WireWhat::Reserved, 29, 0),
+        (3, 0, WireWhat::Length, 30, 0),
         (3, 3, WireWhat::Length, 30, 0),
+        (3, 4, WireWhat::Reserved, 33, 1),
         (3, 17, WireWhat::Length, 30, 0),
         (6, 8, WireWhat::Kind { number: 8 }, 34, 2),
         (12, 1, WireWhat::Padding, 40, 2),
