@@ -1,10 +1,11 @@
-//! Asks the readers of the framing what they find wrong: each line of standard input names a reader, its arguments and octets in hexadecimal
+//! Asks the readers of the framing and of payloads what they find wrong: each line of standard input names a reader, its arguments and octets in hexadecimal
 //! (`-` for none), and for each a line says `ok`, or the first fault and its place.
 //!
 //! ```text
 //! header EXCHANGE OCTETS
 //! attribute PLACE BASE OCTETS
 //! chain FIRST-KIND DUE-KIND,DUE-KIND.. BASE OCTETS
+//! sa BASE OCTETS
 //! ```
 #![tactic(auto)]
 
@@ -12,6 +13,7 @@ ghost use Rattle.std.specs.Prelude.{◌+◌, ◌≤◌, ◌↔◌, length, IsTru
 
 use answers::Answer;
 use gd_wire::{MOST_PAYLOADS, WireFault, read_attribute, read_chain, read_header};
+use sa_wire::read_sa;
 use std::alloc::Global;
 use std::io;
 use std::io::{BufRead, BufReader, ErrorKind};
@@ -35,6 +37,7 @@ fn answer(alloc: Global, line: &str) -> io::Result<Answer> {
         ["header", exchange, octets] => header(alloc, exchange, octets)?,
         ["attribute", at, base, octets] => attribute(alloc, at, base, octets)?,
         ["chain", first, due, base, octets] => chain(alloc, first, due, base, octets)?,
+        ["sa", base, octets] => sa(alloc, base, octets)?,
         _ => return Err(ErrorKind::InvalidInput.into()),
     };
     Ok(Answer { fault })
@@ -74,6 +77,15 @@ fn chain(
         Ok(_) => Ok(None),
         Err(error) => Ok(Some(error.fault)),
     }
+}
+
+fn sa(alloc: Global, base: &str, octets: &str) -> io::Result<Option<WireFault>> {
+    let base = base.parse::<u32>().map_err(|_| ErrorKind::InvalidInput)?;
+    let octets = decode(alloc, octets)?;
+    if !has_room(base, octets.as_slice()) {
+        return Err(ErrorKind::InvalidInput.into());
+    }
+    Ok(read_sa(octets.as_slice(), base).err())
 }
 
 /// The kinds of payloads in a text, with commas between them.

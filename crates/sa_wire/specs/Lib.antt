@@ -1,0 +1,5 @@
+pub mod Attributes
+pub mod Fields
+pub mod Policies
+pub mod Rules
+pub mod Texts

@@ -1,0 +1,46 @@
+-- The attributes of a policy: which ones there are, and what is taken of each.
+use Rattle.std.specs.Prelude.{ℕ, ◌==◌, ◌&&◌, nat_le, nat_lt, Bool, true, false, List, [], ◌∷◌, length, slice_index_or, remove}
+use Rattle.std.specs.List.{position_or_len}
+use Rattle.sa_wire.specs.declared.rules.Rule.{Rule}
+
+-- A rule has a kind, the least and the most of the numbers that are taken in the short form, and says whether a long form of 4 octets is taken
+-- too, with any value. Of this kind just this number is taken, or these numbers, or any; or any in both forms.
+abbrev pub only : ℕ → ℕ → Rule
+only kind number = record { kind = kind; least = number; most = number; long = false }
+
+abbrev pub between : ℕ → ℕ → ℕ → Rule
+between kind least most = record { kind = kind; least = least; most = most; long = false }
+
+abbrev pub any : ℕ → Rule
+any kind = record { kind = kind; least = 0; most = 65535; long = false }
+
+abbrev pub any_form : ℕ → Rule
+any_form kind = record { kind = kind; least = 0; most = 65535; long = true }
+
+-- Of the KEK (RFC 6407 section 5.3): the management algorithm is LKH, the algorithm AES, and its key length 128 bits; then the lifetime; the
+-- signature's hash is SHA-256; then the signature's algorithm and its key length.
+abbrev pub kek_rules : List Rule
+kek_rules = only 1 1 ∷ only 2 3 ∷ only 3 128 ∷ any_form 4 ∷ only 5 3 ∷ any 6 ∷ any 7 ∷ []
+
+-- Of the TEK (RFC 6407 section 5.4, RFC 2407 section 4.5): the life type is seconds; then the life duration; the encapsulation mode is tunnel or
+-- transport, the authentication algorithm HMAC with SHA-256, and the key length 128 bits.
+abbrev pub tek_rules : List Rule
+tek_rules = only 1 1 ∷ any_form 2 ∷ between 4 1 2 ∷ only 5 5 ∷ only 6 128 ∷ []
+
+-- where the rule for this kind stands among some rules, and how many these are where there is none
+abbrev pub place_among : ℕ → List Rule → ℕ
+place_among kind rules = position_or_len (λ (rule : Rule). rule.kind == kind) rules
+
+abbrev pub has_rule : ℕ → List Rule → Bool
+has_rule kind rules = nat_lt (place_among kind rules) (length rules)
+
+-- the rule for a kind that has one, and the other rules
+abbrev pub rule_for : ℕ → List Rule → Rule
+rule_for kind rules = slice_index_or rules (place_among kind rules) (any kind)
+
+abbrev pub without : ℕ → List Rule → List Rule
+without kind rules = remove rules (place_among kind rules)
+
+-- whether a rule takes a number in the short form
+abbrev pub takes : Rule → ℕ → Bool
+takes rule number = nat_le rule.least number && nat_le number rule.most

@@ -1,0 +1,180 @@
+//! The attributes at the end of a policy: each that has a rule stands exactly once, in any order, and no other.
+ghost use Rattle.std.specs.Prelude.{◌≡◌, ◌+◌, ◌≤◌, ◌<◌, ℕ, List, length, true, None, Some, OnSome, OnOk, IfOk, IfSome, if◌then◌else◌};
+ghost use Rattle.group_terms.specs.declared.wires.WireWhat.TheVariants.{Kind};
+ghost use Rattle.gd_wire.specs.Faults.{fault_at, first_fault, answer};
+ghost use Rattle.gd_wire.specs.Attributes.{is_short};
+ghost use Rattle.sa_wire.specs.declared.rules.Rule.{Rule};
+ghost use Rattle.sa_wire.specs.Rules.{place_among, has_rule, rule_for, without};
+ghost use Rattle.sa_wire.specs.Attributes.{kind_at, behind, place_of, short_tests, long_tests, value_tests, attribute_fault, attributes_fault, end_tests};
+
+use crate::fields::{fault, number, skip};
+use crate::rules::{MOST_RULES, Rule};
+use arrayvec::ArrayVec;
+use byteorder::{BigEndian, ByteOrder};
+use group_terms::{WireFault, WireWhat};
+
+/// The bit that tells the short form.
+const SHORT_FORM: u16 = 0x8000;
+
+/// Reads attributes up to the end of a text. An attribute without a rule, a second one of its kind, or one in a form that is not taken is
+/// `Kind` at its type; a number that is not taken is `Value` at it; one that is missing is `Short` at the end of the text.
+pub(crate) fn read_attributes(
+    rules: &[Rule],
+    text: &[u8],
+    start: usize,
+    base: u32,
+) -> Result<(), WireFault>
+    requires few { length rules.now ≤ MOST_RULES }
+    requires within { start ≤ length text.now }
+    requires small { base + length text.now ≤ 4294967295 }
+    ensures { result ≡ answer (attributes_fault text.now base (length rules.now) rules.now start) tt }
+{
+    let mut due = ArrayVec::<Rule, MOST_RULES>::new();
+    due.try_extend_from_slice(rules).unwrap();
+    let mut at = start;
+    for _ in rules {
+        at = read_attribute(&mut due, text, at, base)?;
+    }
+    read_end(text, at, base)
+}
+
+/// Reads an attribute for which a rule is due, and takes that rule off; gives the place behind the attribute.
+fn read_attribute(
+    due: &mut ArrayVec<Rule, MOST_RULES>,
+    text: &[u8],
+    at: usize,
+    base: u32,
+) -> Result<usize, WireFault>
+    requires within { at ≤ length text.now }
+    requires small { base + length text.now ≤ 4294967295 }
+    ensures answer { result ≡ answer (attribute_fault text.now base due.old.items at) (behind text.now at) }
+    ensures within { IfOk result (λ next. next ≤ length text.now) }
+    ensures due { OnOk result (due.new.items ≡ without (kind_at text.now at) due.old.items) }
+{
+    skip(text, at, 2, base)?;
+    match take_rule(due, kind_at(text, at)) {
+        Some(rule) => read_value(&rule, text, at, base),
+        None => Err(other_kind(text, at, base)),
+    }
+}
+
+/// Takes the rule for a kind off, where it is due.
+fn take_rule(due: &mut ArrayVec<Rule, MOST_RULES>, kind: u16) -> Option<Rule>
+    ensures rule { result ≡ (if has_rule kind due.old.items then Some (rule_for kind due.old.items) else None) }
+    ensures due { OnSome result (due.new.items ≡ without kind due.old.items) }
+{
+    let place = place_among(due.as_slice(), kind)?;
+    Some(due.remove(place))
+}
+
+/// Where the rule for a kind stands.
+fn place_among(rules: &[Rule], kind: u16) -> Option<usize>
+    ensures place { result ≡ (if has_rule kind rules.now then Some (place_among kind rules.now) else None) }
+    ensures within { IfSome result (λ place. place < length rules.now) }
+{
+    rules.iter().position(|rule| rule.kind == kind)
+}
+
+/// Reads what stands behind the type of an attribute; gives the place behind that.
+fn read_value(rule: &Rule, text: &[u8], at: usize, base: u32) -> Result<usize, WireFault>
+    requires within { at + 2 ≤ length text.now }
+    requires small { base + length text.now ≤ 4294967295 }
+    ensures answer { result ≡ answer (first_fault (value_tests text.now base rule.now at)) (behind text.now at) }
+    ensures within { IfOk result (λ next. next ≤ length text.now) }
+{
+    if is_short(text, at) {
+        read_short(rule, text, at, base)
+    } else {
+        read_long(rule, text, at, base)
+    }
+}
+
+fn read_short(rule: &Rule, text: &[u8], at: usize, base: u32) -> Result<usize, WireFault>
+    requires within { at + 2 ≤ length text.now }
+    requires small { base + length text.now ≤ 4294967295 }
+    ensures answer { result ≡ answer (first_fault (short_tests text.now base rule.now at)) (at + 4) }
+    ensures within { IfOk result (λ next. next ≤ length text.now) }
+{
+    let number = number(text, at + 2, base)?;
+    if number < rule.least || number > rule.most {
+        return Err(fault(WireWhat::Value, base + at as u32 + 2));
+    }
+    Ok(at + 4)
+}
+
+fn read_long(rule: &Rule, text: &[u8], at: usize, base: u32) -> Result<usize, WireFault>
+    requires within { at + 2 ≤ length text.now }
+    requires small { base + length text.now ≤ 4294967295 }
+    ensures answer { result ≡ answer (first_fault (long_tests text.now base rule.now at)) (at + 8) }
+    ensures within { IfOk result (λ next. next ≤ length text.now) }
+{
+    if !rule.long {
+        return Err(other_kind(text, at, base));
+    }
+    if number(text, at + 2, base)? != 4 {
+        return Err(other_kind(text, at, base));
+    }
+    skip(text, at + 4, 4, base)
+}
+
+/// The kind of an attribute is not due, or not in this form.
+fn other_kind(text: &[u8], at: usize, base: u32) -> WireFault
+    requires within { at + 2 ≤ length text.now }
+    requires small { base + length text.now ≤ 4294967295 }
+    ensures { result ≡ fault_at (Kind (kind_at text.now at)) (base + at) }
+{
+    let number = kind_at(text, at);
+    fault(WireWhat::Kind { number }, base + at as u32)
+}
+
+fn kind_at(text: &[u8], at: usize) -> u16
+    requires { at + 2 ≤ length text.now }
+    ensures { result ≡ kind_at text.now at }
+{
+    BigEndian::read_u16(&text[at..]) % SHORT_FORM
+}
+
+fn is_short(text: &[u8], at: usize) -> bool
+    requires { at + 2 ≤ length text.now }
+    ensures { result ≡ is_short text.now at }
+{
+    BigEndian::read_u16(&text[at..]) >= SHORT_FORM
+}
+
+/// The place behind an attribute without fault.
+fn behind(text: &[u8], at: usize) -> usize
+    requires here { at + 2 ≤ length text.now }
+    requires within { behind text.now at ≤ length text.now }
+    ensures { result ≡ behind text.now at }
+{
+    if is_short(text, at) { at + 4 } else { at + 8 }
+}
+
+/// Reads what stands behind the last attribute: nothing.
+fn read_end(text: &[u8], at: usize, base: u32) -> Result<(), WireFault>
+    requires within { at ≤ length text.now }
+    requires small { base + length text.now ≤ 4294967295 }
+    ensures { result ≡ answer (first_fault (end_tests text.now base at)) tt }
+{
+    if at == text.len() {
+        return Ok(());
+    }
+    skip(text, at, 2, base)?;
+    Err(other_kind(text, at, base))
+}
+
+/// Where the attribute of this kind stands, of so many that have no fault, and of which one has this kind.
+pub(crate) fn place_of(kind: u16, count: usize, text: &[u8], start: usize) -> usize
+    requires { (base : ℕ) × (rules : List Rule) × (length rules ≡ count) × (has_rule kind rules ≡ true) × (attributes_fault text.now base count rules start ≡ None) }
+    ensures place { result ≡ place_of text.now kind count start }
+    ensures within { result + 4 ≤ length text.now }
+{
+    let mut at = start;
+    for _ in 0..count {
+        if kind_at(text, at) == kind {
+            return at;
+        }
+        at = behind(text, at);
+    }
+    at
+}

@@ -1,0 +1,121 @@
+use crate::{KekPolicy, SaPolicy, SignKind, TekPolicy, WireFault, WireWhat, read_sa, write_sa};
+use group_terms::List;
+use std::alloc::Global;
+use std::test::Fail;
+
+/// Of the SPIs `ade0..` and `9ac3e826`, as another implementation writes it.
+const BOTH: &str = "0000000200000000000f0000\
+    100000491101035004c000020101035004e9fc0001ade0b876903df1a0e56a5d4028bd8653000000008001000180020003\
+    80030080000400040001518080050003800600808007010000000033011101000004c000020101000004e9fc00010c\
+    9ac3e826800100010002000400000e10800400018005000580060080";
+
+/// The body of a SAT alone, up to its attributes.
+const SAT_HEAD: &str =
+    "00000002000000000010000000000033011101000004c000020101000004e9fc00010c9ac3e826";
+
+/// The same with 20 octets of attributes.
+const SAT_OF_20: &str =
+    "0000000200000000001000000000002f011101000004c000020101000004e9fc00010c9ac3e826";
+
+/// Both policies and each alone: how many octets their body has, and that it is read as the same.
+#[test]
+fn policies_are_written_and_read(rt: HostRuntime) -> Result<(), Fail> {
+    let alloc = rt.alloc();
+    let (kek, tek) = (Some(kek(alloc)?), Some(tek(alloc)?));
+    let both = SaPolicy { kek, tek };
+    let mut body = List::new(alloc);
+    write_sa(&both, &mut body)?;
+    assert_eq!(rt; body.as_slice(), hex::decode(alloc, BOTH)?.as_slice());
+    assert_eq!(rt; read(body.as_slice())?, Ok(both));
+    let alone = SaPolicy { kek, tek: None };
+    let mut body = List::new(alloc);
+    write_sa(&alone, &mut body)?;
+    assert_eq!(rt; (body.len(), read(body.as_slice())?), (85, Ok(alone)));
+    let alone = SaPolicy { kek: None, tek };
+    let mut body = List::new(alloc);
+    write_sa(&alone, &mut body)?;
+    assert_eq!(rt; (body.len(), read(body.as_slice())?), (63, Ok(alone)));
+    Ok(())
+}
+
+/// The attributes of a TEK stand in any order, and the duration has either form.
+#[test]
+fn attributes_are_taken_in_any_order(rt: HostRuntime) -> Result<(), Fail> {
+    let alloc = rt.alloc();
+    let policy = SaPolicy {
+        kek: None,
+        tek: Some(tek(alloc)?),
+    };
+    let table = [
+        "800100010002000400000e10800400018005000580060080",
+        "800600808005000580040001 0002000400000e1080010001",
+        "0002000400000000800400028001000180060080 80050005",
+    ];
+    for attributes in table {
+        let mut body = List::from_vec(hex::decode(alloc, SAT_HEAD)?);
+        for word in attributes.split(' ') {
+            body.extend(hex::decode(alloc, word)?.as_slice())?;
+        }
+        assert_eq!(rt; read(body.as_slice())?, Ok(policy));
+    }
+    Ok(())
+}
+
+/// A second attribute of a kind, one that is missing, one without a rule, and a form that is not taken, behind a SAT of which the
+/// attributes begin at place 39.
+#[test]
+fn attributes_stand_exactly_once(rt: HostRuntime) -> Result<(), Fail> {
+    let alloc = rt.alloc();
+    let table = [
+        (
+            "800100018001000180020e108004000180050005",
+            WireWhat::Kind { number: 1 },
+            83,
+        ),
+        (
+            "800100018003000180020e108004000180050005",
+            WireWhat::Kind { number: 3 },
+            83,
+        ),
+        (
+            "800100010004000180020e108004000180050005",
+            WireWhat::Kind { number: 4 },
+            83,
+        ),
+        (
+            "800100028003000180020e108004000180050005",
+            WireWhat::Value,
+            81,
+        ),
+    ];
+    for (attributes, what, at) in table {
+        let mut body = List::from_vec(hex::decode(alloc, SAT_OF_20)?);
+        body.extend(hex::decode(alloc, attributes)?.as_slice())?;
+        assert_eq!(rt; read(body.as_slice())?, Err(WireFault { what, at }));
+    }
+    Ok(())
+}
+
+/// Reads a body that is not longer than a datagram, whose first octet has the place 40.
+fn read(body: &[u8]) -> Result<Result<SaPolicy, WireFault>, Fail> {
+    if body.len() > 65_507 {
+        return Err("more than a datagram holds".into());
+    }
+    Ok(read_sa(body, 40))
+}
+
+fn kek(alloc: Global) -> Result<KekPolicy, Fail> {
+    let octets = hex::decode(alloc, "ade0b876903df1a0e56a5d4028bd8653")?;
+    let spi = *octets.as_slice().first_chunk().ok_or("sixteen octets")?;
+    let sign = SignKind {
+        algorithm: 128,
+        key_bits: 256,
+    };
+    Ok(KekPolicy { spi, sign })
+}
+
+fn tek(alloc: Global) -> Result<TekPolicy, Fail> {
+    let octets = hex::decode(alloc, "9ac3e826")?;
+    let spi = *octets.as_slice().first_chunk().ok_or("four octets")?;
+    Ok(TekPolicy { spi })
+}
