@@ -52,7 +52,7 @@ module _ (text : List ℕ) where
     abbrev pub attribute_fault : List Rule → ℕ → Option WireFault
     attribute_fault rules at = or_else (first_fault (type_tests rules at)) (first_fault (value_tests (rule_for (kind_at at) rules) at))
 
-    -- behind the last one there is none
+    -- Behind the last one the text ends: an octet left over is a type that is not whole, and two are a type that is not awaited.
     abbrev pub end_tests : ℕ → List Test
     end_tests at =
         test (at == length text || nat_le (at + 2) (length text)) Short (base + at)

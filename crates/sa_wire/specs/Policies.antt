@@ -27,7 +27,7 @@ abbrev pub ids_end : List ℕ → ℕ → ℕ
 ids_end text at = id_end text (id_end text at)
 
 -- Where the SPI begins in a policy that begins here. In that of the KEK (RFC 6407 section 5.3) a protocol of 1 octet and the identifications are
--- before it; in that of the TEK (section 5.4) the protocol's id and the protocol, 1 octet each, the identifications, and the transform's id.
+-- before it; in that of the TEK (section 5.5) the protocol's id and the protocol, 1 octet each, the identifications, and the transform's id.
 abbrev pub kek_spi : List ℕ → ℕ → ℕ
 kek_spi text at = ids_end text (at + 1)
 
@@ -63,7 +63,7 @@ module _ (text : List ℕ) (base : ℕ) where
   abbrev pub protocol_tests : ℕ → List Test
   protocol_tests at = there text base at 1 ∷ test (octet_at text at == 1) Value (base + at) ∷ there text base (at + 1) 1 ∷ []
 
-  -- the transform's id is 12 for AES (RFC 3602 section 5.1), and a SPI of 4 octets follows
+  -- the transform's id is 12 for AES (RFC 3602 section 5.2), and a SPI of 4 octets follows
   abbrev pub transform_tests : ℕ → List Test
   transform_tests at = there text base at 1 ∷ test (octet_at text at == 12) Value (base + at) ∷ there text base (at + 1) 4 ∷ []
 

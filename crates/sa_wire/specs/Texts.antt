@@ -1,4 +1,4 @@
--- The text of policies, as the body of an SA payload (RFC 6407 sections 5.2 to 5.4).
+-- The text of policies, as the body of an SA payload (RFC 6407 sections 5.2, 5.3 and 5.5).
 use Rattle.std.specs.Prelude.{ℕ, List, [], ◌∷◌, ◌++◌, length, Option, None, Some}
 use Rattle.byteorder.specs.Endian.{big_bytes}
 use Rattle.gd_wire.specs.Attributes.{short_text, long_text}

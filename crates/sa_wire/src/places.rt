@@ -42,7 +42,7 @@ pub struct TekPlaces {
     pub spi: usize,
 }
 
-/// Where the SPIs and the signature's attributes stand in a body without fault.
+/// Where the SPIs and the numbers of the signature's attributes stand in a body without fault, counted from its first octet.
 pub fn sa_places(body: &[u8]) -> SaPlaces
     requires small { length body.now ≤ 4294967295 }
     requires taken { sa_fault body.now 0 ≡ None }
@@ -212,7 +212,7 @@ fn find_kek_spi(text: &[u8], at: usize, base: u32) -> Result<usize, WireFault>
     Ok(spi)
 }
 
-/// Reads the policy of the TEK (RFC 6407 section 5.4).
+/// Reads the policy of the TEK (RFC 6407 section 5.5).
 fn find_tek(text: &[u8], at: usize, base: u32) -> Result<TekPlaces, WireFault>
     requires within { at ≤ length text.now }
     requires small { base + length text.now ≤ 4294967295 }

@@ -32,14 +32,17 @@ pub struct KekPolicy {
     pub sign: SignKind,
 }
 
-/// The policy of the key that encrypts traffic, which goes by this SPI (RFC 6407 section 5.4).
+/// The policy of the key that encrypts traffic, which goes by this SPI (RFC 6407 section 5.5).
 #[derive(Clone, Copy, Debug, PartialEq, Eq)]
 pub struct TekPolicy {
     pub spi: [u8; 4],
 }
 
-/// Reads the body of an SA payload, whose first octet has the place `base` in its datagram; else its first fault. It takes any protocols,
-/// identifications and lifetimes; the attributes of a policy stand in any order, each exactly once.
+/// Reads the body of an SA payload, whose first octet has the place `base` in its datagram; else its first fault: Short where a field is not
+/// whole, Value where a number is not taken, Reserved where a reserved field is not zero, Length where a payload's is less than its header or
+/// leads out of the body, or octets are left behind the last payload, and Kind where a payload is not awaited, or an attribute has no rule, is
+/// there a second time or has a form that is not taken. Any addresses and ports of any protocol over IP are taken, and any lifetime, short or
+/// long in 4 octets; the attributes of a policy stand in any order, each exactly once.
 pub fn read_sa(body: &[u8], base: u32) -> Result<SaPolicy, WireFault>
     requires small { base + length body.now ≤ 4294967295 }
     ensures { result ≡ answer (sa_fault body.now base) (sa_fields body.now) }

@@ -30,7 +30,7 @@ pub(crate) fn kek_rules() -> [Rule; 7]
     ]
 }
 
-/// The attributes of the TEK (RFC 6407 section 5.4, RFC 2407 section 4.5).
+/// The attributes of the TEK (RFC 6407 section 5.5, RFC 2407 section 4.5, RFC 3602 section 5.3, RFC 4868).
 pub(crate) fn tek_rules() -> [Rule; 5]
     ensures { result ≡ tek_rules }
 {

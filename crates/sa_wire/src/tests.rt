@@ -61,8 +61,8 @@ fn attributes_are_taken_in_any_order(rt: HostRuntime) -> Result<(), Fail> {
     Ok(())
 }
 
-/// A second attribute of a kind, one that is missing, one without a rule, and a form that is not taken, behind a SAT of which the
-/// attributes begin at place 39.
+/// A second attribute of a kind, one without a rule, a long form where that is not taken, and a number that is not taken, behind a SAT of
+/// which the attributes begin at place 39 of the body.
 #[test]
 fn attributes_stand_exactly_once(rt: HostRuntime) -> Result<(), Fail> {
     let alloc = rt.alloc();
