@@ -1,4 +1,7 @@
-use crate::{KekPolicy, SaPolicy, SignKind, TekPolicy, WireFault, WireWhat, read_sa, write_sa};
+use crate::{
+    KekPlaces, KekPolicy, SaPlaces, SaPolicy, SignKind, TekPlaces, TekPolicy, WireFault, WireWhat,
+    read_sa, sa_places, write_sa,
+};
 use group_terms::List;
 use std::alloc::Global;
 use std::test::Fail;
@@ -16,6 +19,10 @@ const SAT_HEAD: &str =
 /// The same with 20 octets of attributes.
 const SAT_OF_20: &str =
     "0000000200000000001000000000002f011101000004c000020101000004e9fc00010c9ac3e826";
+
+/// The same with 16 octets of attributes.
+const SAT_OF_16: &str =
+    "0000000200000000001000000000002b011101000004c000020101000004e9fc00010c9ac3e826";
 
 /// Both policies and each alone: how many octets their body has, and that it is read as the same.
 #[test]
@@ -35,6 +42,31 @@ fn policies_are_written_and_read(rt: HostRuntime) -> Result<(), Fail> {
     let mut body = List::new(alloc);
     write_sa(&alone, &mut body)?;
     assert_eq!(rt; (body.len(), read(body.as_slice())?), (63, Ok(alone)));
+    Ok(())
+}
+
+/// Where the SPIs and the numbers of the signature's attributes stand, counted by hand in the octets of both policies.
+#[test]
+fn places_are_those_of_the_octets(rt: HostRuntime) -> Result<(), Fail> {
+    let body = hex::decode(rt.alloc(), BOTH)?;
+    let body = body.as_slice();
+    if body.len() > 65_507 {
+        return Err("more than a datagram holds".into());
+    }
+    let Ok(_) = read_sa(body, 0) else {
+        return Err("a body without fault".into());
+    };
+    let kek = KekPlaces {
+        spi: 33,
+        algorithm: 79,
+        key_bits: 83,
+    };
+    let tek = TekPlaces { spi: 108 };
+    let places = SaPlaces {
+        kek: Some(kek),
+        tek: Some(tek),
+    };
+    assert_eq!(rt; sa_places(body), places);
     Ok(())
 }
 
@@ -93,6 +125,20 @@ fn attributes_stand_exactly_once(rt: HostRuntime) -> Result<(), Fail> {
         body.extend(hex::decode(alloc, attributes)?.as_slice())?;
         assert_eq!(rt; read(body.as_slice())?, Err(WireFault { what, at }));
     }
+    Ok(())
+}
+
+/// A SAT that ends where the key length is still awaited.
+#[test]
+fn missing_attributes_are_told_at_the_end(rt: HostRuntime) -> Result<(), Fail> {
+    let alloc = rt.alloc();
+    let mut body = List::from_vec(hex::decode(alloc, SAT_OF_16)?);
+    body.extend(hex::decode(alloc, "8001000180020e108004000180050005")?.as_slice())?;
+    let end = WireFault {
+        what: WireWhat::Short,
+        at: 95,
+    };
+    assert_eq!(rt; read(body.as_slice())?, Err(end));
     Ok(())
 }
 
