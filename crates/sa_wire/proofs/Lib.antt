@@ -3,3 +3,5 @@ pub mod AttributeLemmas
 pub mod PolicyLemmas
 pub mod TextLemmas
 pub mod PlaceLemmas
+pub mod WrittenLemmas
+pub mod BaseLemmas

@@ -1,5 +1,5 @@
 -- The text of policies, as the body of an SA payload (RFC 6407 sections 5.2, 5.3 and 5.5).
-use Rattle.std.specs.Prelude.{ℕ, List, [], ◌∷◌, ◌++◌, length, Option, None, Some}
+use Rattle.std.specs.Prelude.{◌≡◌, ℕ, ◌+◌, ◌<◌, ◌⊎◌, List, [], ◌∷◌, ◌++◌, length, Option, None, Some, IfSome, IsSome}
 use Rattle.byteorder.specs.Endian.{big_bytes}
 use Rattle.gd_wire.specs.Attributes.{short_text, long_text}
 use Rattle.gd_wire.specs.Chains.{Payload, first_kind, payloads_text}
@@ -62,3 +62,30 @@ head_text first = big_bytes 4 2 ++ big_bytes 4 0 ++ big_bytes 2 first ++ big_byt
 
 abbrev pub sa_text : SaPolicy → List ℕ
 sa_text policy = head_text (first_kind (sa_payloads policy)) ++ payloads_text (sa_payloads policy)
+
+-- how many octets that are: 12 before the payloads, then 73 for the KEK and 51 for the TEK
+abbrev pub kek_size : Option KekPolicy → ℕ
+kek_size None = 0
+kek_size (Some kek) = 73
+
+abbrev pub tek_size : Option TekPolicy → ℕ
+tek_size None = 0
+tek_size (Some tek) = 51
+
+abbrev pub sa_size : SaPolicy → ℕ
+sa_size policy = 12 + kek_size policy.kek + tek_size policy.tek
+
+-- policies that can be told: a SPI of 16 octets for the KEK and one of 4 for the TEK, and numbers of 2 octets for the signature
+pub record KekPolicyFits (kek : KekPolicy) : Type 0 where
+  pub spi : length kek.spi ≡ 16
+  pub algorithm : kek.sign.algorithm < 65536
+  pub key_bits : kek.sign.key_bits < 65536
+
+pub record TekPolicyFits (tek : TekPolicy) : Type 0 where
+  pub spi : length tek.spi ≡ 4
+
+-- and of the two one at least is there
+pub record PolicyFits (policy : SaPolicy) : Type 0 where
+  pub kek : IfSome policy.kek KekPolicyFits
+  pub tek : IfSome policy.tek TekPolicyFits
+  pub some : IsSome policy.kek ⊎ IsSome policy.tek

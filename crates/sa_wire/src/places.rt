@@ -1,10 +1,11 @@
 //! Where the fields of an SA payload stand in its body.
-ghost use Rattle.std.specs.Prelude.{◌≡◌, ◌+◌, ◌≤◌, ◌∷◌, [], length, take, None, IfOk, IfSome};
+ghost use Rattle.std.specs.Prelude.{◌≡◌, ◌+◌, ◌≤◌, ℕ, ◌∷◌, [], length, take, None, IfOk, IfSome};
 ghost use Rattle.gd_wire.specs.Faults.{octet_at, first_fault, or_else, answer};
 ghost use Rattle.sa_wire.specs.Policies.{first_kind, head_tests, header_tests, payload_end, up_to_end, id_end, ids_end, ids_fault, id_tests, kek_head_fault, kek_fault, protocol_tests, transform_tests, tek_head_fault, tek_fault, kek_spi, tek_spi, end_fault, sat_fault, rest_fault, with_kek_fault, sa_fault, kek_places, tek_places, sat_places, rest_places, with_kek_places, sa_places, KekFits, TekFits, SaFits};
 
 use crate::attributes::{place_of, read_attributes};
 use crate::fields::{fault, long_number, number, octet, skip};
+use crate::laws::a_fault_is_there_from_any_base;
 use crate::policies::{ESP, ESP_AES, SAK, SAT};
 use crate::rules::{kek_rules, tek_rules};
 use group_terms::{WireFault, WireWhat};
@@ -45,9 +46,11 @@ pub struct TekPlaces {
 /// Where the SPIs and the numbers of the signature's attributes stand in a body without fault, counted from its first octet.
 pub fn sa_places(body: &[u8]) -> SaPlaces
     requires small { length body.now ≤ 4294967295 }
-    requires taken { sa_fault body.now 0 ≡ None }
-    ensures { result ≡ sa_places body.now }
+    requires taken { (base : ℕ) × (sa_fault body.now base ≡ None) }
+    ensures places { result ≡ sa_places body.now }
+    ensures within { SaFits (length body.now) result }
 {
+    a_fault_is_there_from_any_base();
     find_places(body, 0).unwrap()
 }
 
