@@ -1,6 +1,9 @@
+pub mod AnswerLemmas
 pub mod AttributeLemmas
 pub mod ChainLemmas
 pub mod FaultLemmas
 pub mod HeaderLemmas
 pub mod NumberLemmas
 pub mod PayloadLemmas
+pub mod SteadyLemmas
+pub mod TextLemmas

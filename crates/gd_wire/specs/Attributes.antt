@@ -1,9 +1,9 @@
 -- Data attributes (RFC 2408 section 3.3): a kind of 15 bits behind a bit that tells the form. In the short form a number of 2 octets follows, in
 -- the long form a length of 2 octets and so many octets.
-use Rattle.std.specs.Prelude.{ℕ, ◌+◌, ◌%◌, ◌||◌, nat_le, Bool, List, [], ◌∷◌, ◌++◌, length, take, drop, Option, if◌then◌else◌}
+use Rattle.std.specs.Prelude.{ℕ, ◌+◌, ◌%◌, ◌==◌, ◌||◌, nat_le, Bool, List, [], ◌∷◌, ◌++◌, length, take, drop, Option, if◌then◌else◌}
 use Rattle.byteorder.specs.Endian.{big_from, big_bytes}
 use Rattle.group_terms.specs.declared.wires.WireFault.{WireFault}
-use Rattle.group_terms.specs.declared.wires.WireWhat.TheVariants.{Short}
+use Rattle.group_terms.specs.declared.wires.WireWhat.TheVariants.{Short, Kind}
 use Rattle.gd_wire.specs.declared.attributes.Attribute.{Attribute}
 use Rattle.gd_wire.specs.declared.attributes.AttrValue.{AttrValue}
 use Rattle.gd_wire.specs.declared.attributes.AttrValue.TheVariants as Values
@@ -28,6 +28,10 @@ module _ (text : List ℕ) (at : ℕ) where
 
   abbrev pub is_short : Bool
   is_short = nat_le 32768 attribute_type
+
+  -- its kind, without the bit of the form
+  abbrev pub kind_at : ℕ
+  kind_at = attribute_type % 32768
 
   -- the next two: the number, or the length of the value
   abbrev pub attribute_number : ℕ
@@ -55,6 +59,13 @@ module _ (text : List ℕ) (at : ℕ) where
       if is_short
       then record { kind = attribute_type % 32768; value = Values.Short attribute_number; next = at + 4 }
       else record { kind = attribute_type; value = Values.Long (at + 4) attribute_number; next = at + 4 + attribute_number }
+
+  -- Behind the last attribute the text ends: an octet left over is a type that is not whole, and two are a type that is not awaited.
+  abbrev pub no_more_tests : ℕ → List Test
+  no_more_tests base =
+      test (at == length text || nat_le (at + 2) (length text)) Short (base + at)
+      ∷ test (at == length text) (Kind kind_at) (base + at)
+      ∷ []
 
 -- the text of an attribute whose value, where that is long, stands in a text
 abbrev pub attribute_text : List ℕ → Attribute → List ℕ

@@ -1,4 +1,6 @@
 pub mod Attributes
 pub mod Chains
 pub mod Faults
+pub mod Fields
 pub mod Headers
+pub mod Sections

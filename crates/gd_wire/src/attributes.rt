@@ -1,9 +1,10 @@
 //! Data attributes.
 ghost use Rattle.std.specs.Prelude.{◌≡◌, ◌+◌, ◌≤◌, ◌++◌, length, IfOk, OnOk, OnErr};
-ghost use Rattle.gd_wire.specs.Faults.{answer};
-ghost use Rattle.gd_wire.specs.Attributes.{attribute_fault, attribute_fields, short_text, long_text};
+ghost use Rattle.gd_wire.specs.Faults.{first_fault, answer};
+ghost use Rattle.gd_wire.specs.Attributes.{kind_at, is_short, no_more_tests, attribute_fault, attribute_fields, short_text, long_text};
 
 use crate::faults::fault;
+use crate::fields::skip;
 use byteorder::{BigEndian, ByteOrder};
 use group_terms::{NoMemory, Octets, WireFault, WireWhat};
 
@@ -66,6 +67,36 @@ pub fn read_attribute(text: &[u8], at: usize, base: u32) -> Result<Attribute, Wi
         },
         next: at + 4 + length,
     })
+}
+
+/// The kind of the attribute whose type begins at this place, without the bit of the form.
+pub fn attribute_kind(text: &[u8], at: usize) -> u16
+    requires { at + 2 ≤ length text.now }
+    ensures { result ≡ kind_at text.now at }
+{
+    BigEndian::read_u16(&text[at..]) % SHORT_FORM
+}
+
+/// Whether that attribute has the short form.
+pub fn is_short(text: &[u8], at: usize) -> bool
+    requires { at + 2 ≤ length text.now }
+    ensures { result ≡ is_short text.now at }
+{
+    BigEndian::read_u16(&text[at..]) >= SHORT_FORM
+}
+
+/// Finds that no attribute begins at this place; else `Short` where only a part of a type is left, and `Kind` at a type.
+pub fn read_no_more(text: &[u8], at: usize, base: u32) -> Result<(), WireFault>
+    requires within { at ≤ length text.now }
+    requires small { base + length text.now ≤ 4294967295 }
+    ensures { result ≡ answer (first_fault (no_more_tests text.now at base)) tt }
+{
+    if at == text.len() {
+        return Ok(());
+    }
+    skip(text, at, 2, base)?;
+    let number = attribute_kind(text, at);
+    Err(fault(WireWhat::Kind { number }, base + at as u32))
 }
 
 /// Appends an attribute in the short form.

@@ -3,7 +3,8 @@ ghost use Rattle.gd_wire.specs.Faults.{fault_at};
 
 use group_terms::{WireFault, WireWhat};
 
-pub(crate) fn fault(what: WireWhat, at: u32) -> WireFault
+/// A fault at a place of a datagram.
+pub fn fault(what: WireWhat, at: u32) -> WireFault
     ensures { result ≡ fault_at what at }
 {
     WireFault { what, at }

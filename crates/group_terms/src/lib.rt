@@ -1,5 +1,5 @@
 //! What nearly never changes: lists and logs that answer want of memory, the positions of the key tree, the names of
-//! members and keys, what a batch of changes says, and why octets are no text of their grammar.
+//! members and keys, the octets of keys, what a batch of changes says, and why octets are no text of their grammar.
 #![tactic(auto)]
 
 pub use changes::{Batch, Change, MOST_CHANGES};
@@ -10,7 +10,9 @@ pub use marks::marks_above;
 pub use members::{MOST_MEMBERS, MemberNames};
 pub use memory::NoMemory;
 pub use names::MemberName;
+pub use paths::{Keyed, LONGEST_PATH, Path, PathKey};
 pub use positions::LkhId;
+pub use values::{NodeValue, TrafficValue};
 pub use wires::{WireFault, WireWhat};
 
 mod changes;
@@ -21,7 +23,9 @@ mod marks;
 mod members;
 mod memory;
 mod names;
+mod paths;
 mod positions;
 #[cfg(test)]
 mod tests;
+mod values;
 mod wires;

@@ -48,6 +48,15 @@ impl LkhId {
     }
 }
 
+impl Default for LkhId {
+    ghost is_default = { λ id. id ≡ 1 };
+
+    /// The root, which stands in places that nothing shows.
+    fn default() -> Self {
+        LkhId { number: 1 }
+    }
+}
+
 /// No more steps lead from a leaf to a position above it than the tree is deep.
 pub fn steps_are_at_most_the_depth()
     ensures { (depth v x : ℕ) → 0 < v → x < 2 ^ (depth + 1) → (is_below depth v x ≡ true) ↔ IsBelow v x }

@@ -4,7 +4,8 @@ use Rattle.group_terms.specs.declared.wires.WireFault.{WireFault}
 use Rattle.gd_wire.specs.Faults.{or_else}
 use Rattle.sa_wire.specs.declared.rules.Rule.{Rule}
 use Rattle.sa_wire.specs.Rules.{without}
-use Rattle.sa_wire.specs.Attributes.{kind_at, behind, attribute_fault, attributes_fault}
+use Rattle.gd_wire.specs.Attributes.{kind_at}
+use Rattle.sa_wire.specs.Attributes.{behind, attribute_fault, attributes_fault}
 
 module _ (text : List ℕ) (base left more : ℕ) (rules : List Rule) (at : ℕ) where
   first_of_them : left ≡ suc more →

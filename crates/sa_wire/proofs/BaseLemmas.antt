@@ -1,56 +1,16 @@
 -- Whether a text has a fault does not hang on the base from which the places of faults count: what the tests look at is the same.
-use Rattle.std.proofs.Common.{◌≡◌, ℕ, zero, suc, ◌+◌, Bool, true, false, List, [], ◌∷◌, length, Option, None, Some, is_none, if◌then◌else◌, refl, sym, ap, ◌∙◌}
-use Rattle.std.specs.Prelude.{◌&&◌, ◌==◌}
-use Rattle.std.specs.List.{list_all}
-use Rattle.std.proofs.lemmas.Bool.{false≢true}
-use Rattle.group_terms.specs.declared.wires.WireFault.{WireFault}
+use Rattle.std.proofs.Common.{◌≡◌, ℕ, zero, suc, ◌+◌, Bool, true, false, List, [], ◌∷◌, length, None, if◌then◌else◌, refl}
+use Rattle.std.specs.Prelude.{◌==◌}
 use Rattle.group_terms.specs.declared.wires.WireWhat.TheVariants.{Length}
-use Rattle.gd_wire.specs.Attributes.{is_short}
-use Rattle.gd_wire.specs.Faults.{Test, test, octet_at, first_fault, or_else}
+use Rattle.gd_wire.specs.Attributes.{kind_at, is_short, no_more_tests}
+use Rattle.gd_wire.specs.Faults.{test, octet_at, first_fault}
 use Rattle.sa_wire.specs.declared.rules.Rule.{Rule}
-use Rattle.sa_wire.specs.Fields.{there}
+use Rattle.gd_wire.specs.Fields.{there}
 use Rattle.sa_wire.specs.Rules.{kek_rules, tek_rules, rule_for, without}
-use Rattle.sa_wire.specs.Attributes.{kind_at, behind, type_tests, short_tests, long_tests, value_tests, attribute_fault, end_tests, attributes_fault}
-use Rattle.sa_wire.specs.Policies.{id_end, ids_end, kek_spi, tek_spi, id_tests, ids_fault, kek_tests, kek_head_fault, kek_fault, protocol_tests, transform_tests, tek_head_fault, tek_fault, header_tests, payload_end, up_to_end, first_kind, head_tests, end_fault, sat_fault, rest_fault, with_kek_fault, sa_fault}
-
--- a fault by its base is there from each base or from none
-record IsSteady (fault : ℕ → Option WireFault) : Type 0 where
-  same : (base other : ℕ) → is_none (fault base) ≡ is_none (fault other)
-
-no_fault : (fault : Option WireFault) → is_none fault ≡ true → fault ≡ None
-no_fault None none = refl
-no_fault (Some error) none = absurd (false≢true none)
-
--- ---- what is put together of steady faults
-
--- a list of tests has a fault where one of them does not hold, and two faults in turn are one where either is
-abbrev each_passes : List Test → Bool
-each_passes tests = list_all (λ (test : Test). test.holds) tests
-
-none_of_tests : (tests : List Test) → is_none (first_fault tests) ≡ each_passes tests
-none_of_tests [] = refl
-none_of_tests (test ∷ tests) =
-    elim test.holds as (λ holds. is_none (if holds then first_fault tests else Some test.fault) ≡ (holds && each_passes tests)) [
-      | true ↦ none_of_tests tests
-      | false ↦ refl
-    ]
-
--- tests that hold from one base hold from another
-steady_tests : (tests : ℕ → List Test) → ((base other : ℕ) → each_passes (tests base) ≡ each_passes (tests other)) → IsSteady (λ base. first_fault (tests base))
-steady_tests tests passes = record { same = λ base other. none_of_tests (tests base) ∙ passes base other ∙ sym (none_of_tests (tests other)) }
-
-none_of_either : (fault later : Option WireFault) → is_none (or_else fault later) ≡ (is_none fault && is_none later)
-none_of_either None later = refl
-none_of_either (Some error) later = refl
-
-either_steady : {fault later : ℕ → Option WireFault} → IsSteady fault → IsSteady later → IsSteady (λ base. or_else (fault base) (later base))
-either_steady {fault} {later} first second = record {
-  same = λ base other. none_of_either (fault base) (later base) ∙ (λ i. first.same base other i && second.same base other i) ∙ sym (none_of_either (fault other) (later other));
-}
-
-choice_steady : (here : Bool) {fault later : ℕ → Option WireFault} → IsSteady fault → IsSteady later → IsSteady (λ base. if here then fault base else later base)
-choice_steady true first second = first
-choice_steady false first second = second
+use Rattle.sa_wire.specs.Attributes.{behind, type_tests, short_tests, long_tests, value_tests, attribute_fault, attributes_fault}
+use Rattle.gd_wire.specs.Sections.{section_tests, section_end, up_to_end}
+use Rattle.gd_wire.proofs.SteadyLemmas.{IsSteady, none_from_other, each_passes, steady_tests, either_steady, choice_steady}
+use Rattle.sa_wire.specs.Policies.{id_end, ids_end, kek_spi, tek_spi, id_tests, ids_fault, kek_tests, kek_head_fault, kek_fault, protocol_tests, transform_tests, tek_head_fault, tek_fault, first_kind, head_tests, end_fault, sat_fault, rest_fault, with_kek_fault, sa_fault}
 
 -- ---- attributes
 
@@ -69,7 +29,7 @@ module _ (text : List ℕ) where
       (steady_tests (λ base. value_tests text base rule at) (value_passes (is_short text at) rule at))
 
   attributes_steady : (more : ℕ) (rules : List Rule) (at : ℕ) → IsSteady (λ base. attributes_fault text base more rules at)
-  attributes_steady zero rules at = steady_tests (λ base. end_tests text base at) (λ base other. refl)
+  attributes_steady zero rules at = steady_tests (λ base. no_more_tests text at base) (λ base other. refl)
   attributes_steady (suc more) rules at = either_steady (attribute_steady rules at) (attributes_steady more (without (kind_at text at) rules) (behind text at))
 
 -- ---- policies
@@ -98,8 +58,8 @@ module _ (text : List ℕ) where
 -- ---- bodies
 
 module _ (body : List ℕ) where
-  header_steady : (nexts : List ℕ) (at : ℕ) → IsSteady (λ base. first_fault (header_tests body base nexts at))
-  header_steady nexts at = steady_tests (λ base. header_tests body base nexts at) (λ base other. refl)
+  header_steady : (nexts : List ℕ) (at : ℕ) → IsSteady (λ base. first_fault (section_tests body base nexts at))
+  header_steady nexts at = steady_tests (λ base. section_tests body base nexts at) (λ base other. refl)
 
   end_steady : (at : ℕ) → IsSteady (λ base. end_fault body base at)
   end_steady at = steady_tests (λ base. test (at == length body) Length (base + at) ∷ []) (λ base other. refl)
@@ -107,7 +67,7 @@ module _ (body : List ℕ) where
   sat_steady : (at : ℕ) → IsSteady (λ base. sat_fault body base at)
   sat_steady at =
       either_steady (header_steady (0 ∷ []) at)
-      (either_steady (tek_steady (up_to_end body at) (at + 4)) (end_steady (payload_end body at)))
+      (either_steady (tek_steady (up_to_end body at) (at + 4)) (end_steady (section_end body at)))
 
   rest_steady : (next at : ℕ) → IsSteady (λ base. rest_fault body base next at)
   rest_steady next at = choice_steady (next == 16) (sat_steady at) (end_steady at)
@@ -115,7 +75,7 @@ module _ (body : List ℕ) where
   with_kek_steady : IsSteady (λ base. with_kek_fault body base)
   with_kek_steady =
       either_steady (header_steady (0 ∷ 16 ∷ []) 12)
-      (either_steady (kek_steady (up_to_end body 12) 16) (rest_steady (octet_at body 12) (payload_end body 12)))
+      (either_steady (kek_steady (up_to_end body 12) 16) (rest_steady (octet_at body 12) (section_end body 12)))
 
   sa_steady : IsSteady (λ base. sa_fault body base)
   sa_steady =
@@ -124,4 +84,4 @@ module _ (body : List ℕ) where
 
   -- so a body without fault from one base has none from another
   pub none_from_another : (base other : ℕ) → sa_fault body base ≡ None → sa_fault body other ≡ None
-  none_from_another base other none = no_fault (sa_fault body other) (sa_steady.same other base ∙ ap is_none none)
+  none_from_another = none_from_other sa_steady

@@ -3,13 +3,13 @@ use Rattle.std.proofs.Common.{◌≡◌, ℕ, suc, ◌+◌, ◌≤◌, true, fal
 use Rattle.std.specs.Prelude.{if◌then◌else◌, ◌==◌, remove}
 use Rattle.std.proofs.lemmas.Bool.{cases_Bool, cases_lt, le-ltb, leb-true, eqb-true, ne_eqb, ltb-true, lt-ltb, eq-eqb, false≢true}
 use Rattle.std.proofs.lemmas.List.Edits.{length-remove}
-use Rattle.gd_wire.specs.Attributes.{is_short}
+use Rattle.gd_wire.specs.Attributes.{kind_at, is_short}
 use Rattle.gd_wire.specs.Faults.{first_fault}
 use Rattle.gd_wire.proofs.ChainLemmas.{or_else-None}
 use Rattle.gd_wire.proofs.FaultLemmas.{each_holds}
 use Rattle.sa_wire.specs.declared.rules.Rule.{Rule}
 use Rattle.sa_wire.specs.Rules.{place_among, has_rule, rule_for, without}
-use Rattle.sa_wire.specs.Attributes.{kind_at, behind, place_of, type_tests, short_tests, long_tests, value_tests, attribute_fault, attributes_fault}
+use Rattle.sa_wire.specs.Attributes.{behind, place_of, type_tests, short_tests, long_tests, value_tests, attribute_fault, attributes_fault}
 
 -- ---- the first of some attributes without fault
 

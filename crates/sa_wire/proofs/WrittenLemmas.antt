@@ -1,12 +1,12 @@
 -- Policies that are written are read again: their text is written out octet by octet, and each test of it computes but for the two numbers
 -- of the signature.
-use Rattle.std.proofs.Common.{◌≡◌, ℕ, ◌<◌, true, List, [], ◌++◌, map, length, Option, None, Some, refl, sym, subst, inl, inr, arith}
+use Rattle.std.proofs.Common.{◌≡◌, ℕ, ◌<◌, true, [], ◌++◌, map, Option, None, Some, refl, subst, inl, inr, arith}
 use Rattle.std.specs.List.{range_with_len}
-use Rattle.std.proofs.lemmas.List.FromFn.{fill_by_all}
 use Rattle.std.proofs.lemmas.Bool.{le-leb, false≢true}
 use Rattle.byteorder.specs.Endian.{big_from, big_bytes}
 use Rattle.byteorder.specs.Numbers.{big_number-reads_back}
 use Rattle.gd_wire.specs.Faults.{octet_at}
+use Rattle.gd_wire.proofs.TextLemmas.{written_out}
 use Rattle.sa_wire.specs.declared.policies.SaPolicy.{SaPolicy}
 use Rattle.sa_wire.specs.declared.policies.KekPolicy.{KekPolicy}
 use Rattle.sa_wire.specs.declared.policies.TekPolicy.{TekPolicy}
@@ -64,9 +64,6 @@ module _ (spi : ℕ → ℕ) (algorithm key_bits : ℕ) (algorithm_small : algor
   }
 
 -- ---- each policy that fits is one that is written out
-
-written_out : (size : ℕ) (octets : List ℕ) → length octets ≡ size → map (octet_at octets) (range_with_len 0 size) ≡ octets
-written_out size octets long = sym (fill_by_all (octet_at octets) octets size 0 long (λ k within. refl))
 
 kek_out : (kek : KekPolicy) → KekPolicyFits kek → kek_of (octet_at kek.spi) kek.sign.algorithm kek.sign.key_bits ≡ kek
 kek_out kek fits = λ i. record { spi = written_out 16 kek.spi fits.spi i; sign = kek.sign }

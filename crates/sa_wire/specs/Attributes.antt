@@ -1,32 +1,29 @@
 -- The attributes of a policy: each that has a rule stands exactly once, in any order, and no other.
-use Rattle.std.specs.Prelude.{ℕ, zero, suc, ◌+◌, ◌%◌, ◌==◌, ◌||◌, nat_le, List, [], ◌∷◌, length, Option, if◌then◌else◌}
+use Rattle.std.specs.Prelude.{ℕ, zero, suc, ◌+◌, ◌==◌, List, [], ◌∷◌, Option, if◌then◌else◌}
 use Rattle.group_terms.specs.declared.wires.WireFault.{WireFault}
-use Rattle.group_terms.specs.declared.wires.WireWhat.TheVariants.{Kind, Value, Short}
+use Rattle.group_terms.specs.declared.wires.WireWhat.TheVariants.{Kind, Value}
 use Rattle.gd_wire.specs.Faults.{Test, test, first_fault, or_else}
-use Rattle.gd_wire.specs.Attributes.{attribute_type, attribute_number, is_short}
+use Rattle.gd_wire.specs.Attributes.{kind_at, attribute_number, is_short, no_more_tests}
 use Rattle.sa_wire.specs.declared.rules.Rule.{Rule}
-use Rattle.sa_wire.specs.Fields.{there}
+use Rattle.gd_wire.specs.Fields.{there}
 use Rattle.sa_wire.specs.Rules.{has_rule, rule_for, takes, without}
 
 module _ (text : List ℕ) where
-  -- the kind of the attribute at this place, and the place behind it; a long form that is taken has 4 octets
-  abbrev pub kind_at : ℕ → ℕ
-  kind_at at = attribute_type text at % 32768
-
+  -- the place behind the attribute at this place; a long form that is taken has 4 octets
   abbrev pub behind : ℕ → ℕ
   behind at = if is_short text at then at + 4 else at + 8
 
   -- the place of the attribute of this kind among so many from here on, and the place behind them where there is none
   abbrev pub place_of : ℕ → ℕ → ℕ → ℕ
   place_of kind zero at = at
-  place_of kind (suc more) at = if kind_at at == kind then at else place_of kind more (behind at)
+  place_of kind (suc more) at = if kind_at text at == kind then at else place_of kind more (behind at)
 
   module _ (base : ℕ) where
     -- The type is that of one of these rules. A fault of the kind or the form is told at the type, one of a number at that.
     abbrev pub type_tests : List Rule → ℕ → List Test
     type_tests rules at =
         there text base at 2
-        ∷ test (has_rule (kind_at at) rules) (Kind (kind_at at)) (base + at)
+        ∷ test (has_rule (kind_at text at) rules) (Kind (kind_at text at)) (base + at)
         ∷ []
 
     -- behind the type, in the short form, a number that the rule takes
@@ -39,9 +36,9 @@ module _ (text : List ℕ) where
     -- and in the long form, where the rule takes that, the length 4 and so many octets
     abbrev pub long_tests : Rule → ℕ → List Test
     long_tests rule at =
-        test rule.long (Kind (kind_at at)) (base + at)
+        test rule.long (Kind (kind_at text at)) (base + at)
         ∷ there text base (at + 2) 2
-        ∷ test (attribute_number text at == 4) (Kind (kind_at at)) (base + at)
+        ∷ test (attribute_number text at == 4) (Kind (kind_at text at)) (base + at)
         ∷ there text base (at + 4) 4
         ∷ []
 
@@ -50,16 +47,9 @@ module _ (text : List ℕ) where
 
     -- the first fault of an attribute for which one of these rules is there
     abbrev pub attribute_fault : List Rule → ℕ → Option WireFault
-    attribute_fault rules at = or_else (first_fault (type_tests rules at)) (first_fault (value_tests (rule_for (kind_at at) rules) at))
-
-    -- Behind the last one the text ends: an octet left over is a type that is not whole, and two are a type that is not awaited.
-    abbrev pub end_tests : ℕ → List Test
-    end_tests at =
-        test (at == length text || nat_le (at + 2) (length text)) Short (base + at)
-        ∷ test (at == length text) (Kind (kind_at at)) (base + at)
-        ∷ []
+    attribute_fault rules at = or_else (first_fault (type_tests rules at)) (first_fault (value_tests (rule_for (kind_at text at) rules) at))
 
     -- the first fault of so many attributes, for which these rules are there
     abbrev pub attributes_fault : ℕ → List Rule → ℕ → Option WireFault
-    attributes_fault zero rules at = first_fault (end_tests at)
-    attributes_fault (suc more) rules at = or_else (attribute_fault rules at) (attributes_fault more (without (kind_at at) rules) (behind at))
+    attributes_fault zero rules at = first_fault (no_more_tests text at base)
+    attributes_fault (suc more) rules at = or_else (attribute_fault rules at) (attributes_fault more (without (kind_at text at) rules) (behind at))

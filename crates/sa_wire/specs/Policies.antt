@@ -1,20 +1,19 @@
 -- The body of an SA payload (RFC 6407 section 5.2): the domain of interpretation in 4 octets, which is 2 for GDOI, the situation 0 in 4, the kind of
 -- the first payload of a policy in 2, a reserved field of 2, and then one payload for the KEK (SAK, 15), one for the TEK (SAT, 16), or both in
 -- this order. Fields are tested from the front, and one that is not whole is missing.
-use Rattle.std.specs.Prelude.{ℕ, ◌+◌, ◌==◌, ◌&&◌, ◌||◌, ◌≤◌, nat_le, List, [], ◌∷◌, length, take, drop, Option, None, Some, IfSome, if◌then◌else◌}
-use Rattle.std.specs.List.{list_any}
+use Rattle.std.specs.Prelude.{ℕ, ◌+◌, ◌==◌, ◌||◌, ◌≤◌, List, [], ◌∷◌, length, take, drop, Option, None, Some, IfSome, if◌then◌else◌}
 use Rattle.byteorder.specs.Endian.{big_from}
 use Rattle.group_terms.specs.declared.wires.WireFault.{WireFault}
 use Rattle.group_terms.specs.declared.wires.WireWhat.TheVariants.{Length, Reserved, Kind, Value}
 use Rattle.gd_wire.specs.Faults.{octet_at, Test, test, first_fault, or_else}
-use Rattle.gd_wire.specs.Chains.{size_at}
+use Rattle.gd_wire.specs.Fields.{there}
+use Rattle.gd_wire.specs.Sections.{section_tests, section_end, up_to_end}
 use Rattle.sa_wire.specs.declared.policies.SaPolicy.{SaPolicy}
 use Rattle.sa_wire.specs.declared.policies.KekPolicy.{KekPolicy}
 use Rattle.sa_wire.specs.declared.policies.TekPolicy.{TekPolicy}
 use Rattle.sa_wire.specs.declared.places.SaPlaces.{SaPlaces}
 use Rattle.sa_wire.specs.declared.places.KekPlaces.{KekPlaces}
 use Rattle.sa_wire.specs.declared.places.TekPlaces.{TekPlaces}
-use Rattle.sa_wire.specs.Fields.{there}
 use Rattle.sa_wire.specs.Rules.{kek_rules, tek_rules}
 use Rattle.sa_wire.specs.Attributes.{attributes_fault, place_of}
 
@@ -77,24 +76,6 @@ module _ (text : List ℕ) (base : ℕ) where
   abbrev pub tek_fault : ℕ → Option WireFault
   tek_fault at = or_else (tek_head_fault at) (attributes_fault text base (length tek_rules) tek_rules (tek_spi text at + 4))
 
--- The header of a payload of a policy: the kind of the next one, a reserved octet, and the length in 2 octets, which counts these four.
-abbrev pub header_tests : List ℕ → ℕ → List ℕ → ℕ → List Test
-header_tests body base nexts at =
-    there body base at 1
-    ∷ test (list_any (λ next. next == octet_at body at) nexts) (Kind (octet_at body at)) (base + at)
-    ∷ there body base (at + 1) 1
-    ∷ test (octet_at body (at + 1) == 0) Reserved (base + at + 1)
-    ∷ there body base (at + 2) 2
-    ∷ test (nat_le 4 (size_at body at) && nat_le (at + size_at body at) (length body)) Length (base + at + 2)
-    ∷ []
-
--- the place behind the payload that begins here, and the octets of the body up to there
-abbrev pub payload_end : List ℕ → ℕ → ℕ
-payload_end body at = at + size_at body at
-
-abbrev pub up_to_end : List ℕ → ℕ → List ℕ
-up_to_end body at = take (payload_end body at) body
-
 -- the kind of the first payload
 abbrev pub first_kind : List ℕ → ℕ
 first_kind body = big_from 8 2 body
@@ -119,9 +100,9 @@ module _ (body : List ℕ) (base : ℕ) where
   -- the payload for the TEK, which is the last one
   abbrev pub sat_fault : ℕ → Option WireFault
   sat_fault at =
-      or_else (first_fault (header_tests body base (0 ∷ []) at))
+      or_else (first_fault (section_tests body base (0 ∷ []) at))
       (or_else (tek_fault (up_to_end body at) base (at + 4))
-      (end_fault (payload_end body at)))
+      (end_fault (section_end body at)))
 
   -- behind the payload for the KEK: that for the TEK, where it is named, or nothing
   abbrev pub rest_fault : ℕ → ℕ → Option WireFault
@@ -130,9 +111,9 @@ module _ (body : List ℕ) (base : ℕ) where
   -- the payload for the KEK, which is the first one, and the rest
   abbrev pub with_kek_fault : Option WireFault
   with_kek_fault =
-      or_else (first_fault (header_tests body base (0 ∷ 16 ∷ []) 12))
+      or_else (first_fault (section_tests body base (0 ∷ 16 ∷ []) 12))
       (or_else (kek_fault (up_to_end body 12) base 16)
-      (rest_fault (octet_at body 12) (payload_end body 12)))
+      (rest_fault (octet_at body 12) (section_end body 12)))
 
   -- the first fault of a body
   abbrev pub sa_fault : Option WireFault
@@ -162,7 +143,7 @@ module _ (body : List ℕ) where
   abbrev pub with_kek_places : SaPlaces
   with_kek_places = record {
     kek = Some (kek_places (up_to_end body 12) 16);
-    tek = rest_places (octet_at body 12) (payload_end body 12);
+    tek = rest_places (octet_at body 12) (section_end body 12);
   }
 
   abbrev pub sa_places : SaPlaces

@@ -2,19 +2,15 @@
 ghost use Rattle.std.specs.Prelude.{◌≡◌, ◌+◌, ◌≤◌, ◌<◌, ℕ, List, length, true, None, Some, OnSome, OnOk, IfOk, IfSome, if◌then◌else◌};
 ghost use Rattle.group_terms.specs.declared.wires.WireWhat.TheVariants.{Kind};
 ghost use Rattle.gd_wire.specs.Faults.{fault_at, first_fault, answer};
-ghost use Rattle.gd_wire.specs.Attributes.{is_short};
+ghost use Rattle.gd_wire.specs.Attributes.{kind_at, is_short};
 ghost use Rattle.sa_wire.specs.declared.rules.Rule.{Rule};
 ghost use Rattle.sa_wire.specs.Rules.{place_among, has_rule, rule_for, without};
-ghost use Rattle.sa_wire.specs.Attributes.{kind_at, behind, place_of, short_tests, long_tests, value_tests, attribute_fault, attributes_fault, end_tests};
+ghost use Rattle.sa_wire.specs.Attributes.{behind, place_of, short_tests, long_tests, value_tests, attribute_fault, attributes_fault};
 
-use crate::fields::{fault, number, skip};
 use crate::rules::{MOST_RULES, Rule};
 use arrayvec::ArrayVec;
-use byteorder::{BigEndian, ByteOrder};
+use gd_wire::{attribute_kind, fault, is_short, read_no_more, read_number, skip};
 use group_terms::{WireFault, WireWhat};
-
-/// The bit that tells the short form.
-const SHORT_FORM: u16 = 0x8000;
 
 /// Reads attributes up to the end of a text. An attribute without a rule, a second one of its kind, or one in a form that is not taken is
 /// `Kind` at its type; a number that is not taken is `Value` at it; one that is missing is `Short` at the end of the text.
@@ -35,7 +31,7 @@ pub(crate) fn read_attributes(
     for _ in rules {
         at = read_attribute(&mut due, text, at, base)?;
     }
-    read_end(text, at, base)
+    read_no_more(text, at, base)
 }
 
 /// Reads an attribute for which a rule is due, and takes that rule off; gives the place behind the attribute.
@@ -52,7 +48,7 @@ fn read_attribute(
     ensures due { OnOk result (due.new.items ≡ without (kind_at text.now at) due.old.items) }
 {
     skip(text, at, 2, base)?;
-    match take_rule(due, kind_at(text, at)) {
+    match take_rule(due, attribute_kind(text, at)) {
         Some(rule) => read_value(&rule, text, at, base),
         None => Err(other_kind(text, at, base)),
     }
@@ -95,7 +91,7 @@ fn read_short(rule: &Rule, text: &[u8], at: usize, base: u32) -> Result<usize, W
     ensures answer { result ≡ answer (first_fault (short_tests text.now base rule.now at)) (at + 4) }
     ensures within { IfOk result (λ next. next ≤ length text.now) }
 {
-    let number = number(text, at + 2, base)?;
+    let number = read_number(text, at + 2, base)?;
     if number < rule.least || number > rule.most {
         return Err(fault(WireWhat::Value, base + at as u32 + 2));
     }
@@ -111,7 +107,7 @@ fn read_long(rule: &Rule, text: &[u8], at: usize, base: u32) -> Result<usize, Wi
     if !rule.long {
         return Err(other_kind(text, at, base));
     }
-    if number(text, at + 2, base)? != 4 {
+    if read_number(text, at + 2, base)? != 4 {
         return Err(other_kind(text, at, base));
     }
     skip(text, at + 4, 4, base)
@@ -123,22 +119,8 @@ fn other_kind(text: &[u8], at: usize, base: u32) -> WireFault
     requires small { base + length text.now ≤ 4294967295 }
     ensures { result ≡ fault_at (Kind (kind_at text.now at)) (base + at) }
 {
-    let number = kind_at(text, at);
+    let number = attribute_kind(text, at);
     fault(WireWhat::Kind { number }, base + at as u32)
-}
-
-fn kind_at(text: &[u8], at: usize) -> u16
-    requires { at + 2 ≤ length text.now }
-    ensures { result ≡ kind_at text.now at }
-{
-    BigEndian::read_u16(&text[at..]) % SHORT_FORM
-}
-
-fn is_short(text: &[u8], at: usize) -> bool
-    requires { at + 2 ≤ length text.now }
-    ensures { result ≡ is_short text.now at }
-{
-    BigEndian::read_u16(&text[at..]) >= SHORT_FORM
 }
 
 /// The place behind an attribute without fault.
@@ -150,19 +132,6 @@ fn behind(text: &[u8], at: usize) -> usize
     if is_short(text, at) { at + 4 } else { at + 8 }
 }
 
-/// Reads what stands behind the last attribute: nothing.
-fn read_end(text: &[u8], at: usize, base: u32) -> Result<(), WireFault>
-    requires within { at ≤ length text.now }
-    requires small { base + length text.now ≤ 4294967295 }
-    ensures { result ≡ answer (first_fault (end_tests text.now base at)) tt }
-{
-    if at == text.len() {
-        return Ok(());
-    }
-    skip(text, at, 2, base)?;
-    Err(other_kind(text, at, base))
-}
-
 /// Where the attribute of this kind stands, of so many that have no fault, and of which one has this kind.
 pub(crate) fn place_of(kind: u16, count: usize, text: &[u8], start: usize) -> usize
     requires { (base : ℕ) × (rules : List Rule) × (length rules ≡ count) × (has_rule kind rules ≡ true) × (attributes_fault text.now base count rules start ≡ None) }
@@ -171,7 +140,7 @@ pub(crate) fn place_of(kind: u16, count: usize, text: &[u8], start: usize) -> us
 {
     let mut at = start;
     for _ in 0..count {
-        if kind_at(text, at) == kind {
+        if attribute_kind(text, at) == kind {
             return at;
         }
         at = behind(text, at);

@@ -11,7 +11,6 @@ pub use policies::{KekPolicy, SaPolicy, TekPolicy, read_sa};
 pub use texts::write_sa;
 
 mod attributes;
-mod fields;
 mod laws;
 mod places;
 mod policies;

@@ -1,13 +1,14 @@
 //! Where the fields of an SA payload stand in its body.
 ghost use Rattle.std.specs.Prelude.{◌≡◌, ◌+◌, ◌≤◌, ℕ, ◌∷◌, [], length, take, None, IfOk, IfSome};
 ghost use Rattle.gd_wire.specs.Faults.{octet_at, first_fault, or_else, answer};
-ghost use Rattle.sa_wire.specs.Policies.{first_kind, head_tests, header_tests, payload_end, up_to_end, id_end, ids_end, ids_fault, id_tests, kek_head_fault, kek_fault, protocol_tests, transform_tests, tek_head_fault, tek_fault, kek_spi, tek_spi, end_fault, sat_fault, rest_fault, with_kek_fault, sa_fault, kek_places, tek_places, sat_places, rest_places, with_kek_places, sa_places, KekFits, TekFits, SaFits};
+ghost use Rattle.gd_wire.specs.Sections.{section_tests, section_end, up_to_end};
+ghost use Rattle.sa_wire.specs.Policies.{first_kind, head_tests, id_end, ids_end, ids_fault, id_tests, kek_head_fault, kek_fault, protocol_tests, transform_tests, tek_head_fault, tek_fault, kek_spi, tek_spi, end_fault, sat_fault, rest_fault, with_kek_fault, sa_fault, kek_places, tek_places, sat_places, rest_places, with_kek_places, sa_places, KekFits, TekFits, SaFits};
 
 use crate::attributes::{place_of, read_attributes};
-use crate::fields::{fault, long_number, number, octet, skip};
 use crate::laws::a_fault_is_there_from_any_base;
 use crate::policies::{ESP, ESP_AES, SAK, SAT};
 use crate::rules::{kek_rules, tek_rules};
+use gd_wire::{Section, fault, read_long_number, read_number, read_octet, read_section, skip};
 use group_terms::{WireFault, WireWhat};
 
 const GDOI: u32 = 2;
@@ -78,7 +79,7 @@ fn find_with_kek(body: &[u8], base: u32) -> Result<SaPlaces, WireFault>
     ensures answer { result ≡ answer (with_kek_fault body.now base) (with_kek_places body.now) }
     ensures within { IfOk result (SaFits (length body.now)) }
 {
-    let part = read_part(&[0, SAT], body, HEAD, base)?;
+    let part = read_section(&[0, SAT], body, HEAD, base)?;
     let kek = find_kek(&body[..part.end], HEAD + HEADER, base)?;
     let tek = read_rest(part, body, base)?;
     Ok(SaPlaces {
@@ -88,13 +89,13 @@ fn find_with_kek(body: &[u8], base: u32) -> Result<SaPlaces, WireFault>
 }
 
 /// Reads what stands behind the payload for the KEK: the payload for the TEK, where that comes next, or nothing.
-fn read_rest(part: PolicyPart, body: &[u8], base: u32) -> Result<Option<TekPlaces>, WireFault>
+fn read_rest(part: Section, body: &[u8], base: u32) -> Result<Option<TekPlaces>, WireFault>
     requires within { part.end ≤ length body.now }
     requires small { base + length body.now ≤ 4294967295 }
-    ensures answer { result ≡ answer (rest_fault body.now base part.next part.end) (rest_places body.now part.next part.end) }
+    ensures answer { result ≡ answer (rest_fault body.now base part.kind part.end) (rest_places body.now part.kind part.end) }
     ensures within { IfOk result (λ tek. IfSome tek (TekFits (length body.now))) }
 {
-    if part.next == SAT {
+    if part.kind == SAT {
         let tek = read_sat(body, part.end, base)?;
         return Ok(Some(tek));
     }
@@ -108,17 +109,17 @@ fn read_head(body: &[u8], base: u32) -> Result<u16, WireFault>
     ensures answer { result ≡ answer (first_fault (head_tests body.now base)) (first_kind body.now) }
     ensures within { IfOk result (λ kind. 12 ≤ length body.now) }
 {
-    if long_number(body, 0, base)? != GDOI {
+    if read_long_number(body, 0, base)? != GDOI {
         return Err(fault(WireWhat::Value, base));
     }
-    if long_number(body, 4, base)? != 0 {
+    if read_long_number(body, 4, base)? != 0 {
         return Err(fault(WireWhat::Value, base + 4));
     }
-    let first = number(body, 8, base)?;
+    let first = read_number(body, 8, base)?;
     if first != u16::from(SAK) && first != u16::from(SAT) {
         return Err(fault(WireWhat::Kind { number: first }, base + 8));
     }
-    if number(body, 10, base)? != 0 {
+    if read_number(body, 10, base)? != 0 {
         return Err(fault(WireWhat::Reserved, base + 10));
     }
     Ok(first)
@@ -131,42 +132,10 @@ fn read_sat(body: &[u8], at: usize, base: u32) -> Result<TekPlaces, WireFault>
     ensures answer { result ≡ answer (sat_fault body.now base at) (sat_places body.now at) }
     ensures within { IfOk result (TekFits (length body.now)) }
 {
-    let part = read_part(&[0], body, at, base)?;
+    let part = read_section(&[0], body, at, base)?;
     let places = find_tek(&body[..part.end], at + HEADER, base)?;
     read_end(body, part.end, base)?;
     Ok(places)
-}
-
-/// The payload of a policy: the kind of the next one, and the place behind this one.
-#[derive(Clone, Copy)]
-struct PolicyPart {
-    next: u8,
-    end: usize,
-}
-
-/// Reads the header of the payload at this place, which one of these kinds may follow, 0 for none.
-fn read_part(nexts: &[u8], body: &[u8], at: usize, base: u32) -> Result<PolicyPart, WireFault>
-    requires within { at ≤ length body.now }
-    requires small { base + length body.now ≤ 4294967295 }
-    ensures answer { result ≡ answer (first_fault (header_tests body.now base nexts.now at)) (record { next = octet_at body.now at; end = payload_end body.now at }) }
-    ensures within { IfOk result (λ part. (at + 4 ≤ part.end) × (part.end ≤ length body.now)) }
-{
-    let next = octet(body, at, base)?;
-    if !nexts.contains(&next) {
-        let number = u16::from(next);
-        return Err(fault(WireWhat::Kind { number }, base + at as u32));
-    }
-    if octet(body, at + 1, base)? != 0 {
-        return Err(fault(WireWhat::Reserved, base + at as u32 + 1));
-    }
-    let size = usize::from(number(body, at + 2, base)?);
-    if size < HEADER || body.len() - at < size {
-        return Err(fault(WireWhat::Length, base + at as u32 + 2));
-    }
-    Ok(PolicyPart {
-        next,
-        end: at + size,
-    })
 }
 
 /// Nothing stands behind the last payload.
@@ -209,7 +178,7 @@ fn find_kek_spi(text: &[u8], at: usize, base: u32) -> Result<usize, WireFault>
     let ids = skip(text, at, 1, base)?;
     let spi = skip_ids(text, ids, base)?;
     let reserved = skip(text, spi, 16, base)?;
-    if long_number(text, reserved, base)? != 0 {
+    if read_long_number(text, reserved, base)? != 0 {
         return Err(fault(WireWhat::Reserved, base + reserved as u32));
     }
     Ok(spi)
@@ -246,7 +215,7 @@ fn skip_protocol(text: &[u8], at: usize, base: u32) -> Result<usize, WireFault>
     ensures answer { result ≡ answer (first_fault (protocol_tests text.now base at)) (at + 2) }
     ensures within { IfOk result (λ next. next ≤ length text.now) }
 {
-    if octet(text, at, base)? != ESP {
+    if read_octet(text, at, base)? != ESP {
         return Err(fault(WireWhat::Value, base + at as u32));
     }
     skip(text, at + 1, 1, base)
@@ -259,7 +228,7 @@ fn skip_transform(text: &[u8], at: usize, base: u32) -> Result<usize, WireFault>
     ensures answer { result ≡ answer (first_fault (transform_tests text.now base at)) (at + 1) }
     ensures within { IfOk result (λ spi. spi + 4 ≤ length text.now) }
 {
-    if octet(text, at, base)? != ESP_AES {
+    if read_octet(text, at, base)? != ESP_AES {
         return Err(fault(WireWhat::Value, base + at as u32));
     }
     skip(text, at + 1, 4, base)?;
@@ -286,6 +255,6 @@ fn skip_id(text: &[u8], at: usize, base: u32) -> Result<usize, WireFault>
 {
     let port = skip(text, at, 1, base)?;
     let length = skip(text, port, 2, base)?;
-    let size = octet(text, length, base)?;
+    let size = read_octet(text, length, base)?;
     skip(text, length + 1, usize::from(size), base)
 }

@@ -2,20 +2,20 @@ use Rattle.std.proofs.Common.{◌≡◌, ◌+◌, ◌-◌, suc, sym, ◌∙◌, 
 use Rattle.sa_wire.proofs.PlaceLemmas.{type_is_there, number_is_there, rest_is_there, found_here, searches_on}
 use Rattle.sa_wire.proofs.attributes.place_of.Goals as goal
 
-pub kind_at-requires : goal.kind_at-requires
-kind_at-requires c =
+pub attribute_kind-requires : goal.attribute_kind-requires
+attribute_kind-requires c =
     let left = c.args.count - c.loop.counter in
     let next : left ≡ suc (left - 1) = omega (arith, c.loop-test.true) in
     type_is_there c.args.text.now c.args.kind c.args.count c.args.start left (left - 1) c.loop.at next c.loop.invariant
 
-pub returns-then-kind_at-kind-clause-place : goal.returns-then-kind_at-kind-clause-place
-returns-then-kind_at-kind-clause-place c =
+pub returns-then-attribute_kind-kind-clause-place : goal.returns-then-attribute_kind-kind-clause-place
+returns-then-attribute_kind-kind-clause-place c =
     let left = c.args.count - c.loop.counter in
     let next : left ≡ suc (left - 1) = omega (arith, c.loop-test.true) in
-    found_here c.args.text.now c.args.kind c.args.count c.args.start left (left - 1) c.loop.at next c.loop.invariant (sym c.kind_at.ensures ∙ c.if-kind_at-kind.true)
+    found_here c.args.text.now c.args.kind c.args.count c.args.start left (left - 1) c.loop.at next c.loop.invariant (sym c.attribute_kind.ensures ∙ c.if-attribute_kind-kind.true)
 
-pub returns-then-kind_at-kind-clause-within : goal.returns-then-kind_at-kind-clause-within
-returns-then-kind_at-kind-clause-within c =
+pub returns-then-attribute_kind-kind-clause-within : goal.returns-then-attribute_kind-kind-clause-within
+returns-then-attribute_kind-kind-clause-within c =
     let left = c.args.count - c.loop.counter in
     let next : left ≡ suc (left - 1) = omega (arith, c.loop-test.true) in
     number_is_there c.args.text.now c.args.kind c.args.count c.args.start left (left - 1) c.loop.at next c.loop.invariant
@@ -37,4 +37,4 @@ loop-preserved c =
     let left = c.args.count - c.loop.counter in
     let next : left ≡ suc (left - 1) = omega (arith, c.loop-test.true) in
     searches_on c.args.text.now c.args.kind c.args.count c.args.start left (left - 1) c.loop.at next c.loop.invariant
-    (c.args.count - (c.loop.counter + 1)) c.behind-at.result (omega arith) c.behind-at.ensures (λ same. c.if-kind_at-kind.false (c.kind_at.ensures ∙ same))
+    (c.args.count - (c.loop.counter + 1)) c.behind-at.result (omega arith) c.behind-at.ensures (λ same. c.if-attribute_kind-kind.false (c.attribute_kind.ensures ∙ same))

@@ -1,5 +1,5 @@
 use Rattle.std.proofs.Common.{◌+◌, ◌-◌, length, ◌∙◌, arith}
-use Rattle.sa_wire.proofs.AnswerLemmas.{passed, stopped, failed}
+use Rattle.gd_wire.proofs.AnswerLemmas.{passed, stopped, failed}
 use Rattle.sa_wire.proofs.AttributeLemmas.{next_attribute, faulty_attribute}
 use Rattle.sa_wire.proofs.attributes.read_attributes.Goals as goal
 

@@ -3,7 +3,7 @@ use Rattle.sa_wire.specs.Rules.{kek_rules}
 use Rattle.sa_wire.specs.declared.rules.Rule.{Rule}
 use Rattle.sa_wire.specs.Attributes.{attributes_fault}
 use Rattle.sa_wire.specs.Policies.{value_place}
-use Rattle.sa_wire.proofs.AnswerLemmas.{passed, stopped, failed, taken}
+use Rattle.gd_wire.proofs.AnswerLemmas.{passed, stopped, failed, taken}
 use Rattle.sa_wire.proofs.PolicyLemmas.{kek_rest}
 use Rattle.sa_wire.proofs.places.find_kek.Goals as goal
 

@@ -4,7 +4,7 @@ use Rattle.gd_wire.specs.Faults.{first_fault, answer}
 use Rattle.sa_wire.specs.declared.places.SaPlaces.{SaPlaces}
 use Rattle.sa_wire.specs.declared.places.TekPlaces.{TekPlaces}
 use Rattle.sa_wire.specs.Policies.{head_tests, first_kind, sat_fault, with_kek_fault, sat_places, with_kek_places, sa_fault}
-use Rattle.sa_wire.proofs.AnswerLemmas.{passed, stopped, failed, taken, before_others, chosen, not_chosen}
+use Rattle.gd_wire.proofs.AnswerLemmas.{passed, stopped, failed, taken, before_others, chosen, not_chosen}
 use Rattle.sa_wire.proofs.PolicyLemmas.{sa_rest}
 use Rattle.sa_wire.proofs.places.find_places.Goals as goal
 

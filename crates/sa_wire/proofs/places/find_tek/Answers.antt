@@ -1,5 +1,5 @@
 use Rattle.std.proofs.Common.{◌∙◌}
-use Rattle.sa_wire.proofs.AnswerLemmas.{passed, stopped, failed, taken}
+use Rattle.gd_wire.proofs.AnswerLemmas.{passed, stopped, failed, taken}
 use Rattle.sa_wire.proofs.PolicyLemmas.{tek_rest}
 use Rattle.sa_wire.proofs.places.find_tek.Goals as goal
 

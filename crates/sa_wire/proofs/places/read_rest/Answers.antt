@@ -1,6 +1,6 @@
 use Rattle.std.proofs.Common.{ℕ, Some, ap, sym, ◌∙◌}
 use Rattle.sa_wire.specs.Policies.{rest_fault, rest_places}
-use Rattle.sa_wire.proofs.AnswerLemmas.{passed, stopped, failed, taken}
+use Rattle.gd_wire.proofs.AnswerLemmas.{passed, stopped, failed, taken}
 use Rattle.sa_wire.proofs.places.read_rest.Goals as goal
 
 pub returns-in_err-tek-clause-answer : goal.returns-in_err-tek-clause-answer

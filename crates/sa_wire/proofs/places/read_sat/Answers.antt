@@ -1,7 +1,7 @@
 use Rattle.std.proofs.Common.{◌+◌, ℕ, take, ap, ◌∙◌}
-use Rattle.sa_wire.specs.declared.places.PolicyPart.{PolicyPart}
+use Rattle.gd_wire.specs.declared.sections.Section.{Section}
 use Rattle.sa_wire.specs.Policies.{tek_fault, tek_places, end_fault}
-use Rattle.sa_wire.proofs.AnswerLemmas.{passed, stopped, failed, taken, behind_none, before_others}
+use Rattle.gd_wire.proofs.AnswerLemmas.{passed, stopped, failed, taken, behind_none, before_others}
 use Rattle.sa_wire.proofs.PolicyLemmas.{sat_rest}
 use Rattle.sa_wire.proofs.places.read_sat.Goals as goal
 
@@ -10,7 +10,7 @@ returns-in_err-places-clause-answer c =
     let body = c.args.body.now in
     let end = c.in_ok-part.part.end in
     let part = passed _ _ _ c.in_ok-part.ensures.answer in
-    let rest = sat_rest body c.args.base c.args.at end part.0 (ap (λ (one : PolicyPart). one.end) part.1) in
+    let rest = sat_rest body c.args.base c.args.at end part.0 (ap (λ (one : Section). one.end) part.1) in
     failed _ _ _ _ c.from_residual-in_err-places.ensures.1
     (rest ∙ before_others (tek_fault (take end body) c.args.base (c.args.at + 4)) (end_fault body c.args.base end) _ (stopped _ _ _ c.in_err-places.ensures.answer))
 
@@ -20,7 +20,7 @@ returns-in_err-read_end-clause-answer c =
     let end = c.in_ok-part.part.end in
     let part = passed _ _ _ c.in_ok-part.ensures.answer in
     let places = passed _ _ _ c.in_ok-places.ensures.answer in
-    let rest = sat_rest body c.args.base c.args.at end part.0 (ap (λ (one : PolicyPart). one.end) part.1) in
+    let rest = sat_rest body c.args.base c.args.at end part.0 (ap (λ (one : Section). one.end) part.1) in
     failed _ _ _ _ c.from_residual-in_err-read_end.ensures.1
     (rest ∙ behind_none (tek_fault (take end body) c.args.base (c.args.at + 4)) (end_fault body c.args.base end) _ places.0 (stopped _ _ _ c.in_err-read_end.ensures))
 
@@ -31,7 +31,7 @@ returns-clause-answer c =
     let part = passed _ _ _ c.in_ok-part.ensures.answer in
     let places = passed _ _ _ c.in_ok-places.ensures.answer in
     let last = passed _ _ _ c.in_ok-read_end.ensures in
-    let here = ap (λ (one : PolicyPart). one.end) part.1 in
+    let here = ap (λ (one : Section). one.end) part.1 in
     let rest = sat_rest body c.args.base c.args.at end part.0 here in
     taken _ _ _
     (rest ∙ behind_none (tek_fault (take end body) c.args.base (c.args.at + 4)) (end_fault body c.args.base end) _ places.0 last.0)

@@ -1,5 +1,5 @@
 use Rattle.std.proofs.Common.{sym, ◌∙◌}
-use Rattle.sa_wire.proofs.AnswerLemmas.{passed}
+use Rattle.gd_wire.proofs.AnswerLemmas.{passed}
 use Rattle.sa_wire.proofs.places.sa_places.Goals as goal
 
 pub unwrap-requires : goal.unwrap-requires

@@ -1,6 +1,6 @@
 use Rattle.std.proofs.Common.{ap, ◌∙◌}
 use Rattle.sa_wire.specs.Policies.{policy_at}
-use Rattle.sa_wire.proofs.AnswerLemmas.{passed, stopped, failed, taken}
+use Rattle.gd_wire.proofs.AnswerLemmas.{passed, stopped, failed, taken}
 use Rattle.sa_wire.proofs.policies.read_sa.Goals as goal
 
 pub returns-in_err-places : goal.returns-in_err-places

@@ -1,7 +1,7 @@
 use Rattle.std.proofs.Common.{◌++◌}
 use Rattle.byteorder.specs.Endian.{big_bytes}
 use Rattle.gd_wire.specs.Attributes.{short_text, long_text}
-use Rattle.sa_wire.proofs.TextLemmas.{one_more}
+use Rattle.gd_wire.proofs.TextLemmas.{one_more}
 use Rattle.sa_wire.proofs.texts.append_tek_attributes.Goals as goal
 
 pub returns-clause-ok : goal.returns-clause-ok

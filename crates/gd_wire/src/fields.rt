@@ -2,20 +2,15 @@
 //! datagram.
 ghost use Rattle.std.specs.Prelude.{◌≡◌, ◌+◌, ◌≤◌, [], ◌∷◌, length, IfOk};
 ghost use Rattle.byteorder.specs.Endian.{big_from};
-ghost use Rattle.gd_wire.specs.Faults.{octet_at, fault_at, first_fault, answer};
-ghost use Rattle.sa_wire.specs.Fields.{there};
+ghost use Rattle.gd_wire.specs.Faults.{octet_at, first_fault, answer};
+ghost use Rattle.gd_wire.specs.Fields.{there};
 
+use crate::faults::fault;
 use byteorder::{BigEndian, ByteOrder};
 use group_terms::{WireFault, WireWhat};
 
-pub(crate) fn fault(what: WireWhat, at: u32) -> WireFault
-    ensures { result ≡ fault_at what at }
-{
-    WireFault { what, at }
-}
-
-/// The place behind a field of this size.
-pub(crate) fn skip(text: &[u8], at: usize, size: usize, base: u32) -> Result<usize, WireFault>
+/// The place behind a field of this size; else `Short`, where it begins.
+pub fn skip(text: &[u8], at: usize, size: usize, base: u32) -> Result<usize, WireFault>
     requires within { at ≤ length text.now }
     requires small { base + length text.now ≤ 4294967295 }
     ensures answer { result ≡ answer (first_fault (there text.now base at size ∷ [])) (at + size) }
@@ -27,7 +22,8 @@ pub(crate) fn skip(text: &[u8], at: usize, size: usize, base: u32) -> Result<usi
     Ok(at + size)
 }
 
-pub(crate) fn octet(text: &[u8], at: usize, base: u32) -> Result<u8, WireFault>
+/// The octet at this place; else `Short`, there.
+pub fn read_octet(text: &[u8], at: usize, base: u32) -> Result<u8, WireFault>
     requires within { at ≤ length text.now }
     requires small { base + length text.now ≤ 4294967295 }
     ensures answer { result ≡ answer (first_fault (there text.now base at 1 ∷ [])) (octet_at text.now at) }
@@ -37,8 +33,8 @@ pub(crate) fn octet(text: &[u8], at: usize, base: u32) -> Result<u8, WireFault>
     Ok(text[at])
 }
 
-/// A number of 2 octets.
-pub(crate) fn number(text: &[u8], at: usize, base: u32) -> Result<u16, WireFault>
+/// The number in 2 octets at this place; else `Short`, there.
+pub fn read_number(text: &[u8], at: usize, base: u32) -> Result<u16, WireFault>
     requires within { at ≤ length text.now }
     requires small { base + length text.now ≤ 4294967295 }
     ensures answer { result ≡ answer (first_fault (there text.now base at 2 ∷ [])) (big_from at 2 text.now) }
@@ -48,8 +44,8 @@ pub(crate) fn number(text: &[u8], at: usize, base: u32) -> Result<u16, WireFault
     Ok(BigEndian::read_u16(&text[at..]))
 }
 
-/// A number of 4 octets.
-pub(crate) fn long_number(text: &[u8], at: usize, base: u32) -> Result<u32, WireFault>
+/// The number in 4 octets at this place; else `Short`, there.
+pub fn read_long_number(text: &[u8], at: usize, base: u32) -> Result<u32, WireFault>
     requires within { at ≤ length text.now }
     requires small { base + length text.now ≤ 4294967295 }
     ensures answer { result ≡ answer (first_fault (there text.now base at 4 ∷ [])) (big_from at 4 text.now) }
