@@ -4,7 +4,8 @@
 
 It builds `cipher_bench`, and prints for each row what that does in a second, what openssl does, and openssl's figure divided by ours.
 Rows: CBC sealing of 4,096 octets under a key of 128 bits, in MiB/s; a key of 128 bits expanded and two blocks encrypted, the work of one
-wrap, in thousands a second; and HMAC with SHA-256 over pieces of 4,096 octets, in MiB/s.
+wrap, in thousands a second; HMAC with SHA-256 over pieces of 4,096 octets, in MiB/s; and the 286 update arrays that a batch may send in a
+tree of 512 leaves, in batches a second.
 """
 
 import os
@@ -46,12 +47,12 @@ def openssl_speed(*words):
     return float(rows[-1].rsplit(":", 1)[1])
 
 
-def built_wrap(folder):
-    """The same work as that of `cipher_bench wrap`, by openssl's functions in C."""
-    program = pathlib.Path(folder) / "wrap"
-    subprocess.run(["cc", "-O2", "-o", program, TOP / "bench" / "wrap.c", "-lcrypto"], check=True)
-    ours = subprocess.run([PROGRAM, "wrap", "1000"], check=True, capture_output=True).stdout
-    theirs = subprocess.run([program, "1000"], check=True, capture_output=True).stdout
+def built(folder, name, source, count):
+    """The same work as that of `cipher_bench NAME`, by openssl's functions in C."""
+    program = pathlib.Path(folder) / name
+    subprocess.run(["cc", "-O2", "-o", program, TOP / "bench" / source, "-lcrypto"], check=True)
+    ours = subprocess.run([PROGRAM, name, count], check=True, capture_output=True).stdout
+    theirs = subprocess.run([program, count], check=True, capture_output=True).stdout
     assert ours == theirs, "the two programs differ"
     return program
 
@@ -66,7 +67,8 @@ def main():
     assert platform.machine() == "x86_64", "the switches for openssl are those of x86-64"
     subprocess.run(["rt", "run", "--", "seal", "1"], cwd=CRATE, check=True, stdout=subprocess.DEVNULL)
     with tempfile.TemporaryDirectory() as folder:
-        wrap = built_wrap(folder)
+        wrap = built(folder, "wrap", "wrap.c", "1000")
+        updates = built(folder, "updates", "updates.c", "3")
         rows = [
             ("CBC sealing, MiB/s", a_second([PROGRAM, "seal"], 50_000) * 4096 / MIB,
              openssl_speed("-evp", "aes-128-cbc") / MIB),
@@ -74,12 +76,14 @@ def main():
              a_second([wrap], 1_000_000) / 1000),
             ("HMAC, MiB/s", a_second([PROGRAM, "mac"], 50_000) * 4096 / MIB,
              openssl_speed("-hmac", "sha256") / MIB),
+            ("286 arrays, batches/s", a_second([PROGRAM, "updates"], 5_000),
+             a_second([updates], 5_000)),
         ]
     version = subprocess.run(["openssl", "version"], check=True, capture_output=True, text=True).stdout.split()[1]
     print(f"{processor()}, openssl {version}")
-    print(f"{'':20}{'ours':>10}{'openssl':>10}{'ratio':>8}")
+    print(f"{'':22}{'ours':>10}{'openssl':>10}{'ratio':>8}")
     for name, ours, theirs in rows:
-        print(f"{name:20}{ours:10.0f}{theirs:10.0f}{theirs / ours:8.2f}")
+        print(f"{name:22}{ours:10.0f}{theirs:10.0f}{theirs / ours:8.2f}")
 
 
 main()

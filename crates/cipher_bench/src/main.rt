@@ -1,13 +1,20 @@
 //! Works a cipher call many times over, so that the time of it can be taken from outside: `seal N` seals 4,096 octets N times in place,
-//! `wrap N` expands a key and encrypts two blocks N times, and `mac N` hashes N pieces of 4,096 octets.
+//! `wrap N` expands a key and encrypts two blocks N times, `mac N` hashes N pieces of 4,096 octets, and `updates N` writes 286 update arrays N
+//! times.
 #![tactic(auto)]
 
 ghost use Rattle.std.specs.Prelude.{◌≤◌, length};
 
 use gd_cipher::{Hmac, Key128, cbc_seal};
+use group_terms::{LkhId, NoMemory, NodeValue, Octets, PathKey};
+use kd_wire::{WrapJob, write_update};
+use std::alloc::Global;
 use std::io::ErrorKind;
 use std::process::ExitCode;
 use std::{env, io};
+
+/// As many arrays as a batch of 32 changes may send in a tree of 512 leaves.
+const ARRAYS: usize = 286;
 
 fn main(rt: HostRuntime) -> ExitCode {
     match run(&rt) {
@@ -25,6 +32,7 @@ fn run(rt: &HostRuntime) -> io::Result<()> {
         "seal" => seal(count),
         "wrap" => wrap(count),
         "mac" => mac(count),
+        "updates" => updates(rt.alloc(), count).map_err(|_| ErrorKind::OutOfMemory)?,
         _ => return Err(ErrorKind::InvalidInput.into()),
     };
     for octet in octets {
@@ -62,6 +70,53 @@ fn mac(count: u32) -> [u8; 16] {
         hash.add(&piece);
     }
     last_of(&hash.finish())
+}
+
+/// The last octets of the update arrays of a batch that are written so many times, each under the last octets of the one before.
+fn updates(alloc: Global, count: u32) -> Result<[u8; 16], NoMemory> {
+    let mut out = Octets::with_room(alloc, 64 * ARRAYS)?;
+    for _ in 0..count {
+        write_updates(&mut out)?;
+    }
+    Ok(last_or_first(out.as_slice()))
+}
+
+/// Writes the arrays of a batch over those of the one before.
+fn write_updates(out: &mut Octets) -> Result<(), NoMemory> {
+    let first = last_or_first(out.as_slice());
+    out.clear();
+    write_update(&job_under(first), out)?;
+    for _ in 1..ARRAYS {
+        let key = last_or_first(out.as_slice());
+        write_update(&job_under(key), out)?;
+    }
+    Ok(())
+}
+
+/// The last octets, or those of the first key where there are none.
+fn last_or_first(octets: &[u8]) -> [u8; 16] {
+    match octets.last_chunk() {
+        Some(last) => *last,
+        None => [5; 16],
+    }
+}
+
+/// A key sealed under this one.
+fn job_under(key: [u8; 16]) -> WrapJob {
+    let iv = [2; 16];
+    let by = PathKey {
+        id: LkhId::default(),
+        made: 1,
+        value: NodeValue { iv, key },
+    };
+    let value = NodeValue {
+        iv: [3; 16],
+        key: [4; 16],
+    };
+    WrapJob {
+        by,
+        gives: PathKey { value, ..by },
+    }
 }
 
 fn last_of(octets: &[u8]) -> [u8; 16]

@@ -6,6 +6,7 @@
 //! attribute PLACE BASE OCTETS
 //! chain FIRST-KIND DUE-KIND,DUE-KIND.. BASE OCTETS
 //! sa BASE OCTETS
+//! kd BASE OCTETS
 //! ```
 #![tactic(auto)]
 
@@ -13,6 +14,7 @@ ghost use Rattle.std.specs.Prelude.{◌+◌, ◌≤◌, ◌↔◌, length, IsTru
 
 use answers::Answer;
 use gd_wire::{MOST_PAYLOADS, WireFault, read_attribute, read_chain, read_header};
+use kd_wire::read_kd;
 use sa_wire::read_sa;
 use std::alloc::Global;
 use std::io;
@@ -38,6 +40,7 @@ fn answer(alloc: Global, line: &str) -> io::Result<Answer> {
         ["attribute", at, base, octets] => attribute(alloc, at, base, octets)?,
         ["chain", first, due, base, octets] => chain(alloc, first, due, base, octets)?,
         ["sa", base, octets] => sa(alloc, base, octets)?,
+        ["kd", base, octets] => kd(alloc, base, octets)?,
         _ => return Err(ErrorKind::InvalidInput.into()),
     };
     Ok(Answer { fault })
@@ -86,6 +89,15 @@ fn sa(alloc: Global, base: &str, octets: &str) -> io::Result<Option<WireFault>> 
         return Err(ErrorKind::InvalidInput.into());
     }
     Ok(read_sa(octets.as_slice(), base).err())
+}
+
+fn kd(alloc: Global, base: &str, octets: &str) -> io::Result<Option<WireFault>> {
+    let base = base.parse::<u32>().map_err(|_| ErrorKind::InvalidInput)?;
+    let octets = decode(alloc, octets)?;
+    if !has_room(base, octets.as_slice()) {
+        return Err(ErrorKind::InvalidInput.into());
+    }
+    Ok(read_kd(octets.as_slice(), base).err())
 }
 
 /// The kinds of payloads in a text, with commas between them.

@@ -1,0 +1,130 @@
+-- The text of a key download payload's body (RFC 6407 section 5.6). Both dates of a key are left open, which is 0.
+use Rattle.std.specs.Prelude.{◌≡◌, ℕ, ◌+◌, ◌*◌, ◌/◌, ◌<◌, ◌≤◌, ◌==◌, true, List, [], ◌∷◌, ◌++◌, length, All}
+use Rattle.std.specs.List.{flat_map, list_any}
+use Rattle.byteorder.specs.Endian.{big_bytes}
+use Rattle.gd_cipher.specs.Chains.{IsSealed}
+use Rattle.gd_wire.specs.Attributes.{long_text}
+use Rattle.group_terms.specs.declared.paths.Keyed.{Keyed}
+use Rattle.group_terms.specs.declared.values.NodeValue.{NodeValue}
+use Rattle.group_terms.specs.declared.paths.PathKey.{PathKey}
+use Rattle.group_terms.specs.declared.values.TrafficValue.{TrafficValue}
+use Rattle.kd_wire.specs.declared.sealing.WrapJob.{WrapJob}
+use Rattle.kd_wire.specs.declared.updates.UpdateArray.{UpdateArray}
+use Rattle.kd_wire.specs.declared.updates.UpdateKey.{UpdateKey}
+
+-- what stands before the attributes of a packet, of which there are so many octets: its header, and its SPI behind the size of that
+abbrev pub packet_head : ℕ → List ℕ → ℕ → List ℕ
+packet_head kind spi size = kind ∷ 0 ∷ big_bytes 2 (5 + length spi + size) ++ length spi ∷ spi
+
+abbrev pub packet_text : ℕ → List ℕ → List ℕ → List ℕ
+packet_text kind spi attributes = packet_head kind spi (length attributes) ++ attributes
+
+-- so many packets
+abbrev pub body_text : ℕ → List ℕ → List ℕ
+body_text count packets = big_bytes 2 count ++ big_bytes 2 0 ++ packets
+
+-- a key of LKH (section 5.6.3.1), and what stands before its data
+abbrev pub key_head : ℕ → ℕ → List ℕ
+key_head id made = big_bytes 2 id ++ 3 ∷ 0 ∷ big_bytes 4 0 ++ big_bytes 4 0 ++ big_bytes 4 made
+
+abbrev pub key_text : ℕ → ℕ → List ℕ → List ℕ
+key_text id made octets = key_head id made ++ octets
+
+-- the data of a key: its IV and the key itself
+abbrev pub data_of : NodeValue → List ℕ
+data_of value = value.iv ++ value.key
+
+-- the packet of a traffic key (section 5.6.1)
+abbrev pub traffic_text : TrafficValue → List ℕ
+traffic_text traffic = packet_text 1 traffic.spi (long_text 1 traffic.cipher_key ++ long_text 2 traffic.integrity_key)
+
+-- the download array of a path (section 5.6.3.1)
+abbrev pub path_text : List PathKey → List ℕ
+path_text path = flat_map (λ (key : PathKey). key_text key.id key.made (data_of key.value)) path
+
+abbrev pub download_text : List PathKey → List ℕ
+download_text path = long_text 1 (1 ∷ big_bytes 2 (length path) ++ 0 ∷ path_text path)
+
+-- An update array that gives one key (section 5.6.3.2): the key's data, sealed by cipher block chaining under the key that the array names, which has
+-- the IV too.
+abbrev pub update_text : WrapJob → List ℕ → List ℕ
+update_text job sealed =
+    long_text 2 (1 ∷ big_bytes 2 1 ++ 0 ∷ big_bytes 2 job.by.id ++ big_bytes 2 0 ++ big_bytes 4 job.by.made ++ key_text job.gives.id job.gives.made sealed)
+
+pub record IsUpdate (job : WrapJob) (text : List ℕ) : Type 0 where
+  pub sealed : List ℕ
+  pub is_sealed : IsSealed job.by.value.key job.by.value.iv (data_of job.gives.value) sealed
+  pub is_text : text ≡ update_text job sealed
+
+-- the body with a traffic key alone, that with update arrays alone, and that for a member that registers
+abbrev pub traffic_kd : TrafficValue → List ℕ
+traffic_kd traffic = body_text 1 (traffic_text traffic)
+
+abbrev pub update_kd : List ℕ → List ℕ → List ℕ
+update_kd spi arrays = body_text 1 (packet_text 3 spi arrays)
+
+abbrev pub reply_kd : Keyed → List ℕ
+reply_kd keyed = body_text 2 (traffic_text keyed.traffic ++ packet_text 3 keyed.spi (download_text keyed.path))
+
+-- values that can be told: a key with a position that has a number of 2 octets, an epoch of 4, and 16 octets each for its IV and itself
+pub record PathKeyFits (key : PathKey) : Type 0 where
+  pub some : 0 < key.id
+  pub id : key.id < 65536
+  pub made : key.made < 4294967296
+  pub iv : length key.value.iv ≡ 16
+  pub octets : length key.value.key ≡ 16
+
+pub record TrafficFits (traffic : TrafficValue) : Type 0 where
+  pub cipher_key : length traffic.cipher_key ≡ 16
+  pub integrity_key : length traffic.integrity_key ≡ 32
+  pub spi : length traffic.spi ≡ 4
+
+-- keys from any position up to the root
+abbrev pub LeadsUp : List PathKey → Type 0
+LeadsUp [] = ⊥
+LeadsUp (key ∷ []) = key.id ≡ 1
+LeadsUp (key ∷ above ∷ keys) = (above.id ≡ key.id / 2) × LeadsUp (above ∷ keys)
+
+-- a path that a download array can have, of a leaf below the root and the positions above it (RFC 2627 section 5.4)
+pub record IsPath (path : List PathKey) : Type 0 where
+  pub up : LeadsUp path
+  pub least : 2 ≤ length path
+  pub most : length path ≤ 16
+
+pub record KeyedFits (keyed : Keyed) : Type 0 where
+  pub path : IsPath keyed.path
+  pub keys : All PathKeyFits keyed.path
+  pub spi : length keyed.spi ≡ 16
+  pub traffic : TrafficFits keyed.traffic
+
+-- a job with the sealed data of its key
+pub record Sealed : Type 0 where
+  pub job : WrapJob
+  pub octets : List ℕ
+
+pub record SealedFits (sealed : Sealed) : Type 0 where
+  pub by : PathKeyFits sealed.job.by
+  pub gives : PathKeyFits sealed.job.gives
+  pub octets : length sealed.octets ≡ 32
+
+abbrev pub updates_text : List Sealed → List ℕ
+updates_text updates = flat_map (λ (update : Sealed). update_text update.job update.octets) updates
+
+-- Jobs of one push: the keys that they give are of one epoch, and one of them is the root's.
+pub record AreOfOnePush (updates : List Sealed) : Type 0 where
+  pub fit : All SealedFits updates
+  pub few : 64 * length updates ≤ 65000
+  pub epoch : ℕ
+  pub made : All (λ (update : Sealed). update.job.gives.made ≡ epoch) updates
+  pub root : list_any (λ (update : Sealed). update.job.gives.id == 1) updates ≡ true
+
+-- what is read of such a job's array that begins at a place, and of its key
+abbrev pub array_of : ℕ → Sealed → UpdateArray
+array_of at update = record { by = update.job.by.id; by_made = update.job.by.made; keys = 1; first = at + 16; next = at + 64 }
+
+abbrev pub arrays_of : ℕ → List Sealed → List UpdateArray
+arrays_of at [] = []
+arrays_of at (update ∷ updates) = array_of at update ∷ arrays_of (at + 64) updates
+
+abbrev pub key_of : Sealed → UpdateKey
+key_of update = record { id = update.job.gives.id; made = update.job.gives.made; sealed = update.octets }
