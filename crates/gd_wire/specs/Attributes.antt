@@ -1,5 +1,5 @@
--- Data attributes (RFC 2408 section 3.3): a kind of 15 bits behind a bit that tells the form. In the short form a number of 2 octets follows, in
--- the long form a length of 2 octets and so many octets.
+-- Data attributes (RFC 2408 section 3.3): a kind of 15 bits behind a bit that tells the form. The short form goes on with a number of 2 octets, the
+-- long form with a value of any size, behind the size of that in 2 octets.
 use Rattle.std.specs.Prelude.{ℕ, ◌+◌, ◌%◌, ◌==◌, ◌||◌, nat_le, Bool, List, [], ◌∷◌, ◌++◌, length, take, drop, Option, if◌then◌else◌}
 use Rattle.byteorder.specs.Endian.{big_from, big_bytes}
 use Rattle.group_terms.specs.declared.wires.WireFault.{WireFault}

@@ -1,4 +1,4 @@
--- A field of a text; where it is not whole it is missing, and that is told where it would begin. Places of faults count from a base on.
+-- A field of a text is there where all its octets are; else it is missing, at its first place. Places of faults count from a base on.
 use Rattle.std.specs.Prelude.{ℕ, ◌+◌, nat_le, List, length}
 use Rattle.group_terms.specs.declared.wires.WireWhat.TheVariants.{Short}
 use Rattle.gd_wire.specs.Faults.{Test, test}

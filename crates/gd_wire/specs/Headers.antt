@@ -1,7 +1,7 @@
 -- The ISAKMP header (RFC 2408 section 3.1): two cookies of 8 octets, the kind of the first payload, the version 1.0, the exchange, the flags, a
 -- message id of 4 octets, and the length of the datagram in 4. The exchange is 32 for GROUPKEY-PULL (RFC 6407 section 3) and 33 for
--- GROUPKEY-PUSH (section 4); of the flags that of encryption is set, and no other (RFC 6407 section 4.2; for a pull this is our choice). UDP over
--- IPv4 holds 65,507 octets.
+-- GROUPKEY-PUSH (section 4); of the flags that of encryption is set (sections 3.2 and 4.2), and by our choice no other. UDP over IPv4 holds 65,507
+-- octets.
 use Rattle.std.specs.Prelude.{◌≡◌, ℕ, ◌+◌, ◌-◌, ◌%◌, ◌<◌, ◌≤◌, ◌==◌, ◌&&◌, nat_le, nat_lt, not, Bool, true, List, [], ◌∷◌, ◌++◌, length, take, drop, Option, if◌then◌else◌, All}
 use Rattle.byteorder.specs.Endian.{big_from, big_bytes}
 use Rattle.group_terms.specs.declared.wires.WireFault.{WireFault}

@@ -1,6 +1,6 @@
--- A section of a payload's body is itself like a payload: it begins with an octet that names a kind, a reserved one, and its length in 2 octets,
--- which counts these four. So do the payloads of the policies of an SA (RFC 6407 section 5.2) and, by our reading, the key packets of a key
--- download (section 5.6).
+-- A section of a payload's body is itself like a payload (RFC 2408 section 3.2): it has a header of four octets, with a kind, a reserved octet, and the
+-- length of the whole in 2. So do the payloads of the policies of an SA (RFC 6407 section 5.2), whose header names the kind of the next one, and by
+-- our reading the key packets of a key download (section 5.6), whose header names their own.
 use Rattle.std.specs.Prelude.{ℕ, ◌+◌, ◌==◌, ◌&&◌, nat_le, List, [], ◌∷◌, length, take}
 use Rattle.std.specs.List.{list_any}
 use Rattle.group_terms.specs.declared.wires.WireWhat.TheVariants.{Length, Reserved, Kind}

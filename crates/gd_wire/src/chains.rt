@@ -65,14 +65,14 @@ impl Chain {
     }
 }
 
-/// The first fault of a chain, and the payloads that stand before it.
+/// What is wrong with a chain first, and the payloads up to there.
 #[derive(Debug, Drop)]
 pub struct ChainFault {
     pub fault: WireFault,
     pub before: Chain,
 }
 
-/// Reads a chain of just these kinds of payloads, and the zeros behind it (RFC 2408 section 3.2). It does not look into the bodies.
+/// Reads a chain of just these kinds of payloads, and the zeros behind it (RFC 2408 section 3.2). Their bodies are not read.
 ///
 /// `first` is the kind that the header of the datagram names, in the octet at 16; the text's first octet has the place `base` in the
 /// datagram.

@@ -1,30 +1,27 @@
 -- The keys that a body without fault gives: those of its update arrays, and those of its download array.
-use Rattle.std.proofs.Common.{◌≡◌, ℕ, zero, suc, ◌+◌, ◌-◌, ◌*◌, ◌/◌, ◌<◌, ◌≤◌, ◌⊎◌, List, [], ◌∷◌, length, map, Option, None, Some, if◌then◌else◌, get_or, refl, sym, ap, ◌∙◌, subst, inl, inr, arith}
-use Rattle.std.specs.Prelude.{◌==◌}
+use Rattle.std.proofs.Common.{◌≡◌, ℕ, zero, suc, ◌+◌, ◌-◌, ◌*◌, ◌/◌, ◌<◌, ◌≤◌, List, [], ◌∷◌, length, map, Option, None, Some, get_or, refl, sym, ap, ◌∙◌, subst, arith}
 use Rattle.std.specs.List.{All, range_with_len, flat_map}
-use Rattle.std.proofs.lemmas.Bool.{cases_Bool}
 use Rattle.std.proofs.lemmas.List.{take_all}
 use Rattle.std.proofs.lemmas.List.Elements.{All-nil, All-cons, All-append, All-map, All-from_get_or}
 use Rattle.std.proofs.lemmas.List.FromFn.{length-range_with_len, get_or-range_with_len, length-map-range_with_len}
 use Rattle.group_terms.specs.declared.wires.WireFault.{WireFault}
-use Rattle.gd_wire.specs.Faults.{octet_at, first_fault, or_else}
+use Rattle.gd_wire.specs.Faults.{first_fault, or_else}
 use Rattle.gd_wire.specs.Sections.{section_tests, section_end, up_to_end}
 use Rattle.gd_wire.proofs.ChainLemmas.{or_else-None}
 use Rattle.gd_wire.proofs.FaultLemmas.{first_fault-append}
 use Rattle.kd_wire.specs.declared.arrays.ArrayKind.TheVariants.{Download, Update}
-use Rattle.kd_wire.specs.declared.bodies.KdView.{KdView}
 use Rattle.kd_wire.specs.declared.updates.UpdateArray.{UpdateArray}
 use Rattle.kd_wire.specs.declared.updates.UpdateKey.{UpdateKey}
 use Rattle.kd_wire.specs.declared.updates.UpdateSpan.{UpdateSpan}
 use Rattle.kd_wire.specs.Keys.{place_of_key, key_id, key_made, path_key, path_tests, given_tests}
-use Rattle.kd_wire.specs.Arrays.{first_key, first_or, key_count, behind, sealer_tests, update_array, arrays_at, first_place}
-use Rattle.kd_wire.specs.Bodies.{head_tests, packet_count, second, lkh_fault, lkh_places, surplus_fault, one_fault, two_fault, kd_fault, traffic_alone, updates_alone, both, one_fields, kd_fields, update_arrays, update_key, array_keys, given_keys, keys_at}
+use Rattle.kd_wire.specs.Arrays.{first_key, first_or, key_count, behind, sealer_tests, update_array, arrays_at}
+use Rattle.kd_wire.specs.Bodies.{second, lkh_fault, lkh_places, surplus_fault, two_fault, update_arrays, update_key, array_keys, given_keys}
 use Rattle.kd_wire.specs.Traffic.{traffic_fault}
 use Rattle.kd_wire.specs.Texts.{LeadsUp, IsPath}
 use Rattle.kd_wire.proofs.KeyLemmas.{given_key, path_parent, path_root}
 use Rattle.kd_wire.proofs.WalkLemmas.{IsArray}
 use Rattle.kd_wire.proofs.StandLemmas.{AllStand}
-use Rattle.kd_wire.proofs.PacketLemmas.{DownloadStands, download_stands}
+use Rattle.kd_wire.proofs.PacketLemmas.{DownloadStands}
 use Rattle.kd_wire.proofs.SpanLemmas.{UpdatesStand, body_stands}
 
 -- ---- update arrays
@@ -121,7 +118,7 @@ module _ (text : List ℕ) (base first count : ℕ) (none : first_fault (path_te
   leads_up zero counted some = absurd (omega arith)
   leads_up (suc n) counted some = leads_from 0 n (omega arith)
 
-path_of_array : (body : List ℕ) (base at : ℕ) → DownloadStands body base at
+pub path_of_array : (body : List ℕ) (base at : ℕ) → DownloadStands body base at
     → IsPath (map (λ k. path_key body (place_of_key (first_key Download at) k)) (range_with_len 0 (key_count body at)))
 path_of_array body base at stands =
     let least = stands.least in
@@ -133,35 +130,11 @@ path_of_array body base at stands =
       most = omega arith;
     }
 
-path_of_packet : (body : List ℕ) (base at : ℕ) → lkh_fault body base Download at ≡ None → (places : List ℕ) → lkh_places body at ≡ places
-    → (keys_at body places ≡ []) ⊎ IsPath (keys_at body places)
-path_of_packet body base at none [] same = inl refl
-path_of_packet body base at none (start ∷ later) same = inr (path_of_array body base start (download_stands body base at start none (ap first_place same)))
-
 fourth : (one two three four five : Option WireFault) → or_else one (or_else two (or_else three (or_else four five))) ≡ None → four ≡ None
 fourth one two three four five none =
     (or_else-None four five (or_else-None three (or_else four five) (or_else-None two (or_else three (or_else four five)) (or_else-None one (or_else two (or_else three (or_else four five))) none).1).1).1).0
 
-download_packet : (body : List ℕ) (base : ℕ) → two_fault body base ≡ None → lkh_fault body base Download (second body) ≡ None
+pub download_packet : (body : List ℕ) (base : ℕ) → two_fault body base ≡ None → lkh_fault body base Download (second body) ≡ None
 download_packet body base none =
     fourth (first_fault (section_tests body base (1 ∷ []) 4)) (traffic_fault (up_to_end body 4) base 4) (first_fault (section_tests body base (3 ∷ []) (second body)))
     (lkh_fault body base Download (second body)) (surplus_fault body base (section_end body (second body))) none
-
--- what a body without fault gives to download is a path, or nothing
-abbrev pub GivesPath : KdView → Type 0
-GivesPath view = (view.download ≡ []) ⊎ IsPath view.download
-
-pub body_path : (body : List ℕ) (base : ℕ) → kd_fault body base ≡ None → GivesPath (kd_fields body)
-body_path body base none =
-    let head = or_else-None (first_fault (head_tests body base)) (if packet_count body == 2 then two_fault body base else one_fault body base) none in
-    elim (cases_Bool (packet_count body == 2)) [
-      | inl two ↦ (
-          let packets : two_fault body base ≡ None = subst (λ b. (if b then two_fault body base else one_fault body base) ≡ None) two head.1 in
-          subst (λ b. GivesPath (if b then both body else one_fields body)) (sym two)
-          (path_of_packet body base (second body) (download_packet body base packets) (lkh_places body (second body)) refl)
-          )
-      | inr one ↦ subst (λ b. GivesPath (if b then both body else one_fields body)) (sym one) (elim (cases_Bool (octet_at body 4 == 1)) [
-        | inl traffic ↦ subst (λ b. GivesPath (if b then traffic_alone body else updates_alone body)) (sym traffic) (inl refl)
-        | inr tree ↦ subst (λ b. GivesPath (if b then traffic_alone body else updates_alone body)) (sym tree) (inl refl)
-      ])
-    ]

@@ -2,12 +2,14 @@ pub mod ArrayLemmas
 pub mod BaseLemmas
 pub mod BodyLemmas
 pub mod DownloadLemmas
+pub mod FormLemmas
 pub mod GivenLemmas
 pub mod HeadLemmas
 pub mod KeyLemmas
 pub mod PacketLemmas
 pub mod RangeLemmas
 pub mod SizeLemmas
+pub mod SpiLemmas
 pub mod SpanLemmas
 pub mod StandLemmas
 pub mod UpdateBodies

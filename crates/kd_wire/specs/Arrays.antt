@@ -14,8 +14,8 @@ use Rattle.kd_wire.specs.declared.updates.UpdateArray.{UpdateArray}
 use Rattle.kd_wire.specs.declared.updates.UpdateSpan.{UpdateSpan}
 use Rattle.kd_wire.specs.Keys.{key_made, path_tests, given_tests}
 
--- Of each kind of array: how many octets stand before its keys, where the first of these stands in the array that begins here, and the
--- least and the most of them. A download array has a path, and an update array gives one key or more.
+-- Of each kind of array: how many octets stand before its keys, behind the header of its attribute; where the first key stands when that attribute begins
+-- here; and the least and the most of them, which are our choice. A download array has the keys of a path, and an update array one at least.
 abbrev pub head_size : ArrayKind → ℕ
 head_size Download = 4
 head_size Update = 12
@@ -66,7 +66,7 @@ module _ (text : List ℕ) where
         ∷ test (kind_at text at == 3 || (list_any (λ kind. kind == kind_at text at) kinds && not (is_short text at))) (Kind (kind_at text at)) (base + at)
         ∷ []
 
-    -- An array begins with its version, which is 1, the number of its keys, for which its length is right, and a reserved octet.
+    -- An array begins with its version, which is 1, the number of its keys, to which the attribute's length has to be due, and a reserved octet.
     abbrev pub version_tests : ℕ → List Test
     version_tests at = there (up_to_behind at) base (at + 4) 1 ∷ test (octet_at text (at + 4) == 1) Version (base + at + 4) ∷ []
 

@@ -1,6 +1,6 @@
--- The body of a key download payload (RFC 6407 section 5.6): the number of key packets in 2 octets, a reserved field of 2, and the packets. It has one
--- of three forms: the packet of a traffic key (1) alone; an LKH packet (3) with update arrays alone; or a traffic key's packet, and then an LKH
--- packet with a download array.
+-- The body of a key download payload (RFC 6407 section 5.6): the number of key packets in 2 octets, a reserved field of 2, and the packets. By our choice
+-- it has one of three forms: a packet for a traffic key (1) alone; a packet for keys of the tree (LKH, 3) alone, which has update arrays; or one of
+-- each, in this order, the second with the download array of a path.
 use Rattle.std.specs.Prelude.{ℕ, ◌+◌, ◌-◌, ◌==◌, ◌||◌, Bool, List, [], ◌∷◌, length, map, take, drop, Option, None, Some, if◌then◌else◌}
 use Rattle.std.specs.List.{list_any, flat_map, range_with_len}
 use Rattle.byteorder.specs.Endian.{big_from}

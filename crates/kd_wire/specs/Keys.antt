@@ -31,8 +31,8 @@ module _ (text : List ℕ) where
     value = record { iv = take 16 (drop (at + 16) text); key = take 16 (drop (at + 32) text) };
   }
 
-  -- Behind each key of a path stands that of its parent, up to the root's (RFC 2627 section 5.4); in our numbering the parent of p is p / 2, and the
-  -- root is 1. Whether the ID of key k of so many is due:
+  -- Behind each key of a path stands that of its parent, up to the root's (RFC 6407 section 5.6.3.1, RFC 2627 section 5.4); in our numbering the parent
+  -- of p is p / 2, and the root is 1. Whether the ID of key k of so many is due:
   abbrev pub is_on_path : ℕ → ℕ → ℕ → Bool
   is_on_path first count k =
       not (key_id (place_of_key first k) == 0)

@@ -4,3 +4,4 @@ pub mod Keys
 pub mod Spis
 pub mod Texts
 pub mod Traffic
+pub mod Views

@@ -85,7 +85,7 @@ LeadsUp [] = ⊥
 LeadsUp (key ∷ []) = key.id ≡ 1
 LeadsUp (key ∷ above ∷ keys) = (above.id ≡ key.id / 2) × LeadsUp (above ∷ keys)
 
--- a path that a download array can have, of a leaf below the root and the positions above it (RFC 2627 section 5.4)
+-- a path that a download array can have, of a leaf below the root and the positions above it (RFC 6407 section 5.6.3.1)
 pub record IsPath (path : List PathKey) : Type 0 where
   pub up : LeadsUp path
   pub least : 2 ≤ length path

@@ -10,7 +10,7 @@ use Rattle.gd_wire.specs.Fields.{there}
 use Rattle.gd_wire.specs.Attributes.{kind_at, is_short, attribute_number, no_more_tests}
 use Rattle.kd_wire.specs.Spis.{spi_tests}
 
--- the size of the key of a kind: 16 octets for AES (1), and 32 for HMAC with SHA-256 (2)
+-- the size of the key of a kind, as the TEK's policy has it: 16 octets for AES (1), and 32 for HMAC with SHA-256 (2)
 abbrev pub key_size : ℕ → ℕ
 key_size kind = if kind == 1 then 16 else 32
 

@@ -39,9 +39,8 @@ pub struct KdView {
 
 /// Reads the body of a key download payload, whose first octet has the place `base` in its datagram; else its first fault: Short where a
 /// field is not whole, or an attribute, an array or the root's key is missing; Value where a number, a size, an LKH ID, a key's type or its
-/// handle is not taken; Kind where a packet or an
-/// attribute is not awaited, or has a form or a length that is not taken; Reserved where a reserved field is not zero; Version at an array of
-/// another version; Length where a packet's is less than its header or leads out of the body, an array's does not fit its keys, or octets are
+/// handle is not taken; Kind where a packet or an attribute is not awaited, or has a form or a length that is not taken; Reserved where a
+/// reserved field is not zero; Version at an array of another version; Length where a packet's is less than its header or leads out of the body, an array's does not fit its keys, or octets are
 /// left behind the last packet.
 pub fn read_kd(body: &[u8], base: u32) -> Result<KdView, WireFault>
     requires small { base + length body.now ≤ 4294967295 }

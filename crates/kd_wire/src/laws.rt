@@ -1,5 +1,5 @@
 //! What is written is read again, and what a body without fault gives.
-ghost use Rattle.std.specs.Prelude.{◌≡◌, ◌+◌, ◌*◌, ◌<◌, ◌≤◌, ◌++◌, ◌⊎◌, ℕ, List, [], ◌∷◌, length, map, true, All, None, Some};
+ghost use Rattle.std.specs.Prelude.{◌≡◌, ◌+◌, ◌*◌, ◌<◌, ◌≤◌, ◌++◌, ◌⊎◌, ℕ, List, [], ◌∷◌, length, map, take, drop, true, All, None, Some, IfSome, IsSome};
 ghost use Rattle.std.specs.List.{list_any};
 ghost use Rattle.group_terms.specs.declared.paths.Keyed.{Keyed};
 ghost use Rattle.group_terms.specs.declared.values.TrafficValue.{TrafficValue};
@@ -8,7 +8,8 @@ ghost use Rattle.kd_wire.specs.declared.updates.UpdateKey.{UpdateKey};
 ghost use Rattle.kd_wire.specs.declared.updates.UpdateSpan.{UpdateSpan};
 ghost use Rattle.kd_wire.specs.declared.sealing.WrapJob.{WrapJob};
 ghost use Rattle.kd_wire.specs.Bodies.{kd_fault, kd_fields, update_arrays, given_keys, is_root, place_of};
-ghost use Rattle.kd_wire.specs.Texts.{traffic_kd, update_kd, reply_kd, update_text, updates_text, arrays_of, key_of, Sealed, SealedFits, TrafficFits, KeyedFits, AreOfOnePush, IsPath};
+ghost use Rattle.kd_wire.specs.Texts.{traffic_kd, update_kd, reply_kd, update_text, updates_text, arrays_of, key_of, Sealed, SealedFits, TrafficFits, KeyedFits, AreOfOnePush};
+ghost use Rattle.kd_wire.specs.Views.{GivesTraffic, GivesUpdates, GivesPath};
 
 /// The body that is written for a traffic key has no fault, and that key is read.
 pub fn a_written_traffic_key_is_read()
@@ -64,9 +65,19 @@ pub fn given_keys_are_of_one_epoch()
         ((epoch : ℕ) × All (λ (key : UpdateKey). key.made ≡ epoch) (given_keys body)) × (list_any is_root (given_keys body) ≡ true) }
 {}
 
-/// The keys that a body without fault gives to download are none, or those of a path.
-pub fn what_is_downloaded_is_a_path()
-    ensures { (body : List ℕ) (base : ℕ) → kd_fault body base ≡ None → ((kd_fields body).download ≡ []) ⊎ IsPath (kd_fields body).download }
+/// A body without fault gives a traffic key alone, update arrays alone, or a traffic key and a path that leads up to the root.
+pub fn a_body_has_one_of_three_forms()
+    ensures { (body : List ℕ) (base : ℕ) → kd_fault body base ≡ None →
+        GivesTraffic (kd_fields body) ⊎ (GivesUpdates (kd_fields body) ⊎ GivesPath (kd_fields body)) }
+{}
+
+/// Where the SPIs stand in a body without fault: that of the first packet at place 9, and behind a traffic key that of the second at place 74.
+pub fn spis_stand_at_known_places()
+    ensures traffic { (body : List ℕ) (base : ℕ) → kd_fault body base ≡ None → IfSome (kd_fields body).tek (λ traffic. traffic.spi ≡ take 4 (drop 9 body)) }
+    ensures updates { (body : List ℕ) (base : ℕ) → kd_fault body base ≡ None → (kd_fields body).tek ≡ None →
+        IfSome (kd_fields body).lkh_spi (λ spi. spi ≡ take 16 (drop 9 body)) }
+    ensures reply { (body : List ℕ) (base : ℕ) → kd_fault body base ≡ None → IsSome (kd_fields body).tek →
+        IfSome (kd_fields body).lkh_spi (λ spi. spi ≡ take 16 (drop 74 body)) }
 {}
 
 /// Whether a body has a fault does not hang on its place in the datagram.

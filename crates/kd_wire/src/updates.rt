@@ -22,7 +22,7 @@ pub struct UpdateSpan {
 }
 
 /// An update array (RFC 6407 section 5.6.3.2): the position and the epoch of the key under which its first key is sealed, the number of its keys,
-/// the place of the first one, and where a walk goes on. A further key of an array is sealed under the one before it.
+/// the place of the first one, and where a walk goes on. Who wants the second key of an array opens it with the first, and so on.
 #[derive(Clone, Copy, Debug, PartialEq, Eq)]
 pub struct UpdateArray {
     pub by: LkhId,

@@ -1,4 +1,4 @@
--- The attributes of a policy: each that has a rule stands exactly once, in any order, and no other.
+-- The attributes of a policy: whatever their order, each rule is met by one of them, and each of them meets a rule.
 use Rattle.std.specs.Prelude.{ℕ, zero, suc, ◌+◌, ◌==◌, List, [], ◌∷◌, Option, if◌then◌else◌}
 use Rattle.group_terms.specs.declared.wires.WireFault.{WireFault}
 use Rattle.group_terms.specs.declared.wires.WireWhat.TheVariants.{Kind, Value}

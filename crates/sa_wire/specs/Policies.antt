@@ -1,6 +1,7 @@
 -- The body of an SA payload (RFC 6407 section 5.2): the domain of interpretation in 4 octets, which is 2 for GDOI, the situation 0 in 4, the kind of
--- the first payload of a policy in 2, a reserved field of 2, and then one payload for the KEK (SAK, 15), one for the TEK (SAT, 16), or both in
--- this order. Fields are tested from the front, and one that is not whole is missing.
+-- the first payload of a policy in 2, a reserved field of 2, and then the payloads. Our choices are that there is one for the KEK at most (SAK, 15), and
+-- then one for the TEK at most (SAT, 16), of the two at least one, and none of another kind; and that the TEK is for ESP with AES. What stands in front
+-- is tested first.
 use Rattle.std.specs.Prelude.{ℕ, ◌+◌, ◌==◌, ◌||◌, ◌≤◌, List, [], ◌∷◌, length, take, drop, Option, None, Some, IfSome, if◌then◌else◌}
 use Rattle.byteorder.specs.Endian.{big_from}
 use Rattle.group_terms.specs.declared.wires.WireFault.{WireFault}

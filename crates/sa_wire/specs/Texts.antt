@@ -12,7 +12,7 @@ use Rattle.sa_wire.specs.declared.policies.TekPolicy.{TekPolicy}
 abbrev pub address_text : ℕ → List ℕ → List ℕ
 address_text port address = 1 ∷ big_bytes 2 port ++ length address ∷ address
 
--- the source is 192.0.2.1, and the destination 233.252.0.1, over UDP, which is protocol 17
+-- the source is 192.0.2.1, and the destination 233.252.0.1, addresses for documents (RFC 5737, RFC 6676)
 abbrev pub ids_text : ℕ → List ℕ
 ids_text port = address_text port (192 ∷ 0 ∷ 2 ∷ 1 ∷ []) ++ address_text port (233 ∷ 252 ∷ 0 ∷ 1 ∷ [])
 
@@ -27,7 +27,7 @@ kek_attributes sign =
     ++ short_text 6 sign.algorithm
     ++ short_text 7 sign.key_bits
 
--- rekey datagrams go to port 848
+-- rekey datagrams go from port 848 to port 848, the port of GDOI, over UDP, which is protocol 17
 abbrev pub kek_text : KekPolicy → List ℕ
 kek_text kek = 17 ∷ ids_text 848 ++ kek.spi ++ big_bytes 4 0 ++ kek_attributes kek.sign
 

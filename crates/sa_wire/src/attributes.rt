@@ -1,4 +1,4 @@
-//! The attributes at the end of a policy: each that has a rule stands exactly once, in any order, and no other.
+//! The attributes at the end of a policy: whatever their order, each rule is met by one of them, and each of them meets a rule.
 ghost use Rattle.std.specs.Prelude.{◌≡◌, ◌+◌, ◌≤◌, ◌<◌, ℕ, List, length, true, None, Some, OnSome, OnOk, IfOk, IfSome, if◌then◌else◌};
 ghost use Rattle.group_terms.specs.declared.wires.WireWhat.TheVariants.{Kind};
 ghost use Rattle.gd_wire.specs.Faults.{fault_at, first_fault, answer};
