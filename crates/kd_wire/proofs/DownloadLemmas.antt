@@ -11,6 +11,7 @@ use Rattle.gd_wire.proofs.AttributeLemmas.{long_faultless, long_fields}
 use Rattle.kd_wire.specs.declared.arrays.ArrayKind.TheVariants.{Download}
 use Rattle.kd_wire.specs.Arrays.{key_count, first_key, behind, up_to_behind, kind_tests, version_tests, count_tests, keys_tests, array_fault, item_fault, arrays_fault, array_places}
 use Rattle.kd_wire.specs.Keys.{path_tests}
+use Rattle.kd_wire.proofs.ArrayLemmas.{no_places_at_end}
 
 -- the download array of so many keys, at the end of a text
 pub record DownloadStands (text : List ℕ) (at count : ℕ) : Type 0 where
@@ -88,13 +89,9 @@ module _ (text : List ℕ) (at count : ℕ) (stands : DownloadStands text at cou
           (ap (λ kind. arrays_fault text base more Download (if kind == 3 then None else Some at) (behind text at)) kind_is ∙ nothing_left more at (behind text at) place))
 
   -- it is the one array
-  none_left : (more end : ℕ) → end ≡ length text → array_places text more end ≡ []
-  none_left zero end same = refl
-  none_left (suc more) end same = let last = eq-eqb end (length text) same in rw last refl
-
   pub one_place : (more : ℕ) → array_places text (suc more) at ≡ at ∷ []
   one_place more =
       let next = ne_eqb at (length text) (omega (arith, stands.long)) in
       rw next
       (ap (λ kind. if kind == 3 then array_places text more (behind text at) else at ∷ array_places text more (behind text at)) kind_is
-      ∙ ap (λ places. at ∷ places) (none_left more (behind text at) place))
+      ∙ ap (λ places. at ∷ places) (no_places_at_end text more (behind text at) place))

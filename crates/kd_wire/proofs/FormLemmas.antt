@@ -15,8 +15,8 @@ use Rattle.kd_wire.specs.Arrays.{first_or, behind, first_after, missing_fault, a
 use Rattle.kd_wire.specs.Bodies.{head_tests, packet_count, second, lkh_fault, lkh_places, keys_at, surplus_fault, gives_root_test, updates_fault, traffic_alone_fault, one_fault, two_fault, kd_fault, traffic_alone, updates_alone, both, one_fields, kd_fields}
 use Rattle.kd_wire.specs.Texts.{IsPath}
 use Rattle.kd_wire.specs.Views.{GivesTraffic, GivesUpdates, GivesPath}
-use Rattle.kd_wire.proofs.ArrayLemmas.{at_end}
-use Rattle.kd_wire.proofs.WalkLemmas.{Left, next_item, next_places}
+use Rattle.kd_wire.proofs.ArrayLemmas.{at_end, places_before_end}
+use Rattle.kd_wire.proofs.WalkLemmas.{Left, next_item}
 use Rattle.kd_wire.proofs.PacketLemmas.{packet_left, download_stands}
 use Rattle.kd_wire.proofs.GivenLemmas.{path_of_array, download_packet}
 
@@ -37,11 +37,11 @@ some_array text base kind (suc more) at left = elim (cases_lt at (length text)) 
         | inl passed ↦ (
             let after : first_after text None at ≡ None = ap (λ b. if b then None else Some (first_or None at)) passed in
             let later = some_array text base kind more (behind text at) (subst (λ first. Left text base more kind first (behind text at)) after next.1) in
-            let same = next_places text more at inside ∙ ap (λ b. if b then array_places text more (behind text at) else at ∷ array_places text more (behind text at)) passed in
+            let same = places_before_end text more (suc more) at inside refl ∙ ap (λ b. if b then array_places text more (behind text at) else at ∷ array_places text more (behind text at)) passed in
             (later.0, ap first_place same ∙ later.1)
             )
         | inr array ↦ (
-            let same = next_places text more at inside ∙ ap (λ b. if b then array_places text more (behind text at) else at ∷ array_places text more (behind text at)) array in
+            let same = places_before_end text more (suc more) at inside refl ∙ ap (λ b. if b then array_places text more (behind text at) else at ∷ array_places text more (behind text at)) array in
             (at, ap first_place same)
             )
       ]

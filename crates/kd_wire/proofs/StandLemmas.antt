@@ -7,7 +7,8 @@ use Rattle.gd_wire.specs.Attributes.{kind_at}
 use Rattle.kd_wire.specs.declared.arrays.ArrayKind.TheVariants.{Update}
 use Rattle.kd_wire.specs.Arrays.{first_or, behind, first_after, array_places, place_after, update_array, arrays_at, first_place, AreWhole, ArrayStands}
 use Rattle.kd_wire.specs.Bodies.{array_keys, is_root}
-use Rattle.kd_wire.proofs.WalkLemmas.{IsArray, item_is_array, item_within, Left, next_item, none_left, next_places, same_places, places}
+use Rattle.kd_wire.proofs.WalkLemmas.{IsArray, item_is_array, item_within, Left, next_item, same_places, places}
+use Rattle.kd_wire.proofs.ArrayLemmas.{no_places_at_end, places_before_end}
 
 -- ---- arrays at places
 
@@ -29,7 +30,7 @@ all_stand text base (suc more) first at left = elim (cases_lt at (length text)) 
       let next = next_item text base more Update first at inside left in
       let step = item_within text base Update first at next.0 in
       let others = all_stand text base more (first_after text first at) (behind text at) next.1 in
-      subst (AllStand text base first) (sym (next_places text more at inside)) (elim (cases_eq (kind_at text at) 3) [
+      subst (AllStand text base first) (sym (places_before_end text more (suc more) at inside refl)) (elim (cases_eq (kind_at text at) 3) [
         | inl passed ↦
             subst (λ b. AllStand text base first (if b then array_places text more (behind text at) else at ∷ array_places text more (behind text at))) (sym (eq-eqb (kind_at text at) 3 passed))
             (subst (λ b. AllStand text base (if b then first else Some (first_or first at)) (array_places text more (behind text at))) (eq-eqb (kind_at text at) 3 passed) others)
@@ -51,7 +52,7 @@ all_stand text base (suc more) first at left = elim (cases_lt at (length text)) 
             )
       ])
       )
-  | inr past ↦ (let end : at ≡ length text = omega arith in subst (AllStand text base first) (sym (none_left text (suc more) at end)) tt)
+  | inr past ↦ (let end : at ≡ length text = omega arith in subst (AllStand text base first) (sym (no_places_at_end text (suc more) at end)) tt)
 ]
 
 -- ---- a walk over them that looks for the root's key

@@ -11,6 +11,7 @@ use Rattle.gd_wire.proofs.FaultLemmas.{each_holds}
 use Rattle.kd_wire.specs.declared.arrays.ArrayKind.{ArrayKind}
 use Rattle.kd_wire.specs.declared.arrays.ArrayKind.TheVariants.{Update}
 use Rattle.kd_wire.specs.Arrays.{head_size, first_key, least_keys, most_keys, due_kinds, first_or, behind, key_count, kind_tests, version_tests, count_tests, keys_tests, array_fault, item_fault, first_after, missing_fault, arrays_fault, array_places, first_place, AreWhole, ArrayStands}
+use Rattle.kd_wire.proofs.ArrayLemmas.{no_places_at_end, places_before_end}
 
 -- ---- one attribute
 
@@ -109,35 +110,23 @@ module _ (text : List ℕ) (base more : ℕ) (kind : ArrayKind) (first : Option 
 
 -- ---- the places of the arrays
 
--- where no attribute is left no array is, and else the first one is one of them or not
-pub none_left : (text : List ℕ) (more at : ℕ) → at ≡ length text → array_places text more at ≡ []
-none_left text zero at same = refl
-none_left text (suc more) at same =
-    ap (λ b. if b then [] else (if kind_at text at == 3 then array_places text more (behind text at) else at ∷ array_places text more (behind text at))) (eq-eqb at (length text) same)
-
-pub next_places : (text : List ℕ) (more at : ℕ) → at < length text
-    → array_places text (suc more) at ≡ (if kind_at text at == 3 then array_places text more (behind text at) else at ∷ array_places text more (behind text at))
-next_places text more at inside =
-    ap (λ b. if b then [] else (if kind_at text at == 3 then array_places text more (behind text at) else at ∷ array_places text more (behind text at)))
-    (ne_eqb at (length text) (λ same. omega arith))
-
 -- which arrays there are does not hang on how many attributes are gone through, once these are enough
 pub same_places : (text : List ℕ) (base : ℕ) (kind : ArrayKind) (more other : ℕ) (first : Option ℕ) (at : ℕ)
     → Left text base more kind first at → length text ≤ at + other → array_places text more at ≡ array_places text other at
 same_places text base kind zero other first at left enough =
     let end : at ≡ length text = omega arith in
-    sym (none_left text other at end)
+    sym (no_places_at_end text other at end)
 same_places text base kind (suc more) zero first at left enough =
     let end : at ≡ length text = omega arith in
-    none_left text (suc more) at end
+    no_places_at_end text (suc more) at end
 same_places text base kind (suc more) (suc other) first at left enough = elim (cases_lt at (length text)) [
   | inl inside ↦ (
       let next = next_item text base more kind first at inside left in
       let step : at + 4 ≤ behind text at = (item_within text base kind first at next.0).0 in
       let same = same_places text base kind more other (first_after text first at) (behind text at) next.1 (omega arith) in
-      next_places text more at inside ∙ (λ i. if kind_at text at == 3 then same i else at ∷ same i) ∙ sym (next_places text other at inside)
+      places_before_end text more (suc more) at inside refl ∙ (λ i. if kind_at text at == 3 then same i else at ∷ same i) ∙ sym (places_before_end text other (suc other) at inside refl)
       )
-  | inr past ↦ (let end : at ≡ length text = omega arith in none_left text (suc more) at end ∙ sym (none_left text (suc other) at end))
+  | inr past ↦ (let end : at ≡ length text = omega arith in no_places_at_end text (suc more) at end ∙ sym (no_places_at_end text (suc other) at end))
 ]
 
 -- the places of all arrays from here on
@@ -145,7 +134,7 @@ abbrev pub places : List ℕ → ℕ → List ℕ
 places text at = array_places text (length text) at
 
 pub at_the_end : (text : List ℕ) (at : ℕ) → at ≡ length text → places text at ≡ []
-at_the_end text at same = none_left text (length text) at same
+at_the_end text at same = no_places_at_end text (length text) at same
 
 module _ (text : List ℕ) (at : ℕ) (whole : AreWhole text at) where
   all_left : Left text whole.base whole.more Update whole.first at
@@ -186,7 +175,7 @@ module _ (text : List ℕ) (at : ℕ) (whole : AreWhole text at) where
     }
 
     places_here : places text at ≡ (if kind_at text at == 3 then places text (behind text at) else at ∷ places text (behind text at))
-    places_here = sym (all_places (suc (length text)) (omega arith)) ∙ next_places text (length text) at inside
+    places_here = sym (all_places (suc (length text)) (omega arith)) ∙ places_before_end text (length text) (suc (length text)) at inside refl
 
     -- one that is passed over changes nothing
     pub passed_over : kind_at text at ≡ 3 → places text at ≡ places text (behind text at)
@@ -222,7 +211,7 @@ first_stands text base (suc more) kind first start at left found = elim (cases_l
   | inl inside ↦ (
       let next = next_item text base more kind first start inside left in
       let step = item_within text base kind first start next.0 in
-      let unfolded = next_places text more start inside in
+      let unfolded = places_before_end text more (suc more) start inside refl in
       elim (cases_eq (kind_at text start) 3) [
         | inl passed ↦ (
             let here = unfolded ∙ ap (λ b. if b then array_places text more (behind text start) else start ∷ array_places text more (behind text start)) (eq-eqb (kind_at text start) 3 passed) in
@@ -245,5 +234,5 @@ first_stands text base (suc more) kind first start at left found = elim (cases_l
             )
       ]
       )
-  | inr past ↦ absurd (let end : start ≡ length text = omega arith in let none = ap first_place (none_left text (suc more) start end) in cc)
+  | inr past ↦ absurd (let end : start ≡ length text = omega arith in let none = ap first_place (no_places_at_end text (suc more) start end) in cc)
 ]

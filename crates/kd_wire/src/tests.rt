@@ -30,6 +30,12 @@ const REPLY: &str = "00020000\
     00020300000000000000000000000002020910171e252c333a41484f565d646b666d747b828990979ea5acb3bac1c8cf\
     0001030000000000000000000000000201080f161d242b323940474e555c636a656c737a81888f969da4abb2b9c0c7ce";
 
+/// What stands before the keys in a body for a member that registers with 17 keys.
+const SEVENTEEN: &str = "00020000\
+    0100004104800102030001001001080f161d242b323940474e555c636a\
+    00020020020910171e252c333a41484f565d646b727980878e959ca3aab1b8bfc6cdd4db\
+    0300034d100910171e252c333a41484f565d646b720001033401001100";
+
 /// The body for a traffic key alone, both ways.
 #[test]
 fn a_traffic_key_is_written_and_read(rt: HostRuntime) -> Result<(), Fail> {
@@ -216,6 +222,21 @@ fn paths_lead_up(rt: HostRuntime) -> Result<(), Fail> {
         write_reply_kd(&keyed, &mut body)?;
         assert_eq!(rt; fault(body.as_slice())?, wrong);
     }
+    Ok(())
+}
+
+/// Seventeen keys are one more than a path has, though the lengths fit them; their number stands at place 95.
+#[test]
+fn paths_have_16_keys_at_most(rt: HostRuntime) -> Result<(), Fail> {
+    let alloc = rt.alloc();
+    let mut body = List::from_vec(hex::decode(alloc, SEVENTEEN)?);
+    for _ in 0..17 {
+        append_key("1:1", &mut body)?;
+    }
+    assert_eq!(rt;
+        (body.len(), fault(body.as_slice())?),
+        (98 + 17 * 48, Some((WireWhat::Value, 95)))
+    );
     Ok(())
 }
 
