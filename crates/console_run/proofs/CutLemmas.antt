@@ -5,7 +5,7 @@ use Rattle.std.proofs.lemmas.Bool.{cases_Bool, lt-ltb, and_from}
 use Rattle.std.proofs.lemmas.List.{append_assoc, append-nil}
 use Rattle.std.proofs.lemmas.List.Sums.{fold-append}
 use Rattle.console_run.specs.Scripts.{are_octets, ends_line, unfinished, lines_of_parts, script_lines}
-use Rattle.console_run.specs.Steps.{Cut, cut_more, cut_of}
+use Rattle.console_run.specs.Private.Cuts.{Cut, cut_more, cut_of}
 
 -- what a slice of octets has is octets
 pub small_octets : (octets : List ℕ) → ((i : ℕ) → Fits w8 (get_or octets i 0)) → are_octets octets ≡ true

@@ -1,10 +1,13 @@
-pub mod CompleteLemmas
-pub mod CutLemmas
-pub mod DeriveLemmas
-pub mod EndLemmas
-pub mod ErrorLemmas
-pub mod KnownLemmas
-pub mod LegalLemmas
-pub mod StandLemmas
-pub mod StepLemmas
-pub mod StopLemmas
+mod CutLemmas
+mod EndingLemmas
+mod ErrorLemmas
+mod FaultyLineLemmas
+mod FollowLemmas
+mod GroupLemmas
+mod KnownLemmas
+mod LineLemmas
+mod PromiseLemmas
+mod RoomLemmas
+mod RunLemmas
+mod SoFarLemmas
+mod StopLemmas

@@ -1,261 +1,190 @@
--- The places at which a run stops.
-use Rattle.std.proofs.Common.{take, drop, get_or, true, ◌≡◌, ℕ, ◌+◌, ◌<◌, ◌≤◌, false, List, [], ◌∷◌, ◌++◌, Option, length, map, sym, refl, ap, ◌∙◌, subst, arith, inl, inr}
-use Rattle.std.specs.Prelude.{nat_lt, nat_le, Bool, ◌⊎◌, Some, None, is_some, unwrap_or, option_map}
-use Rattle.std.specs.List.{list_all}
-use Rattle.std.specs.Io.KnownBytes.{Consumes}
-use Rattle.std.proofs.lemmas.Bool.{cases_Bool, and_from, and_parts, le-leb, false≢true}
-use Rattle.std.proofs.lemmas.List.{take_more, take-append-drop, length-drop, nil_from_length, append_assoc, append-nil, length-append, length-map}
-use Rattle.std.proofs.lemmas.List.Concat.{flat_map-append}
+-- Where and why a run stops.
+use Rattle.std.proofs.Common.{◌≡◌, ℕ, ◌+◌, ◌<◌, ◌≤◌, Bool, true, false, List, [], ◌∷◌, ◌++◌, length, take, drop, get_or, sym, refl, ap, ◌∙◌, subst, arith, append_assoc, inl, inr}
+use Rattle.std.specs.Prelude.{nat_lt}
+use Rattle.std.proofs.lemmas.Bool.{and_parts}
+use Rattle.std.proofs.lemmas.List.{append-nil, take_more, take-append-drop, length-drop}
 use Rattle.std.proofs.lemmas.List.Folds.{list_all-append}
+use Rattle.gd_edges.specs.Shown.{Shown}
 use Rattle.group_model.specs.declared.entries.Entry.{Entry}
-use Rattle.group_model.specs.declared.entries.Asked.TheVariants.{Create}
-use Rattle.group_model.specs.Legal.{AreSteps, IsLegal}
+use Rattle.group_model.specs.declared.entries.Asked.{Asked}
+use Rattle.group_model.specs.Groups.{Reading, present_group}
 use Rattle.script_text.specs.Report.{entry_text, entries_text}
-use Rattle.console_run.specs.Scripts.{are_octets, unfinished, script_lines, is_line, line_requests, requests_in, IsRunOf, IsTriedOf}
-use Rattle.console_run.specs.Stands.{Answers}
-use Rattle.console_run.specs.Steps.{Shown, Puts, SaidAt, SourceAt, GivesAt, Cut, cut_of, IsSoFar, GoesOn, GoesOrHalts, StopsAt, Halts}
-use Rattle.console_run.specs.Clauses.{TakesAll, IsOver, IsFaulty, HasTaken, IsStoppedOf, IsLostOf, IsUpTo, IsReached}
 use Rattle.console_run.specs.declared.stops.Stop.{Stop}
-use Rattle.console_run.specs.declared.stops.Stop.TheVariants.{Line, Source, Sink, Memory, Untold}
-use Rattle.script_text.specs.declared.lines.Line.{Line as ScriptLine}
-use Rattle.script_text.specs.Lines.{line_of}
-use Rattle.script_text.specs.Requests.{requests_of}
-use Rattle.std.proofs.KnownBytes.{Appends-nil, Consumes-nil}
-use Rattle.console_run.proofs.CutLemmas.{lines_cut}
-use Rattle.console_run.proofs.StepLemmas.{IsLegal-append, IsRunOf-lines, first_so_far, told_so_far, GoesOn-then}
+use Rattle.console_run.specs.declared.stops.Stop.TheVariants.{Line, Source as SourceStop, Sink as SinkStop, Memory as MemoryStop, Unreported}
+use Rattle.console_run.specs.declared.endings.Ending.{Ending}
+use Rattle.console_run.specs.declared.endings.Ending.TheVariants.{Whole, BadLine, Source, Sink, Memory}
+use Rattle.console_run.specs.Scripts.{are_octets, is_line}
+use Rattle.console_run.specs.Lines.{LineBegins}
+use Rattle.console_run.specs.Causes.{Given, IsCut, IsOver, IsFaulty, IsStopped, IsUpTo}
+use Rattle.console_run.specs.Reports.{Puts, BreaksOff, ReportBreaksOff}
+use Rattle.console_run.specs.Private.Held.{Held, IsOpened}
+use Rattle.console_run.specs.Private.Reports.{EntryBreaksOff}
+use Rattle.console_run.specs.Private.Runs.{Runs, Stops, by_text, begun_by_text, Start, Moment, IsSoFar, IsBrokenOff, IsReported, IsStoppedAt, StopsWithin, GoesOn, StopsAt, SourceFails, given_of}
+use Rattle.console_run.proofs.KnownLemmas.{Puts-none, Puts-entries, ReportBreaksOff-one}
+use Rattle.console_run.proofs.SoFarLemmas.{IsCut-from, count_before, run_before, whole_lines, whole_with_line}
 
--- a piece of which some octets were taken, and at the next the run stopped
-pub Halts-at : (piece : List ℕ) (place : ℕ) (stop : Stop) (first second new : List Entry) (line next : List ℕ) (count counted at : ℕ) (was now then : Shown) (more : List Entry) → are_octets piece ≡ true → length piece ≤ 4096 → place < length piece → GoesOn (take place piece) first second line next count counted was now more → StopsAt (get_or piece place 0) next counted stop second new now then → at ≡ counted → Halts piece stop first new line count at was then
-Halts-at piece place stop first second new line next count counted at was now then more small short within goes stops same =
-    let octet = get_or piece place 0 in
-    let later = drop (place + 1) piece in
-    let halts : Halts piece stop first new line count counted was then = record {
-      done = take place piece;
-      octet = octet;
-      later = later;
-      parts = sym (take-append-drop (place + 1) piece) ∙ ap (λ front. front ++ later) (take_more piece place 0 within) ∙ append_assoc (take place piece) (octet ∷ []) later;
-      near = omega (arith, short, within, length-drop (place + 1) piece);
-      small = small;
-      middle = second;
-      next = next;
-      known = now;
-      gone = more;
-      goes = goes;
-      stops = stops;
-    } in
-    subst (λ n. Halts piece stop first new line count n was then) (sym same) halts
+abbrev moment : Held → List ℕ → ℕ → Shown → Moment
+moment held line count out = record { held = held; line = line; count = count; out = out }
 
-pub Halts-then : (a b : List ℕ) (stop : Stop) (first second third : List Entry) (line next : List ℕ) (count counted at : ℕ) (was now then : Shown) (more : List Entry) → GoesOn a first second line next count counted was now more → Halts b stop second third next counted at now then → Halts (a ++ b) stop first third line count at was then
-Halts-then a b stop first second third line next count counted at was now then more goes halts = record {
-  done = a ++ halts.done;
-  octet = halts.octet;
-  later = halts.later;
-  parts = ap (λ others. a ++ others) halts.parts ∙ sym (append_assoc a halts.done (halts.octet ∷ halts.later));
-  near = halts.near;
-  small = list_all-append (λ octet. nat_lt octet 256) a b ∙ and_from _ _ goes.small halts.small;
-  middle = halts.middle;
-  next = halts.next;
-  known = halts.known;
-  gone = more ++ halts.gone;
-  goes = GoesOn-then a halts.done first second halts.middle line next halts.next count counted at was now halts.known more halts.gone goes halts.goes;
-  stops = halts.stops;
+-- what is known of a run up to a place, and what came after it
+module _ (start : Start) (before after : List ℕ) (ended : Bool) (held : Held) (line : List ℕ) (count : ℕ) (out : Shown) (so : IsSoFar start before (moment held line count out)) (short : length line ≤ 200) (near : length after ≤ 4096) (within : 0 < length line → count < 16384) where
+  abbrev given : Given
+  given = given_of start (before ++ after) ended
+
+  -- the next line is faulty
+  pub stopped_at_line : IsFaulty ended (count + 1) line after → IsReported (BadLine (count + 1)) given start (moment held line count out)
+  stopped_at_line faulty = record {
+    cause = record {
+      before = so.front;
+      text = line;
+      after = after;
+      cut = IsCut-from start before (moment held line count out) so after short near within;
+      run = run_before start before (moment held line count out) so;
+      counted = ap (λ n. n + 1) (sym (count_before start before (moment held line count out) so));
+      faulty = faulty;
+    };
+    report = so.puts;
+  }
+
+  -- the line was over, and began to give these entries
+  up_to : (more : List Entry) → LineBegins (present_group start.readings held.entries) held.entries line more → IsOver ended after → count < 16384 → IsUpTo given start.request held.entries more
+  up_to more begins over room = inr (record {
+    before = so.front;
+    text = line;
+    after = after;
+    cut = IsCut-from start before (moment held line count out) so after short near within;
+    run = run_before start before (moment held line count out) so;
+    begins = begins;
+    over = inr (over, omega (arith, room, count_before start before (moment held line count out) so));
+  })
+
+  -- the run stopped in it
+  pub stopped_in_line : (stop : Stop) (new : Held) (now : Shown) → IsOver ended after → count < 16384 → (stop ≡ Line → is_line line ≡ false) → Stops (begun_by_text line) stop held new out now
+      → IsStoppedAt stop given start (moment new line count now)
+  stopped_in_line Line new now over room faulty h =
+      let same : new.entries ≡ held.entries = h.grown ∙ ap (λ more. held.entries ++ more) h.reports.0 ∙ append-nil held.entries in
+      let reported = stopped_at_line (inr (inr (faulty refl, over))) in
+      record {
+        cause = subst (IsStopped given start.request (count + 1)) (sym same) reported.cause;
+        report = subst (λ entries. Puts start.was now (entries_text entries)) (sym (same ∙ sym (append-nil held.entries))) (Puts-entries start.was out now held.entries [] so.puts h.reports.1);
+      }
+  stopped_in_line SourceStop new now over room faulty h = absurd h.reports
+  stopped_in_line SinkStop new now over room faulty h = record {
+    done = held.entries;
+    more = h.more;
+    parts = h.grown;
+    history = up_to h.more (h.begun (present_group start.readings held.entries) so.reflects) over room;
+    middle = out;
+    report = so.puts;
+    breaks = h.reports;
+  }
+  stopped_in_line MemoryStop new now over room faulty h = record {
+    cause = (held.entries, h.more, h.grown, up_to h.more (h.begun (present_group start.readings held.entries) so.reflects) over room);
+    report = subst (λ entries. Puts start.was now (entries_text entries)) (sym h.grown) (Puts-entries start.was out now held.entries h.more so.puts h.reports);
+  }
+  stopped_in_line Unreported new now over room faulty h = record {
+    done = held.entries;
+    more = h.more;
+    parts = h.grown;
+    history = up_to h.more (h.begun (present_group start.readings held.entries) so.reflects) over room;
+    middle = out;
+    report = so.puts;
+    breaks = h.reports;
+  }
+
+-- the source failed, so nothing came after the octets so far
+pub lost : (start : Start) (before : List ℕ) (at : Moment) → IsSoFar start before at → length at.line ≤ 200 → (0 < length at.line → at.count < 16384) → IsReported Source (given_of start before false) start at
+lost start before at so short within = record {
+  cause = record {
+    before = so.front;
+    text = at.line;
+    cut = subst (λ taken. IsCut taken so.front at.line []) (append-nil before) (IsCut-from start before at so [] short (omega arith) within);
+    run = run_before start before at so;
+  };
+  report = so.puts;
 }
 
--- a text that is no line asks nothing
-no_requests : (line : Option ScriptLine) → is_some line ≡ false → unwrap_or (option_map requests_of line) [] ≡ []
-no_requests None h = refl
-no_requests (Some line) h = absurd (false≢true (sym h))
+-- the script was run to its end
+pub whole_script : (start : Start) (before : List ℕ) (at : Moment) → IsSoFar start before at → at.line ≡ [] → IsReported Whole (given_of start before true) start at
+whole_script start before at so none = record { cause = (refl, whole_lines start before at so none); report = so.puts }
 
--- entries that answer nothing are none
-no_entries : (entries : List Entry) → map (λ (entry : Entry). entry.asked) entries ≡ [] → entries ≡ []
-no_entries entries h = nil_from_length entries (sym (length-map entries (λ (entry : Entry). entry.asked)) ∙ ap length h)
+pub whole_with_last : (start : Start) (before : List ℕ) (held new : Held) (line : List ℕ) (count : ℕ) (out now : Shown) → IsSoFar start before (moment held line count out)
+    → 0 < length line → count < 16384 → Runs (by_text line) held new out now → IsReported Whole (given_of start before true) start (moment new line count now)
+whole_with_last start before held new line count out now so some room run = record {
+  cause = (refl, whole_with_line start before (moment held line count out) so new now some room run);
+  report = subst (λ entries. Puts start.was now (entries_text entries)) (sym run.grown) (Puts-entries start.was out now held.entries run.more so.puts run.puts);
+}
 
-abbrev is_source : Stop → Bool
-is_source Source = true
-is_source stop = false
+-- the run stopped in what stands after the last line end
+pub stopped_at_end : (start : Start) (before : List ℕ) (stop : Stop) (held new : Held) (line : List ℕ) (count : ℕ) (out now : Shown) → IsSoFar start before (moment held line count out)
+    → length line ≤ 200 → count < 16384 → (stop ≡ Line → is_line line ≡ false) → Stops (begun_by_text line) stop held new out now → IsStoppedAt stop (given_of start before true) start (moment new line count now)
+stopped_at_end start before stop held new line count out now so short room faulty h =
+    subst (λ taken. IsStoppedAt stop (given_of start taken true) start (moment new line count now)) (append-nil before)
+    (stopped_in_line start before [] true held line count out so short (omega arith) (λ some. room) stop new now (inr (refl, refl)) room faulty h)
 
--- no source is taken from while a line is run
-pub SourceAt-other : (stop : Stop) (more : List Entry) (old new : ℕ) → GivesAt stop more → new ≡ old → SourceAt stop old new
-SourceAt-other Line more old new h same = same
-SourceAt-other Source more old new h same = absurd h
-SourceAt-other Sink more old new h same = same
-SourceAt-other Memory more old new h same = same
-SourceAt-other Untold more old new h same = same
+-- what is known where the group was opened and nothing of the script was taken
+module _ (request : Asked) (readings : List Reading) (held : Held) (was now : Shown) (opened : IsOpened request held) where
+  abbrev start : Start
+  start = record { request = request; was = was; readings = readings }
 
--- what there is to say of a place of the script: the octets so far, the text behind their lines, and what came behind that
-module _ (depth : ℕ) (left rest : Option (List ℕ)) (taken : List ℕ) (entries : List Entry) (counted : ℕ) (source : Consumes left rest taken) (small : are_octets taken ≡ true) (few : counted ≤ 16384) (done text after : List ℕ) (so : IsSoFar depth done entries text counted) (parts : taken ≡ so.start ++ (text ++ after)) (short : length text ≤ 200) (near : length after ≤ 4096) (within : 0 < length text → counted < 16384) where
-  lines_before : script_lines so.start ≡ (cut_of done).lines
-  lines_before = lines_cut so.start ∙ ap (λ (c : Cut). c.lines ++ unfinished c.rest) so.cut ∙ append-nil (cut_of done).lines
+  opening : IsUpTo (given_of start [] false) request [] held.entries
+  opening = inl (record { none_taken = refl; nothing = refl; begins = inr (opened.opens readings).answer })
 
-  pub count_before : length (script_lines so.start) ≡ counted
-  count_before = ap length lines_before ∙ so.counted
+  -- the report of that broke off
+  pub stopped_at_opening : (stop : Stop) → ((front : List Entry) (entry : Entry) → held.entries ≡ front ++ entry ∷ [] → EntryBreaksOff stop was now (entry_text entry))
+      → IsStoppedAt stop (given_of start [] false) start (moment held [] 0 now)
+  stopped_at_opening stop breaks =
+      let first = (opened.opens readings).answer in
+      by_stop stop first.entry first.alone (breaks [] first.entry first.alone)
+    where
+      broken : (ending : Ending) (entry : Entry) → held.entries ≡ entry ∷ [] → BreaksOff ending was now (entry_text entry) → IsBrokenOff ending (given_of start [] false) start (moment held [] 0 now)
+      broken ending entry alone h = record {
+        done = [];
+        more = held.entries;
+        parts = refl;
+        history = opening;
+        middle = was;
+        report = Puts-none was;
+        breaks = subst (ReportBreaksOff ending was now) (sym alone) (ReportBreaksOff-one ending was now entry h);
+      }
 
-  pub HasTaken-from : HasTaken depth left rest so.start text after entries
-  HasTaken-from = record {
-    source = subst (Consumes left rest) parts source;
-    octets = ap are_octets (sym parts) ∙ small;
-    ended = so.ended;
-    run = subst (λ lines. IsRunOf depth lines entries) (sym lines_before) (IsRunOf-lines depth done entries text counted so few);
-    one_line = so.one_line;
-    short = short;
-    near = near;
-    within = λ some. omega (arith, within some, count_before);
-  }
+      by_stop : (stop : Stop) (entry : Entry) → held.entries ≡ entry ∷ [] → EntryBreaksOff stop was now (entry_text entry) → IsStoppedAt stop (given_of start [] false) start (moment held [] 0 now)
+      by_stop Line entry alone h = absurd h
+      by_stop SourceStop entry alone h = absurd h
+      by_stop SinkStop entry alone h = broken Sink entry alone h
+      by_stop MemoryStop entry alone h = absurd h
+      by_stop Unreported entry alone h = broken Memory entry alone h
 
-  pub IsStoppedOf-from : IsFaulty left taken (counted + 1) text after → IsStoppedOf depth left rest (counted + 1) entries
-  IsStoppedOf-from faulty = record {
-    before = so.start;
-    text = text;
-    after = after;
-    taken = HasTaken-from;
-    counted = ap (λ n. n + 1) (sym count_before);
-    faulty = subst (λ octets. IsFaulty left octets (counted + 1) text after) parts faulty;
-  }
+  -- there was no memory to go on
+  pub no_memory_after_opening : Puts was now (entries_text held.entries) → IsStoppedAt MemoryStop (given_of start [] false) start (moment held [] 0 now)
+  no_memory_after_opening puts = record { cause = ([], held.entries, refl, opening); report = puts }
 
-  -- the line behind was over and gave these entries, or it gave none
-  module _ (more : List Entry) (steps : AreSteps entries more) where
-    IsTriedOf-next : is_line text ≡ true → counted < 16384 → map (λ (entry : Entry). entry.asked) more ≡ line_requests text → IsTriedOf depth (script_lines so.start ++ text ∷ []) (entries ++ more)
-    IsTriedOf-next good low asked =
-        let lines = script_lines so.start in
-        let run : IsTriedOf depth (script_lines so.start) entries = HasTaken-from.run.tried in
-        let grammar : (nat_le (length lines) 16384 ≡ true) × (list_all is_line lines ≡ true) = and_parts (nat_le (length lines) 16384) (list_all is_line lines) run.grammar in
-        record {
-          grammar = and_from _ _ (le-leb (length (lines ++ text ∷ [])) 16384 (omega (arith, low, count_before, length-append lines (text ∷ []))))
-              (list_all-append is_line lines (text ∷ []) ∙ and_from _ _ grammar.1 (and_from _ _ good refl));
-          legal = subst (λ requests. IsLegal (Create depth ∷ requests) (entries ++ more)) (sym (flat_map-append line_requests lines (text ∷ []) ∙ ap (λ requests. requests_in lines ++ requests) (append-nil (line_requests text))))
-              (IsLegal-append (Create depth ∷ requests_in lines) (line_requests text) entries more run.legal asked steps);
-        }
+-- a piece of which some octets were taken, and at the next the run stopped
+pub StopsWithin-piece : (piece : List ℕ) (place : ℕ) (stop : Stop) (old middle new : Moment) → are_octets piece ≡ true → length piece ≤ 4096 → place < length piece
+    → GoesOn (take place piece) old middle → StopsAt (get_or piece place 0) stop middle new → StopsWithin piece stop old new
+StopsWithin-piece piece place stop old middle new small short within goes stops start before so =
+    let octet = get_or piece place 0 in
+    let later = drop (place + 1) piece in
+    let front = take (place + 1) piece in
+    let whole : front ++ later ≡ piece = take-append-drop (place + 1) piece in
+    let each = and_parts (are_octets front) (are_octets later) (sym (list_all-append (λ octet. nat_lt octet 256) front later) ∙ ap are_octets whole ∙ small) in
+    let same : take place piece ++ (octet ∷ later) ≡ piece = sym (append_assoc (take place piece) (octet ∷ []) later) ∙ ap (λ front. front ++ later) (sym (take_more piece place 0 within)) ∙ whole in
+    subst (λ octets. IsStoppedAt stop (given_of start octets false) start new) (append_assoc before (take place piece) (octet ∷ later) ∙ ap (λ rest. before ++ rest) same)
+    (stops later (omega (arith, short, within, length-drop (place + 1) piece)) each.1 start (before ++ take place piece) (goes start before so))
 
-    pub IsUpTo-from : (more ≡ []) ⊎ (map (λ (entry : Entry). entry.asked) more ≡ line_requests text) → (more ≡ []) ⊎ (IsOver left taken after × (counted < 16384)) → IsUpTo depth left rest entries more
-    IsUpTo-from asked begun =
-        let none : more ≡ [] → IsUpTo depth left rest entries more = λ nothing. inr (record { before = so.start; text = text; after = after; taken = HasTaken-from; gave = inl nothing }) in
-        elim asked [
-          | inl nothing ↦ none nothing
-          | inr answers ↦ elim begun [
-            | inl nothing ↦ none nothing
-            | inr over ↦ elim (cases_Bool (is_line text)) [
-              | inl good ↦ inr (record {
-                before = so.start;
-                text = text;
-                after = after;
-                taken = HasTaken-from;
-                gave = inr (subst (λ octets. IsOver left octets after) parts over.0, IsTriedOf-next good over.1 answers);
-              })
-              | inr bad ↦ none (no_entries more (answers ∙ no_requests (line_of text) bad))
-            ]
-          ]
-        ]
+-- the same where other octets were taken before
+pub StopsWithin-then : (a b : List ℕ) (stop : Stop) (first second new : Moment) → GoesOn a first second → StopsWithin b stop second new → StopsWithin (a ++ b) stop first new
+StopsWithin-then a b stop first second new goes stops start before so =
+    subst (λ octets. IsStoppedAt stop (given_of start octets false) start new) (append_assoc before a b) (stops start (before ++ a) (goes start before so))
 
--- what is said of a run up to a place
-module _ (depth : ℕ) (left rest : Option (List ℕ)) (taken : List ℕ) (first new : List Entry) (counted : ℕ) (was told now : Shown) (made : Answers [] first (Create depth)) (begun : (front : List Entry) (entry : Entry) → first ≡ front ++ entry ∷ [] → Puts was told (entry_text entry)) (source : Consumes left rest taken) (few : counted ≤ 16384) where
-  -- it stopped at an octet
-  module _ (stop : Stop) (h : Halts taken stop first new [] 0 counted told now) where
-    octet_so_far : IsSoFar depth h.done h.middle h.next counted
-    octet_so_far = h.goes.so_far depth [] (first_so_far depth first made)
+-- no octet came after those that were taken
+pub StopsWithin-lost : (taken : List ℕ) (old at : Moment) → GoesOn taken old at → length at.line ≤ 200 → (0 < length at.line → at.count < 16384) → StopsWithin taken SourceStop old at
+StopsWithin-lost taken old at goes short within start before so = lost start (before ++ taken) at (goes start before so) short within
 
-    octet_parts : taken ≡ octet_so_far.start ++ (h.next ++ (h.octet ∷ h.later))
-    octet_parts = h.parts ∙ ap (λ front. front ++ (h.octet ∷ h.later)) octet_so_far.parts ∙ append_assoc octet_so_far.start h.next (h.octet ∷ h.later)
-
-    pub IsReached-octet : IsReached (SaidAt stop) depth left rest was.written now.written new
-    IsReached-octet =
-        let over : (h.stops.more ≡ []) ⊎ (IsOver left taken (h.octet ∷ h.later) × (counted < 16384)) = elim h.stops.begun [
-          | inl nothing ↦ inl nothing
-          | inr ends ↦ inr (inl (h.later, ap (λ octet. octet ∷ h.later) ends.0), ends.1)
-        ] in
-        record {
-          first = h.middle;
-          last = h.stops.more;
-          history = h.stops.breaks.grown;
-          run = IsUpTo-from depth left rest taken h.middle counted source h.small few h.done h.next (h.octet ∷ h.later) octet_so_far octet_parts h.stops.short (omega (arith, h.near)) h.stops.within
-              h.stops.more h.stops.breaks.steps h.stops.breaks.asked over;
-          known = h.known.written;
-          told = (told_so_far depth h.done first h.middle h.next counted was told h.known h.gone made begun h.goes).told;
-          says = h.stops.breaks.tries.said;
-        }
-
-  pub IsStoppedOf-octet : Halts taken Line first new [] 0 counted told now → IsStoppedOf depth left rest (counted + 1) new
-  IsStoppedOf-octet h =
-      let others = h.octet ∷ h.later in
-      let same : new ≡ h.middle = h.stops.breaks.grown ∙ ap (λ more. h.middle ++ more) h.stops.breaks.gives ∙ append-nil h.middle in
-      let faulty : IsFaulty left taken (counted + 1) h.next others = elim (h.stops.bad refl) [
-        | inl many ↦ inl (omega (arith, many), omega arith)
-        | inr (inl ends) ↦ inr (inr (ends.1, inl (h.later, ap (λ octet. octet ∷ h.later) ends.0)))
-        | inr (inr long) ↦ inr (inl (long.1, (h.octet, h.later, refl, long.0)))
-      ] in
-      subst (IsStoppedOf depth left rest (counted + 1)) (sym same)
-      (IsStoppedOf-from depth left rest taken h.middle counted source h.small few h.done h.next others (octet_so_far Line h) (octet_parts Line h) h.stops.short (omega (arith, h.near)) h.stops.within faulty)
-
-  -- it came to the end of what was taken
-  module _ (second : List Entry) (next : List ℕ) (known : Shown) (gone : List Entry) (goes : GoesOn taken first second [] next 0 counted told known gone) (short : length next ≤ 200) (within : 0 < length next → counted < 16384) where
-    end_so_far : IsSoFar depth taken second next counted
-    end_so_far = goes.so_far depth [] (first_so_far depth first made)
-
-    end_parts : taken ≡ end_so_far.start ++ (next ++ [])
-    end_parts = end_so_far.parts ∙ ap (λ text. end_so_far.start ++ text) (sym (append-nil next))
-
-    pub IsLostOf-end : IsLostOf depth left rest second
-    IsLostOf-end = record {
-      before = end_so_far.start;
-      text = next;
-      taken = HasTaken-from depth left rest taken second counted source goes.small few taken next [] end_so_far end_parts short (omega arith) within;
-    }
-
-    pub IsStoppedOf-end : TakesAll left taken → is_line next ≡ false → IsStoppedOf depth left rest (counted + 1) second
-    IsStoppedOf-end whole bad =
-        IsStoppedOf-from depth left rest taken second counted source goes.small few taken next [] end_so_far end_parts short (omega arith) within (inr (inr (bad, inr (refl, whole))))
-
-    -- and what stands behind the last line end may have had its turn
-    pub IsReached-end : (Says : Option (List ℕ) → Option (List ℕ) → List ℕ → Type 0) (more : List Entry) → new ≡ second ++ more → AreSteps second more → (more ≡ []) ⊎ (map (λ (entry : Entry). entry.asked) more ≡ line_requests next) → (more ≡ []) ⊎ (TakesAll left taken × (counted < 16384)) → Says known.written now.written (entries_text more) → IsReached Says depth left rest was.written now.written new
-    IsReached-end Says more grown steps asked whole says =
-        let over : (more ≡ []) ⊎ (IsOver left taken [] × (counted < 16384)) = elim whole [
-          | inl nothing ↦ inl nothing
-          | inr all ↦ inr (inr (refl, all.0), all.1)
-        ] in
-        record {
-          first = second;
-          last = more;
-          history = grown;
-          run = IsUpTo-from depth left rest taken second counted source goes.small few taken next [] end_so_far end_parts short (omega arith) within more steps asked over;
-          known = known.written;
-          told = (told_so_far depth taken first second next counted was told known gone made begun goes).told;
-          says = says;
-        }
-
-  -- the script was taken as far as it goes, or up to where it stopped
-  module _ (stop : Stop) (next : List ℕ) (h : GoesOrHalts taken stop first new [] next 0 counted told now) where
-    pub IsReached-stops : IsReached (SaidAt stop) depth left rest was.written now.written new
-    IsReached-stops = elim h [
-      | inl lost ↦ subst (λ stop. IsReached (SaidAt stop) depth left rest was.written now.written new) (sym lost.0)
-          (IsReached-end new next now lost.2.0 lost.2.1 lost.1.short lost.1.begun (SaidAt Source) [] (sym (append-nil new)) tt (inl refl) (inl refl) (Appends-nil now.written))
-      | inr halts ↦ IsReached-octet stop halts
-    ]
-
-    pub IsStoppedOf-stops : Line ≡ stop → IsStoppedOf depth left rest (counted + 1) new
-    IsStoppedOf-stops line = elim h [
-      | inl lost ↦ absurd (false≢true (ap is_source (line ∙ lost.0)))
-      | inr halts ↦ IsStoppedOf-octet (subst (λ stop. Halts taken stop first new [] 0 counted told now) (sym line) halts)
-    ]
-
-    pub IsLostOf-stops : Source ≡ stop → IsLostOf depth left rest new
-    IsLostOf-stops source_failed = elim h [
-      | inl lost ↦ IsLostOf-end new next now lost.2.0 lost.2.1 lost.1.short lost.1.begun
-      | inr halts ↦ absurd (subst (λ stop. GivesAt stop halts.stops.more) (sym source_failed) halts.stops.breaks.gives)
-    ]
-
-pub GoesOrHalts-new : (taken : List ℕ) (stop : Stop) (old new : List Entry) (line next : List ℕ) (count counted : ℕ) (was now : Shown) → line ≡ [] → count ≡ 0 → GoesOrHalts taken stop old new line next count counted was now → GoesOrHalts taken stop old new [] next 0 counted was now
-GoesOrHalts-new taken stop old new line next count counted was now none zeroth h =
-    subst (λ line. GoesOrHalts taken stop old new line next 0 counted was now) none (subst (λ count. GoesOrHalts taken stop old new line next count counted was now) zeroth h)
-
--- nothing but the making of the group is reported
-pub IsReached-opening : (Says : Option (List ℕ) → Option (List ℕ) → List ℕ → Type 0) (depth : ℕ) (left was now : Option (List ℕ)) (entries : List Entry) (made : Answers [] entries (Create depth)) → Says was now (entry_text made.0) → IsReached Says depth left left was now entries
-IsReached-opening Says depth left was now entries made says =
-    let opening : entries_text entries ≡ entry_text made.0 = ap entries_text made.1.added.appended ∙ append-nil (entry_text made.0) in
-    record {
-      first = [];
-      last = entries;
-      history = refl;
-      run = inl (record { source = Consumes-nil left; nothing = refl; made = inr (first_so_far depth entries made).legal });
-      known = was;
-      told = Appends-nil was;
-      says = subst (Says was now) (sym opening) says;
-    }
+-- a stop that is not the source's leaves its count
+pub SourceFails-other : (stop : Stop) (old new : ℕ) → (stop ≡ SourceStop → ⊥) → new ≡ old → SourceFails stop old new
+SourceFails-other Line old new other same = same
+SourceFails-other SourceStop old new other same = absurd (other refl)
+SourceFails-other SinkStop old new other same = same
+SourceFails-other MemoryStop old new other same = same
+SourceFails-other Unreported old new other same = same

@@ -1,5 +1,7 @@
-pub mod Clauses
+pub mod Causes
+pub mod CommandLine
+pub mod Lines
+pub mod Private
+pub mod Promises
+pub mod Reports
 pub mod Scripts
-pub mod Stands
-pub mod Steps
-pub mod Words

@@ -1,33 +1,38 @@
-//! The answers that are due.
-ghost use Rattle.std.specs.Prelude.{◌≡◌, ◌≤◌};
-ghost use Rattle.group_model.specs.Places.{Fits, holders_of};
-ghost use Rattle.group_model.specs.Legal.{join_answer, leave_answer, taken_leaves};
-ghost use Rattle.console_run.specs.Stands.{HasRoom};
+//! The answers that are due to joins and leaves.
+ghost use Rattle.std.specs.Prelude.{◌≡◌, ◌≤◌, ◌++◌, ◌∷◌, [], length};
+ghost use Rattle.group_terms.specs.declared.changes.Change.TheVariants.{In, Out};
+ghost use Rattle.group_model.specs.Places.{Fits};
+ghost use Rattle.group_model.specs.Legal.{answer_to_join, answer_to_leave, leaves_taken};
+ghost use Rattle.console_run.specs.Private.Held.{HasRoom};
 
-use crate::batches::has_pending;
 use group_model::{
-    Answer, Batch, Change, History, MemberName, Refusal, count_joiners, count_leavers,
-    each_leaf_has_its_place,
+    Answer, MemberName, PendingChanges, PresentTree, Refusal, a_batch_that_fits_has_few_changes,
+    granted_changes_fit,
 };
 
 /// A member's join does nothing; then a pending change refuses it, and then a full tree.
-pub(crate) fn answer_join(history: &History, pending: &Batch, member: &MemberName) -> Answer
-    requires shallow { history.now.depth ≤ 4 }
-    requires fits { Fits (holders_of history.now.depth history.now.batches) pending.now }
-    ensures due { result ≡ join_answer (record { depth = history.now.depth; batches = history.now.batches; queue = pending.now }) member.now }
-    ensures room { result ≡ Answer.Queued → HasRoom (holders_of history.now.depth history.now.batches) pending.now (Change.In member.now) }
+pub(crate) fn answer_join(
+    tree: &PresentTree,
+    pending: &PendingChanges,
+    member: &MemberName,
+) -> Answer
+    requires shallow { tree.now.depth ≤ 4 }
+    requires fits { Fits tree.now.holders pending.now }
+    ensures due { result ≡ answer_to_join tree.now.depth tree.now.holders pending.now member.now }
+    ensures room { result ≡ Answer.Queued → HasRoom tree.now.holders pending.now (In member.now) }
 {
-    each_leaf_has_its_place();
-    if history.is_member(history.epoch(), member) {
+    granted_changes_fit();
+    a_batch_that_fits_has_few_changes();
+    if tree.is_member(member) {
         return Answer::Nothing;
     }
-    if has_pending(pending, member) {
-        return Answer::Refused {
-            why: Refusal::AlreadyPending,
-        };
+    if pending.has(member) {
+        let why = Refusal::AlreadyPending;
+        return Answer::Refused { why };
     }
-    let held = count_taken(history, pending);
-    if held as usize == history.leaves() {
+    let held = count_taken(tree, pending);
+    if held == tree.leaves() {
+        let held = held as u32;
         let why = Refusal::TreeFull { held };
         return Answer::Refused { why };
     }
@@ -35,18 +40,23 @@ pub(crate) fn answer_join(history: &History, pending: &Batch, member: &MemberNam
 }
 
 /// Only a member can leave, and only where no change of it is pending.
-pub(crate) fn answer_leave(history: &History, pending: &Batch, member: &MemberName) -> Answer
-    requires shallow { history.now.depth ≤ 4 }
-    requires fits { Fits (holders_of history.now.depth history.now.batches) pending.now }
-    ensures due { result ≡ leave_answer (record { depth = history.now.depth; batches = history.now.batches; queue = pending.now }) member.now }
-    ensures room { result ≡ Answer.Done → HasRoom (holders_of history.now.depth history.now.batches) pending.now (Change.Out member.now) }
+pub(crate) fn answer_leave(
+    tree: &PresentTree,
+    pending: &PendingChanges,
+    member: &MemberName,
+) -> Answer
+    requires shallow { tree.now.depth ≤ 4 }
+    requires fits { Fits tree.now.holders pending.now }
+    ensures due { result ≡ answer_to_leave tree.now.depth tree.now.holders pending.now member.now }
+    ensures room { result ≡ Answer.Done → HasRoom tree.now.holders pending.now (Out member.now) }
 {
-    each_leaf_has_its_place();
-    if !history.is_member(history.epoch(), member) {
+    granted_changes_fit();
+    a_batch_that_fits_has_few_changes();
+    if !tree.is_member(member) {
         let why = Refusal::NotMember;
         return Answer::Refused { why };
     }
-    if has_pending(pending, member) {
+    if pending.has(member) {
         let why = Refusal::AlreadyPending;
         return Answer::Refused { why };
     }
@@ -54,13 +64,10 @@ pub(crate) fn answer_leave(history: &History, pending: &Batch, member: &MemberNa
 }
 
 /// The leaves that the next batch will leave taken: those of members that are not leaving, and those of pending joins.
-fn count_taken(history: &History, pending: &Batch) -> u32
-    requires shallow { history.now.depth ≤ 4 }
-    requires fits { Fits (holders_of history.now.depth history.now.batches) pending.now }
-    ensures { result ≡ taken_leaves (record { depth = history.now.depth; batches = history.now.batches; queue = pending.now }) }
+fn count_taken(tree: &PresentTree, pending: &PendingChanges) -> usize
+    requires fits { Fits tree.now.holders pending.now }
+    ensures { result ≡ leaves_taken tree.now.depth tree.now.holders pending.now }
 {
-    each_leaf_has_its_place();
-    let members = history.members(history.epoch());
-    let changes = pending.changes();
-    members - count_leavers(changes) as u32 + count_joiners(changes) as u32
+    a_batch_that_fits_has_few_changes();
+    tree.members() as usize - pending.leaves() + pending.joins()
 }

@@ -1,40 +1,37 @@
-//! A group that is kept as a list of batches, and answers requests.
-ghost use Rattle.std.specs.Prelude.{◌≡◌, ◌+◌, ◌^◌, ◌<◌, ◌≤◌, List, [], ◌∷◌, ◌++◌, length, Decides, MatchOption, IfOk, OnOk, OnErr, IsTrue};
+//! A group that answers requests, with the history of all that was asked of it.
+ghost use Rattle.std.specs.Prelude.{◌≡◌, ◌+◌, ◌<◌, ◌≤◌, List, [], ◌∷◌, ◌++◌, false, MatchOption, IfOk, OnOk, OnErr, IsTrue};
 ghost use Rattle.group_model.specs.declared.entries.Entry.{Entry};
-ghost use Rattle.group_terms.specs.declared.keys.KeyName.TheVariants.{Traffic};
-ghost use Rattle.group_model.specs.Derivations.{CanDerive, held_names, pairs_sent};
-ghost use Rattle.group_model.specs.Legal.{outside_of};
-ghost use Rattle.console_run.specs.Stands.{Adds, Answers};
+ghost use Rattle.group_model.specs.Legal.{ran_out, found_by};
+ghost use Rattle.console_run.specs.Private.Held.{Moves, IsOpened};
 
 use crate::answers::{answer_join, answer_leave};
-use crate::batches::close;
 use group_model::{
-    Answer, Asked, Batch, Change, Entry, GroupSeen, History, KeyName, List, Log, MemberName,
-    MemberNames, NoMemory, Outside, Refusal,
+    Answer, Asked, Change, Entry, GroupSeen, List, Log, MemberName, MemberNames, NoMemory, Outside,
+    PendingChanges, PresentTree, Refusal, a_batch_that_fits_has_few_changes,
 };
 use std::alloc::Global;
 use std::marker::Model;
-use sym_closure::{derive, held, sent_pairs};
+use sym_closure::{Sent, what_is_known_stays_known};
 
-/// A group with the history of all that was asked of it. Contracts see the history.
+/// A group: the present tree, the changes that wait, what was sent so far, and its history.
 #[derive(Debug, Drop)]
 pub(crate) struct Group {
-    history: History,
-    pending: Batch,
-    sequence: u32,
+    tree: PresentTree,
+    pending: PendingChanges,
+    sent: Sent,
     entries: Log<Entry>,
 }
 
 impl Model for Group {
-    ghost use Rattle.std.specs.Prelude.{List};
-    ghost use Rattle.group_model.specs.declared.entries.Entry.{Entry};
-    ghost use Rattle.console_run.specs.Stands.{Stands};
+    ghost use Rattle.console_run.specs.Private.Held.{Held};
 
-    ghost Value = { List Entry };
+    ghost Value = { Held };
 
-    ghost view = { λ group. group.entries.items };
+    ghost use Rattle.console_run.specs.Private.Kept.{IsKept};
 
-    ghost invariant = { λ group. Stands group.history group.pending group.sequence group.entries.items };
+    ghost view = { λ group. record { entries = group.entries.items; tree = group.tree; queue = group.pending } };
+
+    ghost invariant = { λ group. IsKept group.tree group.pending group.sent group.entries.items };
 }
 
 impl Group {
@@ -42,10 +39,13 @@ impl Group {
     pub(crate) fn create(alloc: Global, depth: u8) -> Result<Self, NoMemory>
         requires shallow { 1 ≤ depth }
         requires not_deep { depth ≤ 4 }
-        ensures { IfOk result (λ group. Answers [] group (Asked.Create depth)) }
+        ensures opened { IfOk result (λ group. IsOpened (Asked.Create depth) group) }
+        ensures ready { IfOk result (λ group. (group.tree.epoch ≡ 0) × (group.tree.sequence ≡ 0)) }
     {
+        a_batch_that_fits_has_few_changes();
         let mut entries = Log::of(List::new(alloc));
         entries.reserve(1)?;
+        let tree = PresentTree::new(alloc, depth)?;
         let group = GroupSeen {
             depth,
             epoch: 0,
@@ -58,21 +58,23 @@ impl Group {
         };
         entries.add(entry(Asked::Create { depth }, answer));
         Ok(Group {
-            history: History::new(alloc, depth),
-            pending: Batch::new(),
-            sequence: 0,
+            tree,
+            pending: PendingChanges::new(),
+            sent: Sent::new(alloc),
             entries,
         })
     }
 
     /// Asks to let a name in with the next batch.
     pub(crate) fn join(&mut self, member: MemberName) -> Result<(), NoMemory>
-        ensures ok { OnOk result (Answers self.old self.new (Asked.Join member)) }
+        ensures ok { OnOk result ((entry : Entry) × Moves self.old self.new (Asked.Join member) entry × (ran_out entry.answer ≡ false)) }
+        ensures tree { self.new.tree ≡ self.old.tree }
         ensures err { OnErr result (self.new ≡ self.old) }
     {
+        what_is_known_stays_known();
         self.entries.reserve(1)?;
         let asked = Asked::Join { member };
-        match answer_join(&self.history, &self.pending, &member) {
+        match answer_join(&self.tree, &self.pending, &member) {
             Answer::Queued => {
                 self.pending.push(Change::In { member });
                 self.entries.add(entry(asked, Answer::Queued));
@@ -84,12 +86,14 @@ impl Group {
 
     /// Asks to take a member out with the next batch.
     pub(crate) fn leave(&mut self, member: MemberName) -> Result<(), NoMemory>
-        ensures ok { OnOk result (Answers self.old self.new (Asked.Leave member)) }
+        ensures ok { OnOk result ((entry : Entry) × Moves self.old self.new (Asked.Leave member) entry × (ran_out entry.answer ≡ false)) }
+        ensures tree { self.new.tree ≡ self.old.tree }
         ensures err { OnErr result (self.new ≡ self.old) }
     {
+        what_is_known_stays_known();
         self.entries.reserve(1)?;
         let asked = Asked::Leave { member };
-        match answer_leave(&self.history, &self.pending, &member) {
+        match answer_leave(&self.tree, &self.pending, &member) {
             Answer::Done => {
                 self.pending.push(Change::Out { member });
                 self.entries.add(entry(asked, Answer::Done));
@@ -99,29 +103,31 @@ impl Group {
         Ok(())
     }
 
-    /// Closes the batch; `false` where it found no memory, and then the history has it as refused for that.
+    /// Closes the batch: plans it, and then does what was planned. `false` where there is no memory for the plan; then the history has
+    /// it as refused for that.
     pub(crate) fn batch(&mut self, alloc: Global) -> Result<bool, NoMemory>
-        requires { length self.old < 2 ^ 29 }
-        ensures made { IfOk result (λ made. IsTrue made → Answers self.old self.new Asked.Batch) }
-        ensures added { OnOk result (Adds self.old self.new Asked.Batch) }
+        requires epochs { self.old.tree.epoch ≤ 16384 }
+        requires pushes { self.old.tree.sequence ≤ 32768 }
+        ensures ok { IfOk result (λ made. (entry : Entry) × Moves self.old self.new Asked.Batch entry × (IsTrue made → ran_out entry.answer ≡ false)) }
+        ensures epochs { self.new.tree.epoch ≤ self.old.tree.epoch + 1 }
+        ensures pushes { self.new.tree.sequence ≤ self.old.tree.sequence + 2 }
         ensures err { OnErr result (self.new ≡ self.old) }
     {
+        a_batch_that_fits_has_few_changes();
+        what_is_known_stays_known();
         self.entries.reserve(1)?;
-        match close(
-            alloc,
-            &mut self.history,
-            &mut self.pending,
-            &mut self.sequence,
-        ) {
-            Ok(output) => {
-                self.entries
-                    .add(entry(Asked::Batch, Answer::Batched { output }));
+        match self.tree.plan(alloc, self.pending.batch()) {
+            Ok(plan) => {
+                let output = self.tree.commit(plan);
+                self.pending.clear();
+                let answer = Answer::Batched { output };
+                self.entries.add(entry(Asked::Batch, answer));
                 Ok(true)
             }
             Err(NoMemory) => {
                 let why = Refusal::NoMemory;
-                self.entries
-                    .add(entry(Asked::Batch, Answer::Refused { why }));
+                let answer = Answer::Refused { why };
+                self.entries.add(entry(Asked::Batch, answer));
                 Ok(false)
             }
         }
@@ -134,11 +140,14 @@ impl Group {
         epoch: u32,
         members: MemberNames,
     ) -> Result<(), NoMemory>
-        ensures ok { OnOk result (Answers self.old self.new (Asked.Derive epoch members)) }
+        ensures ok { OnOk result ((entry : Entry) × Moves self.old self.new (Asked.Derive epoch members) entry × (ran_out entry.answer ≡ false)) }
+        ensures tree { self.new.tree ≡ self.old.tree }
         ensures err { OnErr result (self.new ≡ self.old) }
     {
+        what_is_known_stays_known();
         self.entries.reserve(1)?;
-        let yes = can_derive(alloc, self.entries.items(), epoch, members.names())?;
+        self.sent.follow(alloc, self.entries.items())?;
+        let yes = self.sent.derives(alloc, members.names(), epoch)?;
         let asked = Asked::Derive { epoch, members };
         self.entries.add(entry(asked, Answer::Derived { yes }));
         Ok(())
@@ -146,56 +155,53 @@ impl Group {
 
     /// The last entry of the history.
     pub(crate) fn last(&self) -> Option<&Entry>
-        ensures { MatchOption result (self.now ≡ []) (λ entry. (front : List Entry) × (self.now ≡ front ++ entry.now ∷ [])) }
+        ensures { MatchOption result (self.now.entries ≡ []) (λ entry. (front : List Entry) × (self.now.entries ≡ front ++ entry.now ∷ [])) }
     {
         self.entries.items().last()
     }
 
     /// The history.
     pub(crate) fn into_entries(self) -> List<Entry>
-        ensures { result ≡ self }
+        ensures { result ≡ self.entries }
     {
         let Group {
-            history: _,
+            tree: _,
             pending: _,
-            sequence: _,
+            sent: _,
             entries,
         } = self;
         entries.into_list()
     }
 }
 
-fn can_derive(
-    alloc: Global,
-    history: &[Entry],
-    epoch: u32,
-    members: &[MemberName],
-) -> Result<bool, NoMemory>
-    ensures { IfOk result (λ yes. Decides yes (CanDerive (held_names history.now members.now) (pairs_sent history.now) (Traffic epoch))) }
-{
-    let have = held(alloc, history, members)?;
-    let pairs = sent_pairs(alloc, history)?;
-    let goal = KeyName::Traffic { made: epoch };
-    Ok(derive(alloc, have.as_slice(), pairs.as_slice(), &goal)?.is_some())
-}
-
 fn entry(asked: Asked, answer: Answer) -> Entry
     ensures asked { result.asked ≡ asked }
     ensures answer { result.answer ≡ answer }
-    ensures outside { result.outside ≡ outside_of asked }
+    ensures outside { result.outside ≡ record { disk_failed = false; found = found_by answer; place = 0 } }
 {
-    let found = match &asked {
-        Asked::Create { .. } => Some(0),
-        Asked::Join { .. } | Asked::Leave { .. } | Asked::Batch | Asked::Derive { .. } => None,
-    };
     let outside = Outside {
         disk_failed: false,
-        found,
+        found: found_by(&answer),
         place: 0,
     };
     Entry {
         asked,
         outside,
         answer,
+    }
+}
+
+/// The epoch at which an opening found the group.
+fn found_by(answer: &Answer) -> Option<u32>
+    ensures { result ≡ found_by answer.now }
+{
+    match answer {
+        Answer::Opened { group, .. } => Some(group.epoch),
+        Answer::Done
+        | Answer::Queued
+        | Answer::Batched { .. }
+        | Answer::Nothing
+        | Answer::Derived { .. }
+        | Answer::Refused { .. } => None,
     }
 }

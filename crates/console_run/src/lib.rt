@@ -2,15 +2,16 @@
 #![tactic(auto)]
 
 mod answers;
-mod batches;
-mod commands;
+mod command_line;
 mod consoles;
+mod endings;
 mod groups;
-mod puts;
-mod runs;
+mod line_run;
+mod report_sink;
+mod script_run;
 mod stops;
 #[cfg(test)]
 mod tests;
-mod words;
 
 pub use consoles::{Finished, console};
+pub use endings::Ending;

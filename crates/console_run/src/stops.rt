@@ -1,10 +1,10 @@
-//! How a run can end early.
+//! How the run of a script can stop early.
 ghost use Rattle.std.specs.Prelude.{◌≡◌};
 ghost use Rattle.console_run.specs.declared.stops.Stop.TheVariants.{Memory};
 
 use group_model::NoMemory;
 
-/// Why a run ends before its script does.
+/// Why a run stops before its script ends.
 #[derive(Clone, Copy, Debug, PartialEq, Eq)]
 pub(crate) enum Stop {
     /// A line is not of the grammar.
@@ -13,10 +13,10 @@ pub(crate) enum Stop {
     Source,
     /// The sink failed.
     Sink,
-    /// There was no memory, and all that happened is reported.
+    /// Memory ran out, and all that happened is reported.
     Memory,
-    /// There was no memory for the report of the last entry.
-    Untold,
+    /// Memory ran out for the report of what happened last.
+    Unreported,
 }
 
 impl From<NoMemory> for Stop {

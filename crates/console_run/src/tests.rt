@@ -1,4 +1,4 @@
-use crate::{Finished, console};
+use crate::{Ending, Finished, console};
 use gd_edges::{StdSink, StdSource, TextSink, TextSource};
 use group_model::{List, NoMemory, Octets};
 use std::alloc::Global;
@@ -67,50 +67,66 @@ fn members_derive_the_keys_of_their_epochs(rt: HostRuntime) -> Result<(), Fail> 
     let report = first_lines(alloc, 11, TOLD_DERIVED)?;
     let run = run_text(alloc, "--new 2", script.as_slice(), &[])?;
     assert_eq!(rt; run.sink.octets(), report.as_slice());
-    assert_eq!(rt; (run.finished.status, run.finished.history.len()), (0, 15));
+    assert_eq!(rt; run.finished.ending, Ending::Whole);
+    assert_eq!(rt; run.finished.history.len(), 15);
     Ok(())
 }
 
-/// Words and a script, and the report, status and line that they end with.
+/// Words and a script, and the report and the ending that they come to.
 #[test]
 fn scripts_end_as_their_words_and_lines_say(rt: HostRuntime) -> Result<(), Fail> {
     let alloc = rt.alloc();
     let bad_line = "join a\nbatch\njoin A\njoin b\n";
     let until_line_3 = "new depth 2\na queued\nepoch 1 sequence 0 members 1\nend 2 line 3\n";
     let table = [
-        ("--new 2", TWO_BATCHES, TWO_EPOCHS, 0, 0),
-        ("--new=2", TWO_BATCHES.trim_ascii_end(), TWO_EPOCHS, 0, 0),
-        ("--new 1", FULL_TREE, TOLD_FULL, 0, 0),
-        ("--new 04", "", "new depth 4\nend 0\n", 0, 0),
-        ("--new 2", bad_line, until_line_3, 2, 3),
-        ("--new 2", "join", "new depth 2\nend 2 line 1\n", 2, 1),
-        ("", TWO_BATCHES, "end 1\n", 1, 0),
-        ("--new", TWO_BATCHES, "end 1\n", 1, 0),
+        ("--new 2", TWO_BATCHES, TWO_EPOCHS, Ending::Whole),
+        (
+            "--new=2",
+            TWO_BATCHES.trim_ascii_end(),
+            TWO_EPOCHS,
+            Ending::Whole,
+        ),
+        ("--new 1", FULL_TREE, TOLD_FULL, Ending::Whole),
+        ("--new 04", "", "new depth 4\nend 0\n", Ending::Whole),
+        (
+            "--new 2",
+            bad_line,
+            until_line_3,
+            Ending::BadLine { line: 3 },
+        ),
+        (
+            "--new 2",
+            "join",
+            "new depth 2\nend 2 line 1\n",
+            Ending::BadLine { line: 1 },
+        ),
+        ("", TWO_BATCHES, "end 1\n", Ending::NoGroup),
+        ("--new", TWO_BATCHES, "end 1\n", Ending::NoGroup),
         (
             "--new=00000000000000000001",
             "",
             "new depth 1\nend 0\n",
-            0,
-            0,
+            Ending::Whole,
         ),
-        ("--new=000000000000000000001", "", "end 1\n", 1, 0),
-        ("--new 10", TWO_BATCHES, "end 1\n", 1, 0),
-        ("--new 5", TWO_BATCHES, "end 1\n", 1, 0),
-        ("--new +2", TWO_BATCHES, "end 1\n", 1, 0),
-        ("--new=", TWO_BATCHES, "end 1\n", 1, 0),
-        ("--new 0", TWO_BATCHES, "end 1\n", 1, 0),
-        ("--new=2 --open", TWO_BATCHES, "end 1\n", 1, 0),
-        ("--new 2 --new 2", TWO_BATCHES, "end 1\n", 1, 0),
+        (
+            "--new=000000000000000000001",
+            "",
+            "end 1\n",
+            Ending::NoGroup,
+        ),
+        ("--new 10", TWO_BATCHES, "end 1\n", Ending::NoGroup),
+        ("--new 5", TWO_BATCHES, "end 1\n", Ending::NoGroup),
+        ("--new +2", TWO_BATCHES, "end 1\n", Ending::NoGroup),
+        ("--new=", TWO_BATCHES, "end 1\n", Ending::NoGroup),
+        ("--new 0", TWO_BATCHES, "end 1\n", Ending::NoGroup),
+        ("--new=2 --open", TWO_BATCHES, "end 1\n", Ending::NoGroup),
+        ("--new 2 --new 2", TWO_BATCHES, "end 1\n", Ending::NoGroup),
     ];
-    for (words, script, report, status, line) in table {
+    for (words, script, report, ending) in table {
         let run = run_text(alloc, words, script.as_bytes(), &[])?;
         assert_eq!(rt; run.sink.octets(), report.as_bytes(), "{words}");
-        assert_eq!(rt;
-            (run.finished.status, run.finished.line),
-            (status, line),
-            "{words}"
-        );
-        if status == 1 {
+        assert_eq!(rt; run.finished.ending, ending, "{words}");
+        if ending == Ending::NoGroup {
             assert_eq!(rt; run.source.rest(), script.as_bytes());
             assert!(rt; run.finished.history.is_empty());
         }
@@ -118,28 +134,33 @@ fn scripts_end_as_their_words_and_lines_say(rt: HostRuntime) -> Result<(), Fail>
     Ok(())
 }
 
-/// A source may give one octet a call, or all at once. It is asked for nothing behind a faulty line.
+/// A source may give one octet a call, or all at once. It is asked for nothing after a faulty line.
 #[test]
 fn pieces_of_any_size_make_the_same_report(rt: HostRuntime) -> Result<(), Fail> {
     let alloc = rt.alloc();
     let table = [
-        (TWO_BATCHES, TWO_EPOCHS, 0, ""),
-        ("jo\nbatch\n", "new depth 2\nend 2 line 1\n", 2, "batch\n"),
+        (TWO_BATCHES, TWO_EPOCHS, Ending::Whole, ""),
+        (
+            "jo\nbatch\n",
+            "new depth 2\nend 2 line 1\n",
+            Ending::BadLine { line: 1 },
+            "batch\n",
+        ),
         (
             "batch\njoin",
             "new depth 2\nepoch 1 sequence 0 members 0\nend 2 line 2\n",
-            2,
+            Ending::BadLine { line: 2 },
             "",
         ),
     ];
-    for (script, report, status, left) in table {
+    for (script, report, ending, left) in table {
         let mut reader = OneByOne {
             rest: script.as_bytes(),
             calls_left: usize::MAX,
         };
         let (finished, sink) = run_read(alloc, &mut reader)?;
         assert_eq!(rt; sink.octets(), report.as_bytes());
-        assert_eq!(rt; finished.status, status);
+        assert_eq!(rt; finished.ending, ending);
         assert_eq!(rt; reader.rest, left.as_bytes());
     }
     Ok(())
@@ -161,7 +182,7 @@ fn a_source_may_fail_at_any_call(rt: HostRuntime) -> Result<(), Fail> {
         let (finished, sink) = run_read(alloc, &mut reader)?;
         if call == script.len() + 2 {
             assert_eq!(rt; sink.octets(), TWO_EPOCHS.as_bytes());
-            assert_eq!(rt; finished.status, 0);
+            assert_eq!(rt; finished.ending, Ending::Whole);
             break;
         }
         let run = script[..call - 1]
@@ -170,7 +191,7 @@ fn a_source_may_fail_at_any_call(rt: HostRuntime) -> Result<(), Fail> {
             .count();
         let report = first_lines(alloc, REPORTED[run.min(6)], "end 3\n")?;
         assert_eq!(rt; sink.octets(), report.as_slice(), "call {call}");
-        assert_eq!(rt; (finished.status, finished.line), (3, 0));
+        assert_eq!(rt; finished.ending, Ending::Source);
         assert_eq!(rt; finished.history.len(), run + 1);
     }
     Ok(())
@@ -186,7 +207,7 @@ fn a_sink_of_whole_lines_may_fail_at_any_call(rt: HostRuntime) -> Result<(), Fai
         let run = run_text(alloc, "--new 2", TWO_BATCHES.as_bytes(), &fails)?;
         let written = first_lines(alloc, lines, "")?;
         assert_eq!(rt; run.sink.octets(), written.as_slice());
-        assert_eq!(rt; (run.finished.status, run.finished.line), (4, 0));
+        assert_eq!(rt; run.finished.ending, Ending::Sink);
         assert_eq!(rt; run.finished.history.len(), entries);
     }
     Ok(())
@@ -209,12 +230,12 @@ fn a_sink_of_single_octets_may_fail_at_any_call(rt: HostRuntime) -> Result<(), F
         let mut sink = StdSink::new(&mut writer);
         let finished = console(alloc, &words_of(alloc, "--new 2")?, &mut source, &mut sink);
         assert_eq!(rt; written.as_slice(), &report[..most]);
-        let ends_with = if most == report.len() { (2, 3) } else { (4, 0) };
-        assert_eq!(rt;
-            (finished.status, finished.line),
-            ends_with,
-            "{most} octets"
-        );
+        let ending = if most == report.len() {
+            Ending::BadLine { line: 3 }
+        } else {
+            Ending::Sink
+        };
+        assert_eq!(rt; finished.ending, ending, "{most} octets");
     }
     Ok(())
 }
@@ -279,12 +300,28 @@ fn scripts_are_taken_up_to_their_limits(rt: HostRuntime) -> Result<(), Fail> {
     for (octet, most, line) in [(b' ', 200, 1), (b'\n', 16_384, 16_385)] {
         let full = vec![in alloc; octet; most]?;
         let over = vec![in alloc; octet; most + 1]?;
-        for (script, status, line) in [(full.as_slice(), 0, 0), (over.as_slice(), 2, line)] {
-            let run = run_text(alloc, "--new 2", script, &[])?;
-            assert_eq!(rt; (run.finished.status, run.finished.line), (status, line));
-        }
+        let run = run_text(alloc, "--new 2", full.as_slice(), &[])?;
+        assert_eq!(rt; run.finished.ending, Ending::Whole);
+        let run = run_text(alloc, "--new 2", over.as_slice(), &[])?;
+        assert_eq!(rt; run.finished.ending, Ending::BadLine { line });
     }
     Ok(())
+}
+
+/// Each ending has its status, and a faulty line its number.
+#[test]
+fn endings_have_a_status_and_a_line(rt: HostRuntime) {
+    let table = [
+        (Ending::Whole, 0, 0),
+        (Ending::NoGroup, 1, 0),
+        (Ending::BadLine { line: 7 }, 2, 7),
+        (Ending::Source, 3, 0),
+        (Ending::Sink, 4, 0),
+        (Ending::Memory, 5, 0),
+    ];
+    for (ending, status, line) in table {
+        assert_eq!(rt; (ending.status(), ending.line()), (status, line));
+    }
 }
 
 /// What the console ended with, and the source and the sink that it left.

@@ -1,5 +1,5 @@
--- Blocks of 16 bytes, and the steps of a round (FIPS 197 section 5). A state has 4 rows and 4 columns, and is the list of its 16 bytes, column
--- by column: the byte in row r and column c is at place r + 4c (section 3.4).
+-- Blocks of 16 bytes, and the steps of a round (FIPS 197 section 5). A state has 4 rows and 4 columns, and is the list of its 16 bytes,
+-- column by column: the byte in row r and column c is at place r + 4c (section 3.4).
 use Rattle.std.specs.Prelude.{ℕ, ◌+◌, ◌-◌, ◌*◌, ◌%◌, List, [], ◌∷◌, map, take, drop, bit_xor, slice_index_or}
 use Rattle.std.specs.List.{range_with_len, flat_map, zip}
 use Rattle.gd_cipher.specs.Fields.{times, substitute, undo_substitute}
@@ -48,8 +48,8 @@ mix_by p q r s state =
 abbrev pub mix_columns : List ℕ → List ℕ
 mix_columns state = mix_by 0x02 0x03 0x01 0x01 state
 
--- The inverse of `shift_rows`, where each row moves to the right (section 5.3.1): the byte in row r and column c comes from row r and column
--- (c + 4 - r) mod 4.
+-- The inverse of `shift_rows`, where each row moves to the right (section 5.3.1): the byte in row r and column c comes from row r and
+-- column (c + 4 - r) mod 4.
 abbrev pub undo_shift_rows : List ℕ → List ℕ
 undo_shift_rows state = state_of (λ row column. byte_at state row ((column + 4 - row) % 4))
 

@@ -1,5 +1,5 @@
--- Cipher block chaining (SP 800-38A section 6.2): each block is chained with the one before it, and the first one with the IV. Texts have whole
--- blocks.
+-- Cipher block chaining (SP 800-38A section 6.2): each block is chained with the one before it, and the first one with the IV. Texts have
+-- whole blocks.
 use Rattle.std.specs.Prelude.{◌≡◌, ℕ, ◌*◌, ◌%◌, ◌<◌, List, ◌++◌, length}
 use Rattle.gd_cipher.specs.Blocks.{xor_all, block_at}
 use Rattle.gd_cipher.specs.Ciphers.{cipher, decipher}
@@ -10,7 +10,8 @@ pub record IsSealed (key iv text sealed : List ℕ) : Type 0 where
   pub len : length sealed ≡ length text
   pub blocks : (i : ℕ) → 16 * i < length text → block_at sealed i ≡ cipher key (xor_all (block_at text i) (block_at (iv ++ sealed) i))
 
--- Block i of the opened text is the sum of block i of the sealed text, deciphered, and what stands before that block in the IV and the sealed text.
+-- Block i of the opened text is the sum of block i of the sealed text, deciphered, and what stands before that block in the IV and the
+-- sealed text.
 pub record IsOpened (key iv sealed text : List ℕ) : Type 0 where
   pub whole : length text % 16 ≡ 0
   pub len : length text ≡ length sealed

@@ -19,12 +19,12 @@ padded pad key = xor_all (block_key key) (replicate 64 pad)
 abbrev pub hmac : List ℕ → List ℕ → List ℕ
 hmac key text = sha256 (padded 0x5c key ++ sha256 (padded 0x36 key ++ text))
 
--- A text so far has been taken under a key: the inner hasher holds the key with the inner pad added and then the text, and the outer one holds
--- the key with the outer pad added.
+-- A text so far has been taken under a key: the inner hasher holds the key with the inner pad added and then the text, and the outer one
+-- holds the key with the outer pad added.
 abbrev pub IsHmacOf : Hmac → List ℕ → List ℕ → Type 0
 IsHmacOf hash key text = Holds256 hash.inner (padded 0x36 key ++ text) × Holds256 hash.outer (padded 0x5c key)
 
--- The IV of the first message of a phase 2 exchange, as quick mode is (RFC 2409 appendix B), where SHA-256 is the negotiated hash: of the hash
--- of the last cipher block of phase 1 and the message id, as many bytes as a block has.
+-- The IV of the first message of a phase 2 exchange, as quick mode is (RFC 2409 appendix B), where SHA-256 is the negotiated hash: of the
+-- hash of the last cipher block of phase 1 and the message id, as many bytes as a block has.
 abbrev pub phase2_iv : List ℕ → List ℕ → List ℕ
 phase2_iv last message = take 16 (sha256 (last ++ message))

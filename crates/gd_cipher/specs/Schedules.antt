@@ -27,7 +27,7 @@ changed_word nk i word =
     else (if nat_lt 6 nk && (i % nk == 4) then map substitute word
     else word)
 
--- the word behind these
+-- the word after these
 abbrev pub next_word : ℕ → List ℕ → List ℕ
 next_word nk bytes =
     let i = length bytes / 4 in

@@ -7,7 +7,7 @@ ghost use Rattle.gd_cipher.specs.Words.{bytes_of};
 
 use crate::tables::substituted;
 
-/// Writes the words behind the first `key_words` of a key's schedule (FIPS 197 section 5.2).
+/// Writes the words after the first `key_words` of a key's schedule (FIPS 197 section 5.2).
 pub(crate) fn expand(words: &mut [u32], key_words: usize)
     requires key { 4 ≤ key_words }
     requires few { key_words ≤ 8 }

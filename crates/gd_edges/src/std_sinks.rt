@@ -8,7 +8,7 @@ use crate::{Failed, Sink};
 use std::io::Write;
 use std::marker::Model;
 
-/// A writer of std as a sink: it tells nothing, since a flush may fail after octets went out, and counts the calls
+/// A writer of std as a sink: it exposes nothing, since a flush may fail after octets went out, and counts the calls
 /// that fail.
 #[derive(Drop)]
 pub struct StdSink<T> {
@@ -34,9 +34,7 @@ impl<T: Write> StdSink<T> {
 }
 
 impl<T: Write> Sink for StdSink<T> {
-    ghost written = { λ _. None };
-
-    ghost faults = { λ sink. sink.faults };
+    ghost shows = { λ sink. record { octets = None; faults = sink.faults } };
 
     /// One write and a flush. The call fails where either does, and where the writer takes no octet.
     fn put(&mut self, piece: &[u8]) -> Result<usize, Failed>
@@ -47,7 +45,7 @@ impl<T: Write> Sink for StdSink<T> {
         ensures cause { OnErr result (Rose self.old.faults self.new.faults) }
         ensures stands { OnOk result (self.new.faults ≡ self.old.faults) }
         ensures counted { self.old.faults ≤ self.new.faults }
-        // What the writer tells of itself: these octets are behind those that it had.
+        // What the writer itself exposes: these octets come after those that it had.
         ensures reached { IfOk result
             (λ n. Appends (T.contents self.old.inner) (T.contents self.new.inner) (take n piece.now)) }
         // Also a call that fails brings nothing to it but a front of the piece.

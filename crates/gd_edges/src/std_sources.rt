@@ -7,7 +7,7 @@ use crate::{Failed, Source};
 use std::io::Read;
 use std::marker::Model;
 
-/// A reader of std as a source: it tells what the reader tells, and counts the reads that fail.
+/// A reader of std as a source: it exposes what the reader exposes, and counts the reads that fail.
 #[derive(Drop)]
 pub struct StdSource<T> {
     reader: T,
@@ -32,9 +32,7 @@ impl<T: Read> StdSource<T> {
 }
 
 impl<T: Read> Source for StdSource<T> {
-    ghost left = { λ source. T.remaining source.inner };
-
-    ghost faults = { λ source. source.faults };
+    ghost shows = { λ source. record { octets = T.remaining source.inner; faults = source.faults } };
 
     /// One read. Where it fails, so does the call.
     fn take(&mut self, into: &mut [u8]) -> Result<usize, Failed>

@@ -48,9 +48,7 @@ impl TextSink {
 }
 
 impl Sink for TextSink {
-    ghost written = { λ sink. Some sink.written };
-
-    ghost faults = { λ sink. sink.faults };
+    ghost shows = { λ sink. record { octets = Some sink.written; faults = sink.faults } };
 
     /// A call that is listed fails, and so does one for which there is no memory; any other takes the whole piece.
     fn put(&mut self, piece: &[u8]) -> Result<usize, Failed>

@@ -52,9 +52,7 @@ impl TextSource {
 }
 
 impl Source for TextSource {
-    ghost left = { λ source. Some source.left };
-
-    ghost faults = { λ source. source.faults };
+    ghost shows = { λ source. record { octets = Some source.left; faults = source.faults } };
 
     /// A call that is listed fails and leaves all in place; any other moves as much as is left and fits.
     fn take(&mut self, into: &mut [u8]) -> Result<usize, Failed>

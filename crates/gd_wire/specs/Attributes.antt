@@ -1,5 +1,5 @@
--- Data attributes (RFC 2408 section 3.3): a kind of 15 bits behind a bit that tells the form. The short form goes on with a number of 2 octets, the
--- long form with a value of any size, behind the size of that in 2 octets.
+-- Data attributes (RFC 2408 section 3.3): a kind of 15 bits after a bit for the form. The short form goes on with a number of 2 octets, the
+-- long form with a value of any size, after the size of that in 2 octets.
 use Rattle.std.specs.Prelude.{ℕ, ◌+◌, ◌%◌, ◌==◌, ◌||◌, nat_le, Bool, List, [], ◌∷◌, ◌++◌, length, take, drop, Option, if◌then◌else◌}
 use Rattle.byteorder.specs.Endian.{big_from, big_bytes}
 use Rattle.group_terms.specs.declared.wires.WireFault.{WireFault}
@@ -37,7 +37,7 @@ module _ (text : List ℕ) (at : ℕ) where
   abbrev pub attribute_number : ℕ
   attribute_number = big_from (at + 2) 2 text
 
-  -- a field that is not whole is missing, and told where it begins; places count from base on
+  -- a field that is not whole is missing, a fault where it begins; places count from base on
   abbrev pub type_test : ℕ → Test
   type_test base = test (nat_le (at + 2) (length text)) Short (base + at)
 
@@ -53,14 +53,14 @@ module _ (text : List ℕ) (at : ℕ) where
   abbrev pub attribute_fault : ℕ → Option WireFault
   attribute_fault base = first_fault (attribute_tests base)
 
-  -- what an attribute without fault has: the place of its value, and that of what is behind it
+  -- what an attribute without fault has: the place of its value, and that of what is after it
   abbrev pub attribute_fields : Attribute
   attribute_fields =
       if is_short
       then record { kind = attribute_type % 32768; value = Values.Short attribute_number; next = at + 4 }
       else record { kind = attribute_type; value = Values.Long (at + 4) attribute_number; next = at + 4 + attribute_number }
 
-  -- Behind the last attribute the text ends: an octet left over is a type that is not whole, and two are a type that is not awaited.
+  -- After the last attribute the text ends: an octet left over is a type that is not whole, and two are a type that is not awaited.
   abbrev pub no_more_tests : ℕ → List Test
   no_more_tests base =
       test (at == length text || nat_le (at + 2) (length text)) Short (base + at)

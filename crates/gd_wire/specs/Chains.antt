@@ -1,5 +1,5 @@
--- Payloads one behind the other (RFC 2408 section 3.2): each begins with a header of four octets, the kind of the next one or 0, a reserved octet,
--- and the length of all of it in 2. Behind the last one zeros fill the last block of 16 octets (RFC 2409 appendix B).
+-- Payloads one after the other (RFC 2408 section 3.2): each begins with a header of four octets, the kind of the next one or 0, a reserved
+-- octet, and the length of all of it in 2. After the last one zeros fill the last block of 16 octets (RFC 2409 appendix B).
 use Rattle.std.specs.Prelude.{◌≡◌, ℕ, ◌+◌, ◌-◌, ◌%◌, ◌≤◌, ◌==◌, ◌&&◌, nat_le, nat_lt, not, Bool, List, [], ◌∷◌, ◌++◌, length, map, take, drop, replicate, All, Option, Result, Ok, Err, None, Some, is_none, if◌then◌else◌}
 use Rattle.std.specs.List.{list_all, position_or_len}
 use Rattle.byteorder.specs.Endian.{big_from, big_bytes}
@@ -93,7 +93,7 @@ payloads_at text parts = map (λ (part : Part). record { kind = part.kind; body 
 abbrev pub kinds_of : List Payload → List ℕ
 kinds_of payloads = map (λ (payload : Payload). payload.kind) payloads
 
--- payloads whose lengths can be told
+-- payloads whose lengths can be written
 abbrev pub PayloadsFit : List Payload → Type 0
 PayloadsFit payloads = All (λ (payload : Payload). length payload.body ≤ 65531) payloads
 

@@ -1,4 +1,4 @@
--- How a grammar of octets is told: tests in an order, of which the first that fails is the fault.
+-- How a grammar of octets is written down: tests in an order, of which the first that fails is the fault.
 use Rattle.std.specs.Prelude.{ℕ, Bool, List, [], ◌∷◌, slice_index_or, Option, None, Some, Result, Ok, Err, if◌then◌else◌}
 use Rattle.group_terms.specs.declared.wires.WireFault.{WireFault}
 use Rattle.group_terms.specs.declared.wires.WireWhat.{WireWhat}

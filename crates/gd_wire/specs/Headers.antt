@@ -1,7 +1,7 @@
--- The ISAKMP header (RFC 2408 section 3.1): two cookies of 8 octets, the kind of the first payload, the version 1.0, the exchange, the flags, a
--- message id of 4 octets, and the length of the datagram in 4. The exchange is 32 for GROUPKEY-PULL (RFC 6407 section 3) and 33 for
--- GROUPKEY-PUSH (section 4); of the flags that of encryption is set (sections 3.2 and 4.2), and by our choice no other. UDP over IPv4 holds 65,507
--- octets.
+-- The ISAKMP header (RFC 2408 section 3.1): two cookies of 8 octets, the kind of the first payload, the version 1.0, the exchange, the
+-- flags, a message id of 4 octets, and the length of the datagram in 4. The exchange is 32 for GROUPKEY-PULL (RFC 6407 section 3) and 33
+-- for GROUPKEY-PUSH (section 4); of the flags that of encryption is set (sections 3.2 and 4.2), and by our choice no other. UDP over IPv4
+-- holds 65,507 octets.
 use Rattle.std.specs.Prelude.{◌≡◌, ℕ, ◌+◌, ◌-◌, ◌%◌, ◌<◌, ◌≤◌, ◌==◌, ◌&&◌, nat_le, nat_lt, not, Bool, true, List, [], ◌∷◌, ◌++◌, length, take, drop, Option, if◌then◌else◌, All}
 use Rattle.byteorder.specs.Endian.{big_from, big_bytes}
 use Rattle.group_terms.specs.declared.wires.WireFault.{WireFault}
@@ -21,7 +21,8 @@ suits_exchange exchange message =
     else (if exchange == 33 then message == 0
     else true)
 
--- the length that is told is that of the datagram, which has whole blocks of 16 octets behind the header (RFC 2409 appendix B), at least one
+-- the length in the header is that of the datagram, which has whole blocks of 16 octets after the header (RFC 2409 appendix B), at least
+-- one
 abbrev pub is_due_length : ℕ → ℕ → Bool
 is_due_length told long = told == long && nat_lt 28 long && ((long - 28) % 16 == 0)
 
@@ -50,7 +51,7 @@ header_fields datagram = record {
   length = big_from 24 4 datagram;
 }
 
--- a header that suits what is behind it
+-- a header that suits what is after it
 pub record HeaderFits (header : Header) (body : List ℕ) : Type 0 where
   pub cookies : length header.cookies ≡ 16
   pub cookie_octets : All (λ octet. octet < 256) header.cookies

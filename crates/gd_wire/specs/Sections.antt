@@ -1,6 +1,6 @@
--- A section of a payload's body is itself like a payload (RFC 2408 section 3.2): it has a header of four octets, with a kind, a reserved octet, and the
--- length of the whole in 2. So do the payloads of the policies of an SA (RFC 6407 section 5.2), whose header names the kind of the next one, and by
--- our reading the key packets of a key download (section 5.6), whose header names their own.
+-- A section of a payload's body is itself like a payload (RFC 2408 section 3.2): it has a header of four octets, with a kind, a reserved
+-- octet, and the length of the whole in 2. So do the payloads of the policies of an SA (RFC 6407 section 5.2), whose header names the kind
+-- of the next one, and by our reading the key packets of a key download (section 5.6), whose header names their own.
 use Rattle.std.specs.Prelude.{ℕ, ◌+◌, ◌==◌, ◌&&◌, nat_le, List, [], ◌∷◌, length, take}
 use Rattle.std.specs.List.{list_any}
 use Rattle.group_terms.specs.declared.wires.WireWhat.TheVariants.{Length, Reserved, Kind}
@@ -20,7 +20,7 @@ module _ (body : List ℕ) where
       ∷ test (nat_le 4 (size_at body at) && nat_le (at + size_at body at) (length body)) Length (base + at + 2)
       ∷ []
 
-  -- the place behind the section that begins here, and the octets of the body up to there
+  -- the place after the section that begins here, and the octets of the body up to there
   abbrev pub section_end : ℕ → ℕ
   section_end at = at + size_at body at
 

@@ -8,7 +8,7 @@ use crate::fields::skip;
 use byteorder::{BigEndian, ByteOrder};
 use group_terms::{NoMemory, Octets, WireFault, WireWhat};
 
-/// The bit that tells the short form.
+/// The bit of the short form.
 const SHORT_FORM: u16 = 0x8000;
 
 /// What an attribute says (RFC 2408 section 3.3).
@@ -17,7 +17,7 @@ pub struct Attribute {
     /// Its kind, without the bit of the form.
     pub kind: u16,
     pub value: AttrValue,
-    /// The place in the text of what is behind it.
+    /// The place in the text of what is after it.
     pub next: usize,
 }
 

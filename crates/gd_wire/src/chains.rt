@@ -1,4 +1,4 @@
-//! Payloads one behind the other.
+//! Payloads one after the other.
 ghost use Rattle.std.specs.Prelude.{◌≡◌, ◌+◌, ◌≤◌, ◌<◌, ◌++◌, [], ◌∷◌, length, not, OnOk, OnErr, IfOk, IfErr, IfSome, All};
 ghost use Rattle.std.specs.List.{position};
 ghost use Rattle.group_terms.specs.declared.wires.WireWhat.TheVariants.{Kind};
@@ -72,7 +72,7 @@ pub struct ChainFault {
     pub before: Chain,
 }
 
-/// Reads a chain of just these kinds of payloads, and the zeros behind it (RFC 2408 section 3.2). Their bodies are not read.
+/// Reads a chain of just these kinds of payloads, and the zeros after it (RFC 2408 section 3.2). Their bodies are not read.
 ///
 /// `first` is the kind that the header of the datagram names, in the octet at 16; the text's first octet has the place `base` in the
 /// datagram.
@@ -113,7 +113,7 @@ struct Walk {
 }
 
 impl Walk {
-    /// Reads the generic header of a payload of this kind, and goes on behind its body.
+    /// Reads the generic header of a payload of this kind, and goes on after its body.
     fn payload(&mut self, kind: u8, text: &[u8], base: u32) -> Result<Part, WireFault>
         requires within { self.old.at ≤ length text.now }
         requires small { base + length text.now ≤ 4294967295 }
@@ -150,7 +150,7 @@ impl Walk {
         Ok(part)
     }
 
-    /// Reads what stands behind the last payload.
+    /// Reads what comes after the last payload.
     fn end(&self, text: &[u8], base: u32) -> Result<(), WireFault>
         requires within { self.now.at ≤ length text.now }
         requires small { base + length text.now ≤ 4294967295 }

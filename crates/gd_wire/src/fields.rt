@@ -9,7 +9,7 @@ use crate::faults::fault;
 use byteorder::{BigEndian, ByteOrder};
 use group_terms::{WireFault, WireWhat};
 
-/// The place behind a field of this size; else `Short`, where it begins.
+/// The place after a field of this size; else `Short`, where it begins.
 pub fn skip(text: &[u8], at: usize, size: usize, base: u32) -> Result<usize, WireFault>
     requires within { at ≤ length text.now }
     requires small { base + length text.now ≤ 4294967295 }

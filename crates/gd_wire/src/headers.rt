@@ -29,8 +29,8 @@ pub struct Header {
     pub length: u32,
 }
 
-/// Reads the header of a datagram of this exchange; else the first fault: a header that is cut off is told at the datagram's end, a datagram of
-/// more than 65,507 octets at that place, and anything else at its field.
+/// Reads the header of a datagram of this exchange; else the first fault: a header that is cut off is a fault at the datagram's end, a
+/// datagram of more than 65,507 octets at that place, and anything else at its field.
 pub fn read_header(datagram: &[u8], exchange: u8) -> Result<Header, WireFault>
     ensures { result ≡ answer (header_fault exchange datagram.now) (header_fields datagram.now) }
 {
@@ -71,7 +71,7 @@ fn suits_exchange(exchange: u8, message: u32) -> bool
     }
 }
 
-/// Whether a datagram has the length that is told, and whole blocks behind its header.
+/// Whether a datagram has the length in its header, and whole blocks after its header.
 fn is_due_length(told: u32, long: usize) -> bool
     requires { 28 ≤ long }
     ensures { result ≡ is_due_length told long }

@@ -20,7 +20,7 @@ pub fn a_header_has_one_text()
         header_text (header_fields datagram) ≡ take 28 datagram }
 {}
 
-/// An attribute that is written is read, whatever stands before and behind it.
+/// An attribute that is written is read, whatever comes before and after it.
 pub fn a_written_attribute_is_read()
     ensures short { (kind number base : ℕ) (before after : List ℕ) → kind < 32768 → number < 65536 →
         let text = before ++ short_text kind number ++ after in
@@ -38,7 +38,7 @@ pub fn an_attribute_has_one_text()
         attribute_text text (attribute_fields text at) ≡ take ((attribute_fields text at).next - at) (drop at text) }
 {}
 
-/// Payloads that are written with fewer than 16 zeros behind them are read.
+/// Payloads that are written with fewer than 16 zeros after them are read.
 pub fn written_payloads_are_read()
     ensures fault { (payloads : List Payload) (zeros base : ℕ) → PayloadsFit payloads → zeros < 16 →
         chain_fault (payloads_text payloads ++ replicate zeros 0) base (kinds_of payloads) (first_kind payloads) ≡ None }
@@ -47,7 +47,7 @@ pub fn written_payloads_are_read()
         payloads_at text (chain_parts text base (kinds_of payloads) (first_kind payloads)) ≡ payloads }
 {}
 
-/// A chain without fault is the text of its payloads, of the kinds that were due, with fewer than 16 zeros behind; in a text of whole blocks
+/// A chain without fault is the text of its payloads, of the kinds that were due, with fewer than 16 zeros after; in a text of whole blocks
 /// these are the zeros that fill the last one.
 pub fn a_chain_has_one_text()
     ensures kinds { (text due : List ℕ) (base first : ℕ) → chain_fault text base due first ≡ None → kinds_of (payloads_at text (chain_parts text base due first)) ≡ due }
@@ -57,8 +57,8 @@ pub fn a_chain_has_one_text()
         text ≡ padded (payloads_text (payloads_at text (chain_parts text base due first))) }
 {}
 
-/// What is read of a datagram of octets without fault can be written again: its header suits what is behind it, and the lengths of its
-/// payloads can be told.
+/// What is read of a datagram of octets without fault can be written again: its header suits what is after it, and the lengths of its
+/// payloads can be written.
 pub fn what_is_read_can_be_written()
     ensures header { (exchange : ℕ) (datagram : List ℕ) → All (λ octet. octet < 256) datagram → header_fault exchange datagram ≡ None →
         HeaderFits (header_fields datagram) (drop 28 datagram) }

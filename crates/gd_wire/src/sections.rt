@@ -10,7 +10,7 @@ use group_terms::{WireFault, WireWhat};
 /// The size of a section's header.
 const HEADER: usize = 4;
 
-/// A section: the kind that its header names, its own or that of the next one, and the place behind it.
+/// A section: the kind that its header names, its own or that of the next one, and the place after it.
 #[derive(Clone, Copy, Debug, PartialEq, Eq)]
 pub struct Section {
     pub kind: u8,

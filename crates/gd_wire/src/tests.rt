@@ -145,7 +145,7 @@ fn chains_have_just_what_is_due(rt: HostRuntime) -> Result<(), Fail> {
     Ok(())
 }
 
-/// Fewer than 16 zeros may stand behind the payloads.
+/// Fewer than 16 zeros may come after the payloads.
 #[test]
 fn zeros_fill_less_than_a_block(rt: HostRuntime) {
     let octets = [

@@ -13,7 +13,8 @@ fn main(rt: HostRuntime) -> ExitCode {
         Ok(words) => {
             let mut script = StdSource::new(rt.stdin());
             let mut out = StdSink::new(rt.stdout());
-            ExitCode::from(console(rt.alloc(), &words, &mut script, &mut out).status)
+            let finished = console(rt.alloc(), &words, &mut script, &mut out);
+            ExitCode::from(finished.ending.status())
         }
         Err(AllocError) => ExitCode::from(5),
     }

@@ -1,9 +1,9 @@
 -- The holders and last changes of an epoch, and what one batch more does to them.
-use Rattle.std.proofs.Common.{◌≡◌, ℕ, zero, suc, ◌+◌, ◌/◌, ◌^◌, ◌<◌, ◌≤◌, Bool, true, false, cond, not, eqb, ltb, ◌&&◌, List, [], ◌∷◌, ◌++◌, Option, Some, None, length, take, get_or, replicate, sym, refl, ap, ◌∙◌, subst, arith, inl, inr}
+use Rattle.std.proofs.Common.{◌≡◌, ℕ, zero, suc, ◌+◌, ◌/◌, ◌^◌, ◌<◌, ◌≤◌, Bool, true, false, cond, not, eqb, ltb, ◌&&◌, List, [], ◌∷◌, ◌++◌, Option, Some, None, length, take, get_or, replicate, sym, refl, ap, ◌∙◌, arith, inl, inr}
 use Rattle.std.specs.List.{fold, list_any, position, position_or_len, enumerate_from, zip}
 use Rattle.std.specs.Option.{option_map}
 use Rattle.std.proofs.lemmas.Bool.{cases_lt, or_cases, and_right, eq-eqb, eqb-true, ne_eqb, le-ltb, false_from_ne_true}
-use Rattle.std.proofs.lemmas.List.{length-map, length-set, length-replicate, length-append, take-append-le, take_all, get_or_past, get_or-replicate}
+use Rattle.std.proofs.lemmas.List.{length-map, length-set, length-replicate, take-append-le, take_all, get_or_past, get_or-replicate}
 use Rattle.std.proofs.lemmas.List.Elements.{All-replicate}
 use Rattle.std.proofs.lemmas.List.Folds.{list_any_none}
 use Rattle.std.proofs.lemmas.List.FromFn.{get_or-map-range_with_len, length-map-range_with_len, fill_by_all}
@@ -16,7 +16,8 @@ use Rattle.group_terms.specs.Positions.{is_below, some_leaf_below}
 use Rattle.group_terms.specs.declared.changes.Change.{Change}
 use Rattle.group_model.specs.Places.{Holders, no_holders, is_held_by, is_member, place_in, vacated, placed, leavers, joiners, holders_after, holders_of, holders_at, Fits, FitInTurn}
 use Rattle.group_model.specs.Fresh.{is_same_holder, changed_leaves, is_fresh, last_change}
-use Rattle.group_model.specs.Trees.{made_at, is_made_in, StandsAt, HasShape}
+use Rattle.group_model.specs.Private.Trees.{is_made_in, StandsAt, HasShape}
+use Rattle.group_model.specs.Present.{changes_at}
 use Rattle.group_model.specs.declared.trees.Tree.{Tree}
 
 pow_pos_at : (n : ℕ) → 0 < 2 ^ n
@@ -48,12 +49,6 @@ holders_at-append depth batches batch epoch early = ap (holders_of depth) (take-
 pub holders_at-all : (depth : ℕ) (batches : List (List Change)) (epoch : ℕ) → length batches ≤ epoch → holders_at depth batches epoch ≡ holders_of depth batches
 holders_at-all depth batches epoch late = ap (holders_of depth) (take_all epoch batches late)
 
--- the new batch works on the holders before it
-pub holders_at-new : (depth : ℕ) (batches : List (List Change)) (batch : List Change) → holders_at depth (batches ++ batch ∷ []) (length batches + 1) ≡ holders_after (holders_of depth batches) batch
-holders_at-new depth batches batch =
-    holders_at-all depth (batches ++ batch ∷ []) (length batches + 1) (rw length-append (omega arith))
-    ∙ fold-append_one holders_after (no_holders depth) batches batch
-
 pub last_change-append : (depth : ℕ) (batches : List (List Change)) (batch : List Change) (epoch v : ℕ) → epoch ≤ length batches → last_change depth (batches ++ batch ∷ []) epoch v ≡ last_change depth batches epoch v
 unfolding last_change
 last_change-append depth batches batch zero v early = refl
@@ -62,11 +57,11 @@ last_change-append depth batches batch (suc epoch) v early =
     refl
 
 -- what is kept of a last change
-pub get_or-made_at : (depth : ℕ) (batches : List (List Change)) (epoch v : ℕ) → v < 2 ^ (depth + 1) → get_or (made_at depth batches epoch) v None ≡ last_change depth batches epoch v
-get_or-made_at depth batches epoch v low = get_or-map-range_with_len (last_change depth batches epoch) 0 (2 ^ (depth + 1)) v v None low (omega arith)
+pub get_or-changes_at : (depth : ℕ) (batches : List (List Change)) (epoch v : ℕ) → v < 2 ^ (depth + 1) → get_or (changes_at depth batches epoch) v None ≡ last_change depth batches epoch v
+get_or-changes_at depth batches epoch v low = get_or-map-range_with_len (last_change depth batches epoch) 0 (2 ^ (depth + 1)) v v None low (omega arith)
 
-pub length-made_at : (depth : ℕ) (batches : List (List Change)) (epoch : ℕ) → length (made_at depth batches epoch) ≡ 2 ^ (depth + 1)
-length-made_at depth batches epoch = length-map-range_with_len (last_change depth batches epoch) 0 (2 ^ (depth + 1))
+pub length-changes_at : (depth : ℕ) (batches : List (List Change)) (epoch : ℕ) → length (changes_at depth batches epoch) ≡ 2 ^ (depth + 1)
+length-changes_at depth batches epoch = length-map-range_with_len (last_change depth batches epoch) 0 (2 ^ (depth + 1))
 
 -- nobody is a member at epoch 0
 pub is_member-no_holders : (depth : ℕ) (m : Name) → is_member (no_holders depth) m ≡ false
@@ -112,7 +107,7 @@ FitInTurn-last holders (first ∷ batches) batch h = FitInTurn-last (holders_aft
 pub HasShape-from_stands : (depth : ℕ) (batches : List (List Change)) (epoch : ℕ) (tree : Tree) → StandsAt depth batches epoch tree → HasShape depth tree
 HasShape-from_stands depth batches epoch tree h = record {
   leaves = ap length h.holders ∙ length-holders_of depth (take epoch batches);
-  positions = ap length h.made ∙ length-made_at depth batches epoch;
+  positions = ap length h.made ∙ length-changes_at depth batches epoch;
 }
 
 -- at epoch 0 nobody has a place
@@ -164,18 +159,13 @@ last_change-past depth batches (suc epoch) v past =
     rw (not_root, unmarked) (last_change-past depth batches epoch v past)
 
 -- what is kept tells the last change of every number
-pub last_change-kept : (depth : ℕ) (batches : List (List Change)) (epoch v : ℕ) → get_or (made_at depth batches epoch) v None ≡ last_change depth batches epoch v
+pub last_change-kept : (depth : ℕ) (batches : List (List Change)) (epoch v : ℕ) → get_or (changes_at depth batches epoch) v None ≡ last_change depth batches epoch v
 last_change-kept depth batches epoch v = elim (cases_lt v (2 ^ (depth + 1))) [
-  | inl low ↦ get_or-made_at depth batches epoch v low
-  | inr past ↦ get_or_past (made_at depth batches epoch) v None (omega (arith, past, length-made_at depth batches epoch)) ∙ sym (last_change-past depth batches epoch v past)
+  | inl low ↦ get_or-changes_at depth batches epoch v low
+  | inr past ↦ get_or_past (changes_at depth batches epoch) v None (omega (arith, past, length-changes_at depth batches epoch)) ∙ sym (last_change-past depth batches epoch v past)
 ]
 
-made_at-first : (depth : ℕ) (batches : List (List Change)) → replicate (2 ^ (depth + 1)) None ≡ made_at depth batches 0
+pub changes_at-first : (depth : ℕ) (batches : List (List Change)) → replicate (2 ^ (depth + 1)) None ≡ changes_at depth batches 0
 unfolding last_change
-made_at-first depth batches =
+changes_at-first depth batches =
     fill_by_all (λ v. None) (replicate (2 ^ (depth + 1)) None) (2 ^ (depth + 1)) None (length-replicate (2 ^ (depth + 1)) None) (λ k low. get_or-replicate (2 ^ (depth + 1)) k None None low)
-
--- the empty tree is that of epoch 0
-pub StandsAt-first : (depth : ℕ) (batches : List (List Change)) (epoch : ℕ) (tree : Tree) → epoch ≡ 0 → tree.holders ≡ no_holders depth → tree.made ≡ replicate (2 ^ (depth + 1)) None → StandsAt depth batches epoch tree
-StandsAt-first depth batches epoch tree first held made =
-    subst (λ e. StandsAt depth batches e tree) (sym first) (record { holders = held; made = made ∙ made_at-first depth batches })

@@ -1,16 +1,20 @@
 -- What the test of a batch finds.
-use Rattle.std.proofs.Common.{◌≡◌, ℕ, suc, ◌+◌, ◌-◌, ◌^◌, ◌<◌, ◌≤◌, Bool, true, false, cond, not, ltb, leb, ◌&&◌, ◌||◌, List, [], ◌∷◌, Some, None, length, map, take, drop, get_or, is_some, sym, refl, ap, ◌∙◌, subst, arith, inl, inr}
+use Rattle.std.proofs.Common.{◌≡◌, ℕ, suc, ◌+◌, ◌-◌, ◌^◌, ◌<◌, ◌≤◌, Bool, true, false, cond, not, ltb, ◌&&◌, ◌||◌, List, [], ◌∷◌, Some, None, length, map, take, drop, get_or, is_some, sym, refl, ap, ◌∙◌, subst, arith, inl, inr}
 use Rattle.std.specs.Prelude.{Decides}
 use Rattle.std.specs.List.{list_any, list_all, position_or_len}
 use Rattle.std.specs.Option.{option_map}
-use Rattle.std.proofs.lemmas.Bool.{cases_lt, and_parts, lt-ltb, le-ltb, le-leb, leb-true, false≢true}
-use Rattle.std.proofs.lemmas.List.{at_drop_more, take_rest}
+use Rattle.std.proofs.lemmas.Bool.{cases_lt, and_parts, lt-ltb, le-ltb, false≢true}
+use Rattle.std.proofs.lemmas.List.{at_drop_more, take_rest, length-replicate, nil_from_length}
+use Rattle.std.proofs.lemmas.List.Folds.{list_any_none}
+use Rattle.std.proofs.lemmas.Grind.{common_steps}
 use Rattle.group_terms.specs.Names.{Name, same_name}
 use Rattle.group_terms.specs.Changes.{member_of}
 use Rattle.group_terms.specs.declared.changes.Change.{Change}
 use Rattle.group_terms.specs.declared.changes.Change.TheVariants.{Out, In}
-use Rattle.group_model.specs.Places.{Holders, Fits, is_held_by, is_member, place_in, member_count, leavers, joiners, names_once}
-use Rattle.group_model.specs.Suits.{suits}
+use Rattle.group_model.specs.Places.{Holders, no_holders, Fits, is_held_by, is_member, place_in, member_count, leavers, joiners, names_once}
+use Rattle.group_model.specs.Private.Suits.{suits}
+use Rattle.group_model.proofs.EpochLemmas.{is_member-no_holders}
+use Rattle.group_model.proofs.QueueLemmas.{leavers_few, length-changes}
 
 ltb-suc : (a b : ℕ) → ltb a b ≡ ltb (1 + a) (suc b)
 ltb-suc a b = elim (cases_lt a b) [
@@ -71,10 +75,6 @@ Fits-from_tests holders batch suit once room =
     strangers true h = absurd (false≢true h)
     strangers false h = refl
 
--- a comparison of numbers that are those that are meant
-pub room-test : (a b x y : ℕ) → a ≡ x → b ≡ y → Decides (leb a b) (x ≤ y)
-room-test a b x y p q = (λ h. omega (arith, p, q, leb-true a b h), λ h. le-leb a b (omega (arith, p, q, h)))
-
 -- where the tests before it pass, the last one tells
 pub Fits-last_test : (holders : Holders) (changes batch : List Change) (suit once room : Bool) → changes ≡ batch → suit ≡ list_all (suits holders) changes → suit ≡ true → once ≡ names_once (map member_of changes) → once ≡ true → Decides room (member_count holders + length (joiners changes) ≤ length holders + length (leavers changes)) → Decides room (Fits holders batch)
 Fits-last_test holders changes batch suit once room same suit_is suits_all once_is names_all room_is =
@@ -97,3 +97,21 @@ named-at changes i change m named low at who h =
     ∙ sym (list_any-map (same_name first) member_of rest) in
     at_drop_more (λ list. names_once (map member_of list)) changes i change low
     ∙ ap (λ b. not b && names_once (map member_of rest)) (sym step)
+
+-- a batch can be the first where nobody goes out, no name comes twice, and there is a leaf for each
+pub Fits-first : (depth : ℕ) (batch : List Change) → ((length (leavers batch) ≡ 0) × (names_once (map member_of batch) ≡ true) × (length batch ≤ 2 ^ depth) → Fits (no_holders depth) batch) × (Fits (no_holders depth) batch → (length (leavers batch) ≡ 0) × (names_once (map member_of batch) ≡ true) × (length batch ≤ 2 ^ depth))
+Fits-first depth batch = (first, λ fits. (omega (arith, leavers_few (no_holders depth) batch fits, nobody_there), fits.once, omega (arith, fits.room, nobody_there, whole, length-changes batch, leavers_few (no_holders depth) batch fits)))
+  where
+    nobody_there : member_count (no_holders depth) ≡ 0
+    nobody_there = grind (arith, common_steps)
+
+    whole : length (no_holders depth) ≡ 2 ^ depth
+    whole = length-replicate (2 ^ depth) None
+
+    first : (length (leavers batch) ≡ 0) × (names_once (map member_of batch) ≡ true) × (length batch ≤ 2 ^ depth) → Fits (no_holders depth) batch
+    first h = record {
+      from_members = ap (list_all (is_member (no_holders depth))) (nil_from_length (leavers batch) h.0);
+      from_strangers = list_any_none (is_member (no_holders depth)) (joiners batch) (λ k m low. is_member-no_holders depth (get_or (joiners batch) k m));
+      once = h.1;
+      room = omega (arith, h.0, h.2, nobody_there, whole, length-changes batch);
+    }

@@ -14,13 +14,13 @@ use Rattle.group_model.specs.Stayed.{has_stayed}
 use Rattle.group_model.proofs.EpochLemmas.{length-holders_after, FitInTurn-at}
 use Rattle.group_model.proofs.StayedLemmas.{same_name-is, none_of, held_after, and_true, and_false}
 
--- the place in the list of a member's leaf
-pub place_found : (depth : ℕ) (holders : Holders) (m : Name) (leaf : ℕ) → place_in depth holders m ≡ Some leaf → (i : ℕ) × (2 ^ depth + i ≡ leaf) × (is_held_by m (get_or holders i None) ≡ true)
-place_found depth holders m leaf h = found (position (is_held_by m) holders) refl h
+-- the leaf that is a member's place is held by it
+pub place_found : (depth leaf : ℕ) (holders : Holders) (m : Name) → place_in depth holders m ≡ Some leaf → (i : ℕ) × (leaf ≡ 2 ^ depth + i) × (is_held_by m (get_or holders i None) ≡ true)
+place_found depth leaf holders m h = found (position (is_held_by m) holders) refl h
   where
-    found : (at : Option ℕ) → position (is_held_by m) holders ≡ at → option_map (λ i. 2 ^ depth + i) at ≡ Some leaf → (i : ℕ) × (2 ^ depth + i ≡ leaf) × (is_held_by m (get_or holders i None) ≡ true)
+    found : (at : Option ℕ) → position (is_held_by m) holders ≡ at → option_map (λ i. 2 ^ depth + i) at ≡ Some leaf → (i : ℕ) × (leaf ≡ 2 ^ depth + i) × (is_held_by m (get_or holders i None) ≡ true)
     found None at h = absurd (none-some leaf h)
-    found (Some i) at h = (i, same_Some (2 ^ depth + i) leaf h, (position-Some (is_held_by m) holders i None at).1)
+    found (Some i) at h = (i, sym (same_Some (2 ^ depth + i) leaf h), (position-Some (is_held_by m) holders i None at).1)
 
 one_holder : (m n : Name) (holder : Option Name) → is_held_by m holder ≡ true → is_held_by n holder ≡ true → m ≡ n
 one_holder m n None h k = absurd (false≢true h)
@@ -28,8 +28,8 @@ one_holder m n (Some name) h k = same_name-is m name h ∙ sym (same_name-is n n
 
 pub one_leaf : (depth : ℕ) (holders : Holders) (m n : Name) (leaf : ℕ) → place_in depth holders m ≡ Some leaf → place_in depth holders n ≡ Some leaf → m ≡ n
 one_leaf depth holders m n leaf h k =
-    let a = place_found depth holders m leaf h in
-    let b = place_found depth holders n leaf k in
+    let a = place_found depth leaf holders m h in
+    let b = place_found depth leaf holders n k in
     let same : b.0 ≡ a.0 = omega (arith, a.1, b.1) in
     one_holder m n (get_or holders a.0 None) a.2 (subst (λ i. is_held_by n (get_or holders i None) ≡ true) same b.2)
 
@@ -42,7 +42,7 @@ position_or_len-agree p (x ∷ xs) (y ∷ ys) d same agree =
     ap (λ b. cond (not b) (1 + position_or_len p xs) 0) (agree 0)
     ∙ ap (λ n. cond (not (p y)) (1 + n) 0) (position_or_len-agree p xs ys d (omega (arith, same)) (λ i. agree (suc i)))
 
-place_in-agree : (depth : ℕ) (before after : Holders) (m : Name) → length after ≡ length before → ((i : ℕ) → is_held_by m (get_or after i None) ≡ is_held_by m (get_or before i None)) → place_in depth after m ≡ place_in depth before m
+pub place_in-agree : (depth : ℕ) (before after : Holders) (m : Name) → length after ≡ length before → ((i : ℕ) → is_held_by m (get_or after i None) ≡ is_held_by m (get_or before i None)) → place_in depth after m ≡ place_in depth before m
 place_in-agree depth before after m same agree =
     let first = position_or_len-agree (is_held_by m) after before None same agree in
     ap (λ n. option_map (λ i. 2 ^ depth + i) (cond (ltb n (length after)) (Some n) None)) first

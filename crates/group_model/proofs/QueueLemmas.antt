@@ -1,5 +1,5 @@
 -- The pending changes always fit, and are never as many as a batch has room for.
-use Rattle.std.proofs.Common.{◌≡◌, ℕ, ◌+◌, ◌<◌, ◌≤◌, Bool, true, false, cond, not, ◌||◌, List, [], ◌∷◌, ◌++◌, Option, Some, None, length, map, sym, refl, ap, ◌∙◌, subst, arith, inl, inr}
+use Rattle.std.proofs.Common.{◌≡◌, ℕ, ◌+◌, ◌*◌, ◌<◌, ◌≤◌, Bool, true, false, cond, not, ◌||◌, List, [], ◌∷◌, ◌++◌, Option, Some, None, length, map, sym, refl, ap, ◌∙◌, subst, arith, inl, inr}
 use Rattle.std.specs.Prelude.{is_some, filter}
 use Rattle.std.specs.List.{list_any, list_all}
 use Rattle.std.proofs.lemmas.Bool.{cases_Bool, not-true, and_parts, and_from, or_parts, or_cases, or_left, or_right, false≢true, false_from_ne_true}
@@ -92,8 +92,23 @@ leavers_once (Out n ∷ batch) h =
     rw (leaver_named n batch (not-true (list_any (same_name n) (map member_of batch)) parts.0), leavers_once batch parts.1) refl
 leavers_once (In n ∷ batch) h = leavers_once batch (and_parts (not (list_any (same_name n) (map member_of batch))) (names_once (map member_of batch)) h).1
 
+-- so are those of who comes in
+joiner_named : (m : Name) (batch : List Change) → list_any (same_name m) (map member_of batch) ≡ false → list_any (same_name m) (joiners batch) ≡ false
+joiner_named m [] h = refl
+joiner_named m (Out n ∷ batch) h = joiner_named m batch (or_parts (same_name m n) (list_any (same_name m) (map member_of batch)) h).1
+joiner_named m (In n ∷ batch) h =
+    let parts = or_parts (same_name m n) (list_any (same_name m) (map member_of batch)) h in
+    rw (parts.0, joiner_named m batch parts.1) refl
+
+pub joiners_once : (batch : List Change) → names_once (map member_of batch) ≡ true → names_once (joiners batch) ≡ true
+joiners_once [] h = refl
+joiners_once (Out n ∷ batch) h = joiners_once batch (and_parts (not (list_any (same_name n) (map member_of batch))) (names_once (map member_of batch)) h).1
+joiners_once (In n ∷ batch) h =
+    let parts = and_parts (not (list_any (same_name n) (map member_of batch))) (names_once (map member_of batch)) h in
+    rw (joiner_named n batch (not-true (list_any (same_name n) (map member_of batch)) parts.0), joiners_once batch parts.1) refl
+
 -- each change is an Out or an In
-length-changes : (batch : List Change) → length batch ≡ length (leavers batch) + length (joiners batch)
+pub length-changes : (batch : List Change) → length batch ≡ length (leavers batch) + length (joiners batch)
 length-changes [] = refl
 length-changes (Out n ∷ batch) = omega (arith, length-changes batch)
 length-changes (In n ∷ batch) = omega (arith, length-changes batch)
@@ -153,15 +168,9 @@ module _ (holders : Holders) (queue : List Change) (m : Name) (fits : Fits holde
         room = rw (out, into) (omega (arith, fits.room, length-append (leavers queue) (m ∷ [])));
       }
 
-  -- with at most 16 leaves there is room for one more change
-  pub join_room : length holders ≤ 16 → member_count holders + length (joiners queue) < length holders + length (leavers queue) → length queue < 32
-  join_room small room = omega (arith, small, room, length-changes queue, leavers_few holders queue fits, member_count-le holders)
-
-  pub leave_room : length holders ≤ 16 → is_member holders m ≡ true → length queue < 32
-  leave_room small member =
-      let apart : list_any (same_name m) (leavers queue) ≡ false = leaver_named m queue (sym (pending_named m queue) ∙ free) in
-      let fewer : length (m ∷ leavers queue) ≤ members holders = few_names holders (m ∷ leavers queue) (rw (apart, leavers_once queue fits.once) refl) (and_from _ _ member fits.from_members) in
-      omega (arith, small, fits.room, length-changes queue, fewer, members-count holders, member_count-le holders)
+-- a batch that fits has two changes for each leaf at the most
+pub changes_few : (holders : Holders) (batch : List Change) → Fits holders batch → length batch ≤ 2 * length holders
+changes_few holders batch fits = omega (arith, fits.room, length-changes batch, leavers_few holders batch fits, member_count-le holders)
 
 -- no change fits always
 pub Fits-none : (holders : Holders) → Fits holders []

@@ -13,7 +13,7 @@ use Rattle.group_terms.specs.declared.changes.Change.{Change}
 use Rattle.group_model.specs.Places.{Holders, is_held_by, is_member, vacated, placed, leavers, joiners, holders_after, Fits}
 use Rattle.group_model.specs.Fresh.{is_same_holder}
 use Rattle.group_model.specs.Stayed.{is_kept, kept_leaves}
-use Rattle.group_model.specs.Unchanged.{unchanged_holders}
+use Rattle.group_model.specs.Private.Unchanged.{unchanged_holders}
 use Rattle.group_model.proofs.EpochLemmas.{length-holders_after}
 
 pub same_name-is : (m n : Name) → same_name m n ≡ true → m ≡ n
@@ -61,7 +61,7 @@ vacated_at holders m n i =
     ap (is_held_by m) (get_or-map_at (λ holder. cond (is_held_by n holder) None holder) holders i None refl)
     ∙ held_vacated m n (get_or holders i None)
 
-vacated_all_at : (m : Name) (i : ℕ) (holders : Holders) (names : List Name) → is_held_by m (get_or (fold vacated holders names) i None) ≡ (is_held_by m (get_or holders i None) && not (list_any (same_name m) names))
+pub vacated_all_at : (m : Name) (i : ℕ) (holders : Holders) (names : List Name) → is_held_by m (get_or (fold vacated holders names) i None) ≡ (is_held_by m (get_or holders i None) && not (list_any (same_name m) names))
 vacated_all_at m i holders [] = sym (and_true (is_held_by m (get_or holders i None)))
 vacated_all_at m i holders (n ∷ names) =
     vacated_all_at m i (vacated holders n) names
@@ -73,7 +73,7 @@ nobody_there m None h = refl
 nobody_there m (Some name) h = absurd (false≢true h)
 
 -- a leaf that another one gets was nobody's
-placed_at : (holders : Holders) (m n : Name) (i : ℕ) → same_name m n ≡ false → is_held_by m (get_or (placed holders n) i None) ≡ is_held_by m (get_or holders i None)
+pub placed_at : (holders : Holders) (m n : Name) (i : ℕ) → same_name m n ≡ false → is_held_by m (get_or (placed holders n) i None) ≡ is_held_by m (get_or holders i None)
 placed_at holders m n i other = elim (cases_lt (position_or_len is_none holders) (length holders)) [
   | inr past ↦ ap (λ list. is_held_by m (get_or list i None)) (set_past holders (position_or_len is_none holders) (Some n) past)
   | inl found ↦ elim (cases_eq i (position_or_len is_none holders)) [

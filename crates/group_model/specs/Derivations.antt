@@ -1,16 +1,18 @@
 -- Which keys follow from which, by their names alone (Wong, Gouda and Lam: who holds a key learns each that is encrypted under it).
-use Rattle.std.specs.Prelude.{◌≡◌, ◌⊎◌, List, [], ◌∷◌, ◌++◌, map, Contains, if◌then◌else◌}
+use Rattle.std.specs.Prelude.{◌≡◌, ◌⊎◌, List, [], ◌∷◌, ◌++◌, map, Contains, Option, None, Some, if◌then◌else◌}
 use Rattle.std.specs.List.{flat_map, list_any}
 use Rattle.group_terms.specs.Names.{Name, same_name}
 use Rattle.group_terms.specs.declared.keys.KeyName.{KeyName}
 use Rattle.group_terms.specs.declared.keys.KeyName.TheVariants.{Phase}
 use Rattle.group_terms.specs.declared.keys.Wrap.{Wrap}
 use Rattle.group_model.specs.declared.entries.Entry.{Entry}
-use Rattle.group_model.specs.declared.entries.SentReply.{SentReply}
+use Rattle.group_model.specs.declared.entries.SymReply.{SymReply}
+use Rattle.group_model.specs.declared.entries.PushPair.{PushPair}
+use Rattle.group_model.specs.Replies.{says_of}
 use Rattle.group_model.specs.declared.entries.Answer.{Answer}
-use Rattle.group_model.specs.declared.entries.Answer.TheVariants.{Batched}
+use Rattle.group_model.specs.declared.entries.Answer.TheVariants.{Done, Queued, Batched, Opened, Nothing, Derived, Refused}
 
--- a key is at hand behind those that came earlier: it is held, or a pair gives it under one of them
+-- a key is at hand after those that came earlier: it is held, or a pair gives it under one of them
 abbrev pub IsAtHand : List KeyName → List Wrap → List KeyName → KeyName → Type 0
 IsAtHand have pairs earlier name = Contains have name ⊎ ((pair : Wrap) × Contains pairs pair × Contains earlier pair.by × (pair.gives ≡ name))
 
@@ -27,18 +29,23 @@ IsDerivation have pairs names = AreAtHand have pairs [] names
 abbrev pub CanDerive : List KeyName → List Wrap → KeyName → Type 0
 CanDerive have pairs goal = (names : List KeyName) × IsDerivation have pairs names × Contains names goal
 
--- the replies that an answer sent
-abbrev pub replies_in : Answer → List SentReply
-replies_in (Batched output) = output.replies
-replies_in answer = []
+-- what the replies that an answer sent say
+abbrev pub replies_in : Answer → List SymReply
+replies_in Done = []
+replies_in Queued = []
+replies_in (Batched output) = says_of output.replies
+replies_in (Opened seen resent) = []
+replies_in Nothing = []
+replies_in (Derived can) = []
+replies_in (Refused why) = []
 
--- the replies that a history sent
-abbrev pub replies_sent : List Entry → List SentReply
+-- what the replies that a history sent say
+abbrev pub replies_sent : List Entry → List SymReply
 replies_sent entries = flat_map (λ (entry : Entry). replies_in entry.answer) entries
 
 -- the keys of a reply, where it went to one of these members
-abbrev pub names_to : List Name → SentReply → List KeyName
-names_to members reply = if list_any (same_name reply.says.member) members then reply.says.names else []
+abbrev pub names_to : List Name → SymReply → List KeyName
+names_to members reply = if list_any (same_name reply.member) members then reply.names else []
 
 -- what these members hold: their phase 1 keys, and the keys of each reply that was sent to one of them
 abbrev pub held_names : List Entry → List Name → List KeyName
@@ -49,13 +56,23 @@ abbrev pub told_pairs : Name → List KeyName → List Wrap
 told_pairs m names = map (λ name. record { by = Phase m; gives = name }) names
 
 -- what a reply encrypts
-abbrev pub reply_pairs : SentReply → List Wrap
-reply_pairs reply = told_pairs reply.says.member reply.says.names
+abbrev pub reply_pairs : SymReply → List Wrap
+reply_pairs reply = told_pairs reply.member reply.names
 
--- all that an answer sent: the wraps of a batch, and then what its replies encrypt
+-- what a pair of pushes that was sent again encrypts, where there is one
+abbrev pub pairs_resent : Option PushPair → List Wrap
+pairs_resent None = []
+pairs_resent (Some pair) = pair.wraps
+
+-- all that an answer sent: the wraps of a batch, and then what its replies encrypt; or the pushes that an opening sent again
 abbrev pub pairs_in : Answer → List Wrap
-pairs_in (Batched output) = output.wraps ++ flat_map reply_pairs output.replies
-pairs_in answer = []
+pairs_in Done = []
+pairs_in Queued = []
+pairs_in (Batched output) = output.wraps ++ flat_map reply_pairs (says_of output.replies)
+pairs_in (Opened seen resent) = pairs_resent resent
+pairs_in Nothing = []
+pairs_in (Derived can) = []
+pairs_in (Refused why) = []
 
 abbrev pub pairs_sent : List Entry → List Wrap
 pairs_sent entries = flat_map (λ (entry : Entry). pairs_in entry.answer) entries

@@ -7,41 +7,67 @@ use Rattle.group_model.specs.declared.entries.Entry.{Entry}
 use Rattle.group_model.specs.declared.entries.Asked.{Asked}
 use Rattle.group_model.specs.declared.entries.Asked.TheVariants.{Create, Join, Leave, Batch, Derive}
 use Rattle.group_model.specs.declared.entries.Answer.{Answer}
-use Rattle.group_model.specs.declared.entries.Answer.TheVariants.{Opened, Queued, Done, Batched}
-use Rattle.group_model.specs.Places.{Holders, holders_of}
+use Rattle.group_model.specs.declared.entries.Answer.TheVariants.{Done, Queued, Batched, Opened, Nothing, Derived, Refused}
+use Rattle.group_model.specs.Places.{Holders, Fits, IsValid, holders_of}
 
--- the depth of the tree, the batches that made the epochs, and the changes asked for since the last of them, in order
+-- what an opening reads of a journal: how deep the tree is, and the batches that made its epochs
+pub record Reading : Type 0 where
+  pub depth : ℕ
+  pub batches : List (List Change)
+
+-- the depth of the tree, the batches that made the epochs, the changes asked for since the last of them, in order, and what the
+-- openings that are still to come will read
 pub record Group : Type 0 where
   pub depth : ℕ
   pub batches : List (List Change)
   pub queue : List Change
+  pub unread : List Reading
 
--- before it is created: no leaf but the root, and nothing asked for
-abbrev pub no_group : Group
-no_group = record { depth = 0; batches = []; queue = [] }
+-- before it is opened: no leaf but the root, and nothing asked for
+abbrev pub no_group : List Reading → Group
+no_group readings = record { depth = 0; batches = []; queue = []; unread = readings }
+
+-- a group that was just made, with a tree of this depth
+abbrev pub new_group : Group → ℕ → Group
+new_group group depth = record group { depth = depth; batches = []; queue = [] }
 
 -- who has which leaf at the present epoch
 abbrev pub present_holders : Group → Holders
 present_holders group = holders_of group.depth group.batches
 
-abbrev pub with_change : Group → Change → Group
-with_change group change = record { depth = group.depth; batches = group.batches; queue = group.queue ++ change ∷ [] }
+-- the tree could take each of its batches, and can take the changes asked for as the next one
+pub record IsSound (group : Group) : Type 0 where
+  pub valid : IsValid group.depth group.batches
+  pub fits : Fits (present_holders group) group.queue
+
+abbrev pub with_changes : Group → List Change → Group
+with_changes group changes = record group { queue = group.queue ++ changes }
+
+-- the list of batches with the pending changes as the next batch
+abbrev pub next_batches : Group → List (List Change)
+next_batches group = group.batches ++ group.queue ∷ []
 
 -- the pending changes become the next batch
 abbrev pub with_batch : Group → Group
-with_batch group = record { depth = group.depth; batches = group.batches ++ group.queue ∷ []; queue = [] }
+with_batch group = record group { batches = next_batches group; queue = [] }
+
+-- the change that a request asks for, where it asks for one
+abbrev pub changes_asked : Asked → List Change
+changes_asked (Create depth) = []
+changes_asked (Join m) = In m ∷ []
+changes_asked (Leave m) = Out m ∷ []
+changes_asked Batch = []
+changes_asked (Derive epoch members) = []
 
 -- What was asked for and granted changes the group; a refusal, and an answer that says nothing, do not.
 abbrev pub after_answer : Group → Asked → Answer → Group
-after_answer group (Create depth) (Opened seen resent) = record { depth = depth; batches = []; queue = [] }
-after_answer group (Create depth) answer = group
-after_answer group (Join m) Queued = with_change group (In m)
-after_answer group (Join m) answer = group
-after_answer group (Leave m) Done = with_change group (Out m)
-after_answer group (Leave m) answer = group
-after_answer group Batch (Batched output) = with_batch group
-after_answer group Batch answer = group
-after_answer group (Derive epoch members) answer = group
+after_answer group asked Done = with_changes group (changes_asked asked)
+after_answer group asked Queued = with_changes group (changes_asked asked)
+after_answer group asked (Batched output) = with_batch group
+after_answer group asked (Opened seen resent) = new_group group seen.depth
+after_answer group asked Nothing = group
+after_answer group asked (Derived can) = group
+after_answer group asked (Refused why) = group
 
 abbrev pub after_entry : Group → Entry → Group
 after_entry group entry = after_answer group entry.asked entry.answer
@@ -50,9 +76,12 @@ after_entry group entry = after_answer group entry.asked entry.answer
 abbrev pub group_after : Group → List Entry → Group
 group_after group entries = fold after_entry group entries
 
--- how deep the tree is that the entries of a history leave, and the batches that made its epochs
-abbrev pub depth_after : List Entry → ℕ
-depth_after entries = (group_after no_group entries).depth
+-- The group that a history leaves, how deep its tree is, and the batches that made its epochs. What its openings read is given beside it.
+abbrev pub present_group : List Reading → List Entry → Group
+present_group readings entries = group_after (no_group readings) entries
 
-abbrev pub batches_after : List Entry → List (List Change)
-batches_after entries = (group_after no_group entries).batches
+abbrev pub depth_after : List Reading → List Entry → ℕ
+depth_after readings entries = (present_group readings entries).depth
+
+abbrev pub batches_after : List Reading → List Entry → List (List Change)
+batches_after readings entries = (present_group readings entries).batches

@@ -2,12 +2,11 @@ pub mod Derivations
 pub mod Fresh
 pub mod Groups
 pub mod Histories
+pub mod Laws
 pub mod Legal
 pub mod Places
+pub mod Present
+pub mod Private
 pub mod Replies
-pub mod Rows
 pub mod Stayed
-pub mod Suits
-pub mod Trees
-pub mod Unchanged
 pub mod Wraps

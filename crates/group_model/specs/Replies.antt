@@ -3,8 +3,8 @@ use Rattle.std.specs.Prelude.{ℕ, List, [], ◌∷◌, ◌++◌, map, length}
 use Rattle.group_terms.specs.Names.{Name}
 use Rattle.group_terms.specs.declared.changes.Change.{Change}
 use Rattle.group_terms.specs.declared.keys.KeyName.TheVariants.{Traffic}
-use Rattle.group_model.specs.declared.entries.SymReply.{SymReply}
 use Rattle.group_model.specs.declared.entries.SentReply.{SentReply}
+use Rattle.group_model.specs.declared.entries.SymReply.{SymReply}
 use Rattle.group_model.specs.Places.{joiners}
 use Rattle.group_model.specs.Fresh.{key_path}
 use Rattle.group_model.specs.Stayed.{sequence_at}
@@ -18,6 +18,10 @@ reply_at depth batches epoch m = record {
   names = key_path depth batches epoch m ++ Traffic epoch ∷ [];
 }
 
--- those to all who come in with the last batch of a list, in their order; no datagram is made of them
-abbrev pub replies_to : ℕ → List (List Change) → List Change → List SentReply
-replies_to depth batches batch = map (λ m. record { says = reply_at depth batches (length batches) m; datagram = [] }) (joiners batch)
+-- those to all who come in with the last batch of a list, in their order
+abbrev pub replies_to : ℕ → List (List Change) → List Change → List SymReply
+replies_to depth batches batch = map (reply_at depth batches (length batches)) (joiners batch)
+
+-- what replies say, whatever their datagrams are
+abbrev pub says_of : List SentReply → List SymReply
+says_of replies = map (λ (reply : SentReply). reply.says) replies

@@ -1,12 +1,23 @@
 //! Whether a batch can be the next one.
-ghost use Rattle.std.specs.Prelude.{◌≡◌, ◌+◌, ◌≤◌, ◌↔◌, length, map, IsTrue};
+ghost use Rattle.std.specs.Prelude.{◌≡◌, ◌+◌, ◌≤◌, ◌↔◌, length, map, true, IsTrue};
 ghost use Rattle.std.specs.List.{list_any, list_all};
 ghost use Rattle.group_terms.specs.Names.{same_name};
 ghost use Rattle.group_terms.specs.Changes.{member_of};
 ghost use Rattle.group_model.specs.Places.{Fits, holders_of, member_count, leaver, leavers, joiner, joiners, names_once};
-ghost use Rattle.group_model.specs.Suits.{suits};
+ghost use Rattle.group_model.specs.Private.Suits.{suits};
 
-use crate::{Batch, Change, History, MemberName};
+use crate::holders::{self, Holder};
+use crate::{Batch, Change, History, MOST_CHANGES, MemberName, PresentTree};
+
+impl PresentTree {
+    /// Whether the tree can take a batch next: each `Out` names a member, each `In` somebody who is none, no name comes twice,
+    /// and the tree has a leaf for each.
+    pub fn fits(&self, batch: &Batch) -> bool
+        ensures { IsTrue result ↔ Fits self.now.holders batch.now }
+    {
+        fits(self.tree.holders.as_slice(), batch.changes())
+    }
+}
 
 impl History {
     /// Whether a batch fits, as `add` requires: each `Out` names a member, each `In` somebody who is none, no name comes
@@ -14,35 +25,53 @@ impl History {
     pub fn fits(&self, batch: &Batch) -> bool
         ensures { IsTrue result ↔ Fits (holders_of self.now.depth self.now.batches) batch.now }
     {
-        let changes = batch.changes();
-        self.suit(changes) && are_named_once(changes) && self.has_room(changes)
-    }
-
-    /// Whether each `Out` names a member, and each `In` somebody who is none.
-    fn suit(&self, changes: &[Change]) -> bool
-        ensures { result ≡ list_all (suits (holders_of self.now.depth self.now.batches)) changes.now }
-    {
-        changes.iter().all(|change| self.suits(change))
-    }
-
-    fn suits(&self, change: &Change) -> bool
-        ensures { result ≡ suits (holders_of self.now.depth self.now.batches) change.now }
-    {
-        let is_member = self.place(self.epoch(), change.member()).is_some();
-        match change {
-            Change::Out { .. } => is_member,
-            Change::In { .. } => !is_member,
+        match self.holders() {
+            Some(holders) => fits(holders, batch.changes()),
+            None => fits_first(self.leaves(), batch.changes()),
         }
     }
+}
 
-    /// Whether those who stay and those who come are no more than there are leaves.
-    fn has_room(&self, changes: &[Change]) -> bool
-        ensures { let holders = holders_of self.now.depth self.now.batches in
-            IsTrue result ↔ (member_count holders + length (joiners changes.now) ≤ length holders + length (leavers changes.now)) }
-    {
-        let members = self.members(self.epoch()) as usize;
-        members + count_joiners(changes) <= self.leaves() + count_leavers(changes)
+/// The same of a tree with these holders.
+fn fits(holders: &[Holder], changes: &[Change]) -> bool
+    requires { length changes.now ≤ MOST_CHANGES }
+    ensures { IsTrue result ↔ Fits holders.now changes.now }
+{
+    all_suit(holders, changes) && are_named_once(changes) && have_room(holders, changes)
+}
+
+/// Whether a batch can be the first of a tree: nobody goes out, no name comes twice, and the tree has a leaf for each.
+fn fits_first(leaves: usize, changes: &[Change]) -> bool
+    ensures { IsTrue result
+        ↔ (length (leavers changes.now) ≡ 0) × (names_once (map member_of changes.now) ≡ true) × (length changes.now ≤ leaves) }
+{
+    count_leavers(changes) == 0 && are_named_once(changes) && changes.len() <= leaves
+}
+
+/// Whether each `Out` names a member, and each `In` somebody who is none.
+fn all_suit(holders: &[Holder], changes: &[Change]) -> bool
+    ensures { result ≡ list_all (suits holders.now) changes.now }
+{
+    changes.iter().all(|change| suits(holders, change))
+}
+
+fn suits(holders: &[Holder], change: &Change) -> bool
+    ensures { result ≡ suits holders.now change.now }
+{
+    match change {
+        Change::Out { member } => holders::has_member(holders, member),
+        Change::In { member } => !holders::has_member(holders, member),
     }
+}
+
+/// Whether those who stay and those who come are no more than there are leaves.
+fn have_room(holders: &[Holder], changes: &[Change]) -> bool
+    requires { length changes.now ≤ MOST_CHANGES }
+    ensures { IsTrue result
+        ↔ (member_count holders.now + length (joiners changes.now) ≤ length holders.now + length (leavers changes.now)) }
+{
+    holders::count_members(holders) + count_joiners(changes)
+        <= holders.len() + count_leavers(changes)
 }
 
 fn are_named_once(changes: &[Change]) -> bool
@@ -56,7 +85,7 @@ fn are_named_once(changes: &[Change]) -> bool
     true
 }
 
-fn is_named(changes: &[Change], member: &MemberName) -> bool
+pub(crate) fn is_named(changes: &[Change], member: &MemberName) -> bool
     ensures { result ≡ list_any (λ change. same_name member.now (member_of change)) changes.now }
 {
     changes.iter().any(|change| is_about(change, member))
@@ -69,7 +98,7 @@ fn is_about(change: &Change, member: &MemberName) -> bool
 }
 
 /// How many changes let somebody in.
-pub fn count_joiners(changes: &[Change]) -> usize
+pub(crate) fn count_joiners(changes: &[Change]) -> usize
     ensures count { result ≡ length (joiners changes.now) }
     ensures within { result ≤ length changes.now }
 {
@@ -77,7 +106,7 @@ pub fn count_joiners(changes: &[Change]) -> usize
 }
 
 /// How many changes take a member out.
-pub fn count_leavers(changes: &[Change]) -> usize
+pub(crate) fn count_leavers(changes: &[Change]) -> usize
     ensures count { result ≡ length (leavers changes.now) }
     ensures within { result ≤ length changes.now }
 {

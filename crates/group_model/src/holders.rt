@@ -3,7 +3,7 @@ ghost use Rattle.std.specs.Prelude.{◌≡◌, ◌≤◌, ◌^◌, ◌&&◌, len
 ghost use Rattle.std.specs.List.{position, fold, list_any};
 ghost use Rattle.group_model.specs.Places.{is_held_by, place_in, no_holders, is_member, member_count, vacated, placed, leavers, joiners, holders_after};
 ghost use Rattle.group_model.specs.Fresh.{is_same_holder, changed_leaves};
-ghost use Rattle.group_model.specs.Unchanged.{unchanged_holders};
+ghost use Rattle.group_model.specs.Private.Unchanged.{unchanged_holders};
 
 use crate::{Change, List, LkhId, MemberName, NoMemory};
 use std::alloc::Global;
@@ -58,8 +58,22 @@ pub(crate) fn count_members(holders: &[Holder]) -> usize
     holders.iter().filter(|holder| holder.is_some()).count()
 }
 
+/// Who has which leaf after a batch.
+pub(crate) fn after(
+    alloc: Global,
+    before: &[Holder],
+    batch: &[Change],
+) -> Result<List<Holder>, NoMemory>
+    ensures holders { IfOk result (λ after. after ≡ holders_after before.now batch.now) }
+    ensures len { IfOk result (λ after. length after ≡ length before.now) }
+{
+    let mut after = List::copy_of(alloc, before)?.into_vec();
+    change(&mut after, batch);
+    Ok(List::from_vec(after))
+}
+
 /// Removes the members that the batch takes out, and then gives those that it lets in a leaf each.
-pub(crate) fn change(holders: &mut [Holder], batch: &[Change])
+fn change(holders: &mut [Holder], batch: &[Change])
     ensures { holders.new ≡ holders_after holders.old batch.now }
 {
     vacate_all(holders, batch);
@@ -158,7 +172,7 @@ fn is_held_on(before: &Holder, after: &Holder) -> bool
     after.is_some() && is_same(before, after)
 }
 
-fn is_same(before: &Holder, after: &Holder) -> bool
+pub(crate) fn is_same(before: &Holder, after: &Holder) -> bool
     ensures { result ≡ is_same_holder before.now after.now }
 {
     match after {

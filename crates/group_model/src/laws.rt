@@ -1,48 +1,83 @@
 //! What the definitions mean, said of lists of batches and of histories.
-ghost use Rattle.std.specs.Prelude.{◌≡◌, ℕ, ◌+◌, ◌^◌, ◌<◌, List, [], ◌∷◌, ◌++◌, length, Some, ◌&&◌, ◌||◌, not, true, if◌then◌else◌};
-ghost use Rattle.std.specs.List.{list_any};
-ghost use Rattle.group_terms.specs.Names.{Name, same_name};
-ghost use Rattle.group_terms.specs.declared.changes.Change.{Change};
-ghost use Rattle.group_model.specs.Places.{IsValid, holders_of, holders_at, is_member, joiners, leavers, place_in};
-ghost use Rattle.group_model.specs.Stayed.{has_stayed, sequence_at};
-ghost use Rattle.group_model.specs.Wraps.{wraps_at, is_nil};
-ghost use Rattle.group_model.specs.Groups.{depth_after, batches_after};
-ghost use Rattle.group_model.specs.Legal.{IsLegalHistory};
-ghost use Rattle.group_model.specs.declared.entries.Entry.{Entry};
+ghost use Rattle.group_model.specs.Laws.{EachLeafHasItsPlace, HoldersStay, LastChangesStay, PlacesAreHeld, NoLeafIsShared};
+ghost use Rattle.group_model.specs.Laws.{NoNameHasTwoLeaves, PlacesStay, BatchesSayWhoIsMember, WrapsUseTwoNumbers};
+ghost use Rattle.group_model.specs.Laws.{NoChangeFits, LeaversAreFew, ChangesAreFew, GrantedJoinsFit, GrantedLeavesFit};
+ghost use Rattle.group_model.specs.Laws.{SoundAtFirst, StepsKeepSound, HistoriesAreSound, Laws};
 
 /// Each leaf of the tree has its place among the holders, at every epoch.
 pub fn each_leaf_has_its_place()
-    ensures { (depth : ℕ) (batches : List (List Change)) → length (holders_of depth batches) ≡ 2 ^ depth }
+    ensures { EachLeafHasItsPlace }
+{}
+
+/// The first epochs of a list are as they are without the later ones.
+pub fn first_epochs_stay()
+    ensures holders { HoldersStay }
+    ensures last_changes { LastChangesStay }
+{}
+
+/// The leaf that is a member's place is held by it.
+pub fn places_are_held()
+    ensures { PlacesAreHeld }
 {}
 
 /// Two members never have one leaf.
 pub fn members_never_share_a_leaf()
-    ensures { (depth epoch leaf : ℕ) (batches : List (List Change)) (m n : Name) →
-        place_in depth (holders_at depth batches epoch) m ≡ Some leaf → place_in depth (holders_at depth batches epoch) n ≡ Some leaf → m ≡ n }
+    ensures { NoLeafIsShared }
+{}
+
+/// In a valid list no name has two leaves.
+pub fn no_name_has_two_leaves()
+    ensures { NoNameHasTwoLeaves }
 {}
 
 /// A member keeps its leaf over each batch over which it stays.
 pub fn places_stay_while_members_stay()
-    ensures { (depth epoch : ℕ) (batches : List (List Change)) (m : Name) → IsValid depth batches → epoch < length batches →
-        has_stayed (holders_at depth batches epoch) (holders_at depth batches (epoch + 1)) m ≡ true →
-        place_in depth (holders_at depth batches (epoch + 1)) m ≡ place_in depth (holders_at depth batches epoch) m }
+    ensures { PlacesStay }
 {}
 
 /// After a batch of a valid list its joiners are members, its leavers are none, and anybody else is one exactly where it was one before.
 pub fn a_batch_says_who_is_a_member()
-    ensures { (depth : ℕ) (batches : List (List Change)) (batch : List Change) (m : Name) → IsValid depth (batches ++ batch ∷ []) →
-        is_member (holders_of depth (batches ++ batch ∷ [])) m
-        ≡ (list_any (same_name m) (joiners batch) || (is_member (holders_of depth batches) m && not (list_any (same_name m) (leavers batch)))) }
+    ensures { BatchesSayWhoIsMember }
 {}
 
 /// A batch that encrypts something uses the next two sequence numbers; any other one uses none.
 pub fn a_batch_that_wraps_uses_two_numbers()
-    ensures { (depth : ℕ) (batches : List (List Change)) (batch : List Change) →
-        sequence_at depth (batches ++ batch ∷ []) (length batches + 1)
-        ≡ sequence_at depth batches (length batches) + (if is_nil (wraps_at depth (batches ++ batch ∷ []) (length batches + 1)) then 0 else 2) }
+    ensures { WrapsUseTwoNumbers }
 {}
 
-/// The batches of a legal history are a valid list: what waits always fits the tree.
-pub fn a_history_has_valid_batches()
-    ensures { (entries : List Entry) → IsLegalHistory entries → IsValid (depth_after entries) (batches_after entries) }
+/// A batch that fits takes out no more than there are members, and has two changes for each leaf at the most. The empty one fits.
+pub fn a_batch_that_fits_has_few_changes()
+    ensures none { NoChangeFits }
+    ensures leavers { LeaversAreFew }
+    ensures changes { ChangesAreFew }
 {}
+
+/// A change that is granted still fits with what waits.
+pub fn granted_changes_fit()
+    ensures joins { GrantedJoinsFit }
+    ensures leaves { GrantedLeavesFit }
+{}
+
+/// The batches of a legal history are a valid list, and what waits fits. That holds before it is opened, and each step keeps it.
+pub fn a_history_leaves_a_sound_group()
+    ensures first { SoundAtFirst }
+    ensures step { StepsKeepSound }
+    ensures history { HistoriesAreSound }
+{}
+
+/// All of these laws.
+pub fn laws_hold()
+    ensures { Laws }
+{
+    each_leaf_has_its_place();
+    first_epochs_stay();
+    places_are_held();
+    members_never_share_a_leaf();
+    no_name_has_two_leaves();
+    places_stay_while_members_stay();
+    a_batch_says_who_is_a_member();
+    a_batch_that_wraps_uses_two_numbers();
+    a_batch_that_fits_has_few_changes();
+    granted_changes_fit();
+    a_history_leaves_a_sound_group();
+}

@@ -6,23 +6,35 @@ pub use entries::{
     Answer, Asked, Derivation, Entry, GroupSeen, Output, Outside, PushPair, Refusal, SentReply,
     Standing, SymReply,
 };
-pub use fits::{count_joiners, count_leavers};
 pub use group_terms::{
     Batch, Change, KeyName, List, LkhId, Log, MOST_CHANGES, MOST_MEMBERS, MemberName, MemberNames,
     NoMemory, Octets, Wrap,
 };
 pub use history::History;
 pub use laws::{
-    a_batch_says_who_is_a_member, a_batch_that_wraps_uses_two_numbers, a_history_has_valid_batches,
-    each_leaf_has_its_place, members_never_share_a_leaf, places_stay_while_members_stay,
+    a_batch_says_who_is_a_member, a_batch_that_fits_has_few_changes,
+    a_batch_that_wraps_uses_two_numbers, a_history_leaves_a_sound_group, each_leaf_has_its_place,
+    first_epochs_stay, granted_changes_fit, laws_hold, members_never_share_a_leaf,
+    no_name_has_two_leaves, places_are_held, places_stay_while_members_stay,
 };
+pub use pending::PendingChanges;
+pub use plans::BatchPlan;
+pub use present::PresentTree;
 
 mod entries;
 mod fits;
+mod handovers;
 mod history;
 mod holders;
 mod laws;
 mod paths;
+mod pending;
+#[cfg(test)]
+mod plan_tests;
+mod plans;
+mod present;
+#[cfg(test)]
+mod test_texts;
 #[cfg(test)]
 mod tests;
 mod trees;

@@ -1,9 +1,58 @@
 //! The keys that a member has.
-ghost use Rattle.std.specs.Prelude.{◌≡◌, ◌+◌, ◌^◌, ◌<◌, ◌≤◌, map, length, IfOk};
+ghost use Rattle.std.specs.Prelude.{◌≡◌, ◌+◌, ◌^◌, ◌<◌, ◌≤◌, ℕ, map, length, IfOk};
 ghost use Rattle.group_model.specs.Fresh.{key_path, node_name, upwards};
+ghost use Rattle.group_model.specs.Present.{IsPathOf};
+ghost use Rattle.group_model.specs.Private.Presents.{key_in, path_in};
 
-use crate::{History, KeyName, List, LkhId, MemberName, NoMemory, each_leaf_has_its_place};
+use crate::{
+    History, KeyName, List, LkhId, MemberName, NoMemory, PresentTree, each_leaf_has_its_place,
+};
 use std::alloc::Global;
+
+impl PresentTree {
+    /// The keys of a member, from its leaf up to the root (the key set of Wong, Gouda and Lam); none of somebody who is no member.
+    pub fn path(&self, alloc: Global, member: &MemberName) -> Result<List<KeyName>, NoMemory>
+        ensures { IfOk result (IsPathOf self.now member.now) }
+    {
+        self.path_now(alloc, member)
+    }
+
+    /// The same, from what the tree has.
+    pub(crate) fn path_now(
+        &self,
+        alloc: Global,
+        member: &MemberName,
+    ) -> Result<List<KeyName>, NoMemory>
+        ensures { IfOk result (λ names. names ≡ path_in self.now member.now) }
+    {
+        match self.place(member) {
+            Some(leaf) => {
+                let positions = positions_up(alloc, leaf)?;
+                Ok(self.keys(alloc, positions.as_slice())?)
+            }
+            None => Ok(List::new(alloc)),
+        }
+    }
+
+    /// The keys of positions.
+    fn keys(&self, alloc: Global, positions: &[LkhId]) -> Result<List<KeyName>, NoMemory>
+        ensures { IfOk result (λ names. names ≡ map (key_in self.now.changes) positions.now) }
+    {
+        let mut names = List::with_room(alloc, positions.len())?;
+        for id in positions {
+            names.push(self.key(*id))?;
+        }
+        Ok(names)
+    }
+
+    /// The key that a position has.
+    fn key(&self, id: LkhId) -> KeyName
+        ensures { result ≡ key_in self.now.changes id }
+    {
+        let made = self.last(id).unwrap_or(0);
+        KeyName::Node { id, made }
+    }
+}
 
 impl History {
     /// The keys of a member of an epoch, from its leaf up to the root (the key set of Wong, Gouda and Lam); none of somebody who
@@ -19,23 +68,27 @@ impl History {
     {
         each_leaf_has_its_place();
         match self.place(epoch, member) {
-            Some(leaf) => self.keys_above(alloc, epoch, leaf),
+            Some(leaf) => {
+                let positions = positions_up(alloc, leaf)?;
+                Ok(self.keys(alloc, epoch, positions.as_slice())?)
+            }
             None => Ok(List::new(alloc)),
         }
     }
 
-    /// The keys of a leaf and of the positions above it.
-    fn keys_above(&self, alloc: Global, epoch: u32, leaf: LkhId) -> Result<List<KeyName>, NoMemory>
-        requires epoch { epoch ≤ length self.now.batches }
-        requires from { 2 ^ self.now.depth ≤ leaf }
-        requires to { leaf < 2 ^ (self.now.depth + 1) }
-        ensures { IfOk result (λ names. names ≡ map (node_name self.now.depth self.now.batches epoch) (upwards self.now.depth leaf)) }
+    /// The keys of positions at an epoch.
+    fn keys(
+        &self,
+        alloc: Global,
+        epoch: u32,
+        positions: &[LkhId],
+    ) -> Result<List<KeyName>, NoMemory>
+        requires { epoch ≤ length self.now.batches }
+        ensures { IfOk result (λ names. names ≡ map (node_name self.now.depth self.now.batches epoch) positions.now) }
     {
-        let mut names = List::new(alloc);
-        let mut at = Some(leaf);
-        while let Some(id) = at {
-            names.push(self.key(epoch, id))?;
-            at = id.parent();
+        let mut names = List::with_room(alloc, positions.len())?;
+        for id in positions {
+            names.push(self.key(epoch, *id))?;
         }
         Ok(names)
     }
@@ -48,4 +101,18 @@ impl History {
         let made = self.last(epoch, id).unwrap_or(0);
         KeyName::Node { id, made }
     }
+}
+
+/// A leaf and the positions above it, up to the root.
+fn positions_up(alloc: Global, leaf: LkhId) -> Result<List<LkhId>, NoMemory>
+    ensures { IfOk result (λ positions.
+        (depth : ℕ) → 2 ^ depth ≤ leaf → leaf < 2 ^ (depth + 1) → positions ≡ upwards depth leaf) }
+{
+    let mut positions = List::new(alloc);
+    let mut at = Some(leaf);
+    while let Some(id) = at {
+        positions.push(id)?;
+        at = id.parent();
+    }
+    Ok(positions)
 }

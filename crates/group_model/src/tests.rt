@@ -1,4 +1,5 @@
-use crate::{Batch, Change, History, KeyName, LkhId, MOST_CHANGES, MemberName};
+use crate::test_texts::{batch_of, named, push_keys, push_number, push_wraps};
+use crate::{History, LkhId};
 use std::alloc::Global;
 use std::process::Abort;
 use std::test::Fail;
@@ -50,9 +51,7 @@ fn paths_have_the_keys_of_their_epoch(rt: HostRuntime) -> Result<(), Fail> {
     ] {
         assert!(rt; epoch <= history.epoch());
         let mut text = String::new(alloc);
-        for name in history.path(alloc, epoch, &named(letter)?)?.as_slice() {
-            push_key(&mut text, *name)?;
-        }
+        push_keys(&mut text, &history.path(alloc, epoch, &named(letter)?)?)?;
         assert_eq!(rt; text.as_str(), want, "{letter} at {epoch}");
     }
     Ok(())
@@ -66,17 +65,7 @@ fn add(
     outs: &str,
     ins: &str,
 ) -> Result<(), Fail> {
-    let mut batch = Batch::new();
-    for letter in outs.bytes() {
-        let member = named(letter)?;
-        assert!(rt; batch.changes().len() < MOST_CHANGES);
-        batch.push(Change::Out { member });
-    }
-    for letter in ins.bytes() {
-        let member = named(letter)?;
-        assert!(rt; batch.changes().len() < MOST_CHANGES);
-        batch.push(Change::In { member });
-    }
+    let batch = batch_of(rt, outs, ins)?;
     assert!(rt; history.epoch() < u32::MAX);
     assert!(rt; history.fits(&batch));
     assert_eq!(rt; history.add(alloc, batch), Ok(()));
@@ -98,31 +87,6 @@ fn seen(rt: &impl Abort, alloc: Global, history: &History, epoch: u32) -> Result
         push_number(&mut text, history.last(epoch, id))?;
     }
     text.push_str(" wraps")?;
-    for wrap in history.wraps(alloc, epoch)?.as_slice() {
-        push_key(&mut text, wrap.by)?;
-        push_key(&mut text, wrap.gives)?;
-        text.push_str(",")?;
-    }
+    push_wraps(&mut text, &history.wraps(alloc, epoch)?)?;
     Ok(text)
-}
-
-fn named(letter: u8) -> Result<MemberName, Fail> {
-    Ok(MemberName::read(&[letter]).ok_or("a name")?)
-}
-
-fn push_number(text: &mut String, number: Option<u32>) -> Result<(), Fail> {
-    match number {
-        Some(number) => write!(text, " {number}")?,
-        None => text.push_str(" -")?,
-    }
-    Ok(())
-}
-
-fn push_key(text: &mut String, key: KeyName) -> Result<(), Fail> {
-    match key {
-        KeyName::Node { id, made } => write!(text, " {}.{made}", id.number())?,
-        KeyName::Traffic { made } => write!(text, " traffic.{made}")?,
-        KeyName::Phase { .. } => text.push_str(" phase")?,
-    }
-    Ok(())
 }

@@ -5,8 +5,9 @@ ghost use Rattle.group_terms.specs.declared.keys.KeyName.TheVariants.{Node};
 ghost use Rattle.group_terms.specs.Positions.{some_leaf_below};
 ghost use Rattle.group_model.specs.Places.{no_holders, holders_after};
 ghost use Rattle.group_model.specs.Fresh.{changed_leaves};
-ghost use Rattle.group_model.specs.Trees.{renewed_at, renewed, is_made_in, child_wrap, child_wraps, wraps_down};
+ghost use Rattle.group_model.specs.Private.Trees.{renewed_at, renewed, is_made_in, child_wrap, child_wraps, wraps_down};
 
+use crate::handovers::position;
 use crate::holders::{self, Holder};
 use crate::{Change, KeyName, List, LkhId, NoMemory, Wrap};
 use group_terms::marks_above;
@@ -20,7 +21,7 @@ pub(crate) struct Tree {
 }
 
 impl Tree {
-    ghost use Rattle.group_model.specs.Trees.{HasShape, wraps_between};
+    ghost use Rattle.group_model.specs.Private.Trees.{HasShape, wraps_between};
 
     /// The tree before the first batch.
     pub(crate) fn empty(alloc: Global, depth: u8) -> Result<Self, NoMemory>
@@ -46,16 +47,13 @@ impl Tree {
         ensures holders { IfOk result (λ tree. tree.holders ≡ holders_after self.now.holders batch.now) }
         ensures made { IfOk result (λ tree. tree.made ≡ renewed epoch self.now.made
             (map (some_leaf_below depth (changed_leaves self.now.holders tree.holders)) (range_with_len 0 (2 ^ (depth + 1))))) }
+        ensures shape { IfOk result (λ tree. HasShape depth tree) }
     {
-        let mut holders = List::copy_of(alloc, self.holders.as_slice())?.into_vec();
-        holders::change(&mut holders, batch);
-        let changed = holders::changed(alloc, self.holders.as_slice(), &holders)?;
+        let holders = holders::after(alloc, self.holders.as_slice(), batch)?;
+        let changed = holders::changed(alloc, self.holders.as_slice(), holders.as_slice())?;
         let marks = marks_above(alloc, depth, changed.as_slice())?;
         let made = renew(alloc, self.made.as_slice(), marks.as_slice(), epoch)?;
-        Ok(Tree {
-            holders: List::from_vec(holders),
-            made,
-        })
+        Ok(Tree { holders, made })
     }
 
     /// The encryptions of the batch that made this tree of the one before it: the new keys of inner positions by falling
@@ -209,6 +207,6 @@ fn node(v: usize, made: u32) -> KeyName
     requires small { v < 65536 }
     ensures { result ≡ Node v made }
 {
-    let id = LkhId::new(v as u16).unwrap();
+    let id = position(v);
     KeyName::Node { id, made }
 }

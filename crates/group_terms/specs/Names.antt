@@ -24,11 +24,11 @@ name_of text = if is_name text then Some text else None
 abbrev pub same_name : Name → Name → Bool
 same_name = bytes_eq
 
--- a name at the front of a field of 32 octets, with zeros behind it
+-- a name at the front of a field of 32 octets, with zeros after it
 abbrev pub padded : Name → List ℕ
 padded text = text ++ replicate (32 - length text) 0
 
--- a field of 32 octets has a name of this size at its front, and zeros behind it
+-- a field of 32 octets has a name of this size at its front, and zeros after it
 pub record HoldsName (field : List ℕ) (size : ℕ) : Type 0 where
   pub fits : size ≤ 32
   pub whole : length field ≡ 32

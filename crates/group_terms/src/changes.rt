@@ -73,17 +73,7 @@ impl Batch {
         self.changes.push(change);
     }
 
-    /// The same changes once more. It takes no memory.
-    pub fn copied(&self) -> Self
-        ensures { result ≡ self.now }
-    {
-        let mut batch = Batch::new();
-        for change in self.changes() {
-            batch.push(*change);
-        }
-        batch
-    }
-
+    /// The changes in their order.
     pub fn changes(&self) -> &[Change]
         ensures changes { result.now ≡ self.now }
         ensures few { length self.now ≤ MOST_CHANGES }

@@ -1,4 +1,4 @@
-//! What nearly never changes: lists and logs that answer want of memory, the positions of the key tree, the names of
+//! What nearly never changes: lists and logs that answer `NoMemory`, the positions of the key tree, the names of
 //! members and keys, the octets of keys, what a batch of changes says, and why octets are no text of their grammar.
 #![tactic(auto)]
 

@@ -41,7 +41,7 @@ impl Path {
         }
     }
 
-    /// Puts a key behind the last one: in a path that of the position above.
+    /// Puts a key after the last one: in a path that of the position above.
     pub fn push(&mut self, key: PathKey)
         requires { length self.old < LONGEST_PATH }
         ensures { self.new ≡ self.old ++ key ∷ [] }
@@ -58,8 +58,8 @@ impl Path {
     }
 }
 
-/// What a member learns when it registers: the epoch, which is also that of the root's key, the last sequence number that was used, the SPI of rekey datagrams, the keys of its
-/// path, and the key of the traffic.
+/// What a member learns when it registers: the epoch, which is also that of the root's key, the last sequence number that was used, the SPI
+/// of rekey datagrams, the keys of its path, and the key of the traffic.
 #[derive(Debug, Drop)]
 pub struct Keyed {
     pub epoch: u32,

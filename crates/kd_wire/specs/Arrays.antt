@@ -1,5 +1,6 @@
--- The attributes of an LKH packet (RFC 6407 section 5.6.3): a download array (1, section 5.6.3.1) or update arrays (2, section 5.6.3.2), in the
--- long form. An attribute of kind 3, which holds the key that checks signatures (section 5.6.3.3), is passed over, wherever it stands and in either form.
+-- The attributes of an LKH packet (RFC 6407 section 5.6.3): a download array (1, section 5.6.3.1) or update arrays (2, section 5.6.3.2), in
+-- the long form. An attribute of kind 3, which holds the key that checks signatures (section 5.6.3.3), is passed over, wherever it stands
+-- and in either form.
 use Rattle.std.specs.Prelude.{◌≡◌, ℕ, ◌<◌, ◌≤◌, zero, suc, ◌+◌, ◌*◌, ◌==◌, ◌&&◌, ◌||◌, nat_le, not, List, [], ◌∷◌, ◌++◌, length, take, Option, None, Some, if◌then◌else◌}
 use Rattle.std.specs.List.{list_any}
 use Rattle.byteorder.specs.Endian.{big_from}
@@ -14,8 +15,9 @@ use Rattle.kd_wire.specs.declared.updates.UpdateArray.{UpdateArray}
 use Rattle.kd_wire.specs.declared.updates.UpdateSpan.{UpdateSpan}
 use Rattle.kd_wire.specs.Keys.{key_made, path_tests, given_tests}
 
--- Of each kind of array: how many octets stand before its keys, behind the header of its attribute; where the first key stands when that attribute begins
--- here; and the least and the most of them, which are our choice. A download array has the keys of a path, and an update array one at least.
+-- Of each kind of array: how many octets stand before its keys, after the header of its attribute; where the first key stands when that
+-- attribute begins here; and the least and the most of them, which are our choice. A download array has the keys of a path, and an update
+-- array one at least.
 abbrev pub head_size : ArrayKind → ℕ
 head_size Download = 4
 head_size Update = 12
@@ -31,7 +33,8 @@ abbrev pub most_keys : ArrayKind → ℕ
 most_keys Download = 16
 most_keys Update = 65535
 
--- the kinds of attribute of which one is due as an array, given the array that came first: one download array, and any number of update arrays
+-- the kinds of attribute of which one is due as an array, given the array that came first: one download array, and any number of update
+-- arrays
 abbrev pub due_kinds : ArrayKind → Option ℕ → List ℕ
 due_kinds Download None = 1 ∷ []
 due_kinds Download (Some first) = []
@@ -43,7 +46,7 @@ first_or None at = at
 first_or (Some first) at = first
 
 module _ (text : List ℕ) where
-  -- the place behind an attribute, and the text up to there
+  -- the place after an attribute, and the text up to there
   abbrev pub behind : ℕ → ℕ
   behind at = (attribute_fields text at).next
 
@@ -66,7 +69,8 @@ module _ (text : List ℕ) where
         ∷ test (kind_at text at == 3 || (list_any (λ kind. kind == kind_at text at) kinds && not (is_short text at))) (Kind (kind_at text at)) (base + at)
         ∷ []
 
-    -- An array begins with its version, which is 1, the number of its keys, to which the attribute's length has to be due, and a reserved octet.
+    -- An array begins with its version, which is 1, the number of its keys, to which the attribute's length has to be due, and a reserved
+    -- octet.
     abbrev pub version_tests : ℕ → List Test
     version_tests at = there (up_to_behind at) base (at + 4) 1 ∷ test (octet_at text (at + 4) == 1) Version (base + at + 4) ∷ []
 
@@ -78,14 +82,15 @@ module _ (text : List ℕ) where
         ∷ test (octet_at text (at + 7) == 0) Reserved (base + at + 7)
         ∷ []
 
-    -- In an update array there follow the LKH ID of the key under which its first key is sealed, 2 reserved octets, and the handle of that key.
+    -- In an update array there follow the LKH ID of the key under which its first key is sealed, 2 reserved octets, and the handle of that
+    -- key.
     abbrev pub sealer_tests : ℕ → List Test
     sealer_tests at =
         test (not (big_from (at + 8) 2 text == 0)) Value (base + at + 8)
         ∷ test (big_from (at + 10) 2 text == 0) Reserved (base + at + 10)
         ∷ []
 
-    -- Behind this stand the keys. All those that the update arrays of a packet give have the handle of the first one in the first array.
+    -- After this stand the keys. All those that the update arrays of a packet give have the handle of the first one in the first array.
     abbrev pub update_tests : ℕ → ℕ → ℕ → List Test
     update_tests first count at = sealer_tests at ++ given_tests text base (key_made text (first_key Update first)) (first_key Update at) count
 
@@ -127,7 +132,7 @@ module _ (text : List ℕ) where
       then []
       else (if kind_at text at == 3 then array_places more (behind at) else at ∷ array_places more (behind at))
 
-  -- where a walk goes on from an array, given the places of those that follow: at the next one, and behind the last one it ends
+  -- where a walk goes on from an array, given the places of those that follow: at the next one, and after the last one it ends
   abbrev pub place_after : ℕ → List ℕ → ℕ
   place_after at [] = behind at
   place_after at (next ∷ places) = next
@@ -146,7 +151,7 @@ module _ (text : List ℕ) where
   arrays_at [] = []
   arrays_at (at ∷ places) = update_array at places ∷ arrays_at places
 
-  -- the place behind the last of some arrays
+  -- the place after the last of some arrays
   abbrev pub end_of : ℕ → List ℕ → ℕ
   end_of at [] = behind at
   end_of at (next ∷ places) = end_of next places
@@ -156,7 +161,7 @@ module _ (text : List ℕ) where
   span_of [] = None
   span_of (at ∷ places) = Some (record { start = at; end = end_of at places; arrays = length (at ∷ places) })
 
--- where a span starts, and the span with an array behind it that stands between two places
+-- where a span starts, and the span with an array after it that stands between two places
 abbrev pub start_of : Option UpdateSpan → Option ℕ
 start_of None = None
 start_of (Some span) = Some span.start
@@ -170,7 +175,7 @@ abbrev pub first_place : List ℕ → Option ℕ
 first_place [] = None
 first_place (at ∷ places) = Some at
 
--- attributes without fault from here to the end of a text, of which there are at most so many, behind update arrays or none
+-- attributes without fault from here to the end of a text, of which there are at most so many, after update arrays or none
 pub record AreWhole (text : List ℕ) (at : ℕ) : Type 0 where
   pub base : ℕ
   pub more : ℕ
@@ -179,7 +184,7 @@ pub record AreWhole (text : List ℕ) (at : ℕ) : Type 0 where
   pub enough : length text ≤ at + more
   pub faultless : arrays_fault text base more Update first at ≡ None
 
--- an update array without fault stands here, and behind it such attributes
+-- an update array without fault stands here, and after it such attributes
 pub record ArrayStands (text : List ℕ) (at : ℕ) : Type 0 where
   pub within : at < length text
   pub array : kind_at text at ≡ 3 → ⊥

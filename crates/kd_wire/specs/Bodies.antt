@@ -1,6 +1,6 @@
--- The body of a key download payload (RFC 6407 section 5.6): the number of key packets in 2 octets, a reserved field of 2, and the packets. By our choice
--- it has one of three forms: a packet for a traffic key (1) alone; a packet for keys of the tree (LKH, 3) alone, which has update arrays; or one of
--- each, in this order, the second with the download array of a path.
+-- The body of a key download payload (RFC 6407 section 5.6): the number of key packets in 2 octets, a reserved field of 2, and the packets.
+-- By our choice it has one of three forms: a packet for a traffic key (1) alone; a packet for keys of the tree (LKH, 3) alone, which has
+-- update arrays; or one of each, in this order, the second with the download array of a path.
 use Rattle.std.specs.Prelude.{ℕ, ◌+◌, ◌-◌, ◌==◌, ◌||◌, Bool, List, [], ◌∷◌, length, map, take, drop, Option, None, Some, if◌then◌else◌}
 use Rattle.std.specs.List.{list_any, flat_map, range_with_len}
 use Rattle.byteorder.specs.Endian.{big_from}
@@ -68,21 +68,21 @@ module _ (body : List ℕ) where
         ∷ test (big_from 2 2 body == 0) Reserved (base + 2)
         ∷ []
 
-    -- octets behind the last packet are too many
+    -- octets after the last packet are too many
     abbrev pub surplus_fault : ℕ → Option WireFault
     surplus_fault at = first_fault (test (at == length body) Length (base + at) ∷ [])
 
-    -- the first fault behind the header of an LKH packet that begins here
+    -- the first fault after the header of an LKH packet that begins here
     abbrev pub lkh_fault : ArrayKind → ℕ → Option WireFault
     lkh_fault kind at =
         or_else (first_fault (spi_tests (up_to_end body at) base 16 (at + 4)))
         (arrays_fault (up_to_end body at) base (length (up_to_end body at)) kind None (lkh_start at))
 
-    -- behind the header of its packet, a traffic key alone
+    -- after the header of its packet, a traffic key alone
     abbrev pub traffic_alone_fault : Option WireFault
     traffic_alone_fault = or_else (traffic_fault (up_to_end body 4) base 4) (surplus_fault second)
 
-    -- behind the header of its packet, update arrays alone; where no key that they give has LKH ID 1 it is missing at the end
+    -- after the header of its packet, update arrays alone; where no key that they give has LKH ID 1 it is missing at the end
     abbrev pub gives_root_test : Test
     gives_root_test = test (list_any is_root given_keys) Short (base + length body)
 

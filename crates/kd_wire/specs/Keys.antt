@@ -1,6 +1,6 @@
--- A key of LKH (RFC 6407 section 5.6.3.1): its LKH ID in 2 octets, its type in 1, a reserved octet, the dates of its creation and its expiration in 4
--- octets each, its handle in 4, and its data, an IV and a key. Our choices are AES with keys of 128 bits alone, which has the type 3; that a
--- handle tells the epoch of a key; and that dates are not looked at.
+-- A key of LKH (RFC 6407 section 5.6.3.1): its LKH ID in 2 octets, its type in 1, a reserved octet, the dates of its creation and its
+-- expiration in 4 octets each, its handle in 4, and its data, an IV and a key. Our choices are AES with keys of 128 bits alone, which has
+-- the type 3; that a handle is the epoch of a key; and that dates are not looked at.
 use Rattle.std.specs.Prelude.{ℕ, ◌+◌, ◌-◌, ◌*◌, ◌/◌, ◌==◌, ◌&&◌, ◌||◌, nat_lt, not, Bool, List, [], ◌∷◌, ◌++◌, take, drop}
 use Rattle.std.specs.List.{range_with_len, flat_map}
 use Rattle.byteorder.specs.Endian.{big_from}
@@ -31,8 +31,8 @@ module _ (text : List ℕ) where
     value = record { iv = take 16 (drop (at + 16) text); key = take 16 (drop (at + 32) text) };
   }
 
-  -- Behind each key of a path stands that of its parent, up to the root's (RFC 6407 section 5.6.3.1, RFC 2627 section 5.4); in our numbering the parent
-  -- of p is p / 2, and the root is 1. Whether the ID of key k of so many is due:
+  -- After each key of a path stands that of its parent, up to the root's (RFC 6407 section 5.6.3.1, RFC 2627 section 5.4); in our numbering
+  -- the parent of p is p / 2, and the root is 1. Whether the ID of key k of so many is due:
   abbrev pub is_on_path : ℕ → ℕ → ℕ → Bool
   is_on_path first count k =
       not (key_id (place_of_key first k) == 0)
@@ -53,7 +53,7 @@ module _ (text : List ℕ) where
     given_key_tests handle at =
         test (not (key_id at == 0)) Value (base + at) ∷ type_tests at ++ test (key_made at == handle) Value (base + at + 12) ∷ []
 
-    -- so many keys, one behind the other
+    -- so many keys, one after the other
     abbrev pub path_tests : ℕ → ℕ → List Test
     path_tests first count = flat_map (path_key_tests first count) (range_with_len 0 count)
 

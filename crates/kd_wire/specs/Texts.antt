@@ -12,7 +12,7 @@ use Rattle.kd_wire.specs.declared.sealing.WrapJob.{WrapJob}
 use Rattle.kd_wire.specs.declared.updates.UpdateArray.{UpdateArray}
 use Rattle.kd_wire.specs.declared.updates.UpdateKey.{UpdateKey}
 
--- what stands before the attributes of a packet, of which there are so many octets: its header, and its SPI behind the size of that
+-- what stands before the attributes of a packet, of which there are so many octets: its header, and its SPI after the size of that
 abbrev pub packet_head : ℕ → List ℕ → ℕ → List ℕ
 packet_head kind spi size = kind ∷ 0 ∷ big_bytes 2 (5 + length spi + size) ++ length spi ∷ spi
 
@@ -45,8 +45,8 @@ path_text path = flat_map (λ (key : PathKey). key_text key.id key.made (data_of
 abbrev pub download_text : List PathKey → List ℕ
 download_text path = long_text 1 (1 ∷ big_bytes 2 (length path) ++ 0 ∷ path_text path)
 
--- An update array that gives one key (section 5.6.3.2): the key's data, sealed by cipher block chaining under the key that the array names, which has
--- the IV too.
+-- An update array that gives one key (section 5.6.3.2): the key's data, sealed by cipher block chaining under the key that the array names,
+-- which has the IV too.
 abbrev pub update_text : WrapJob → List ℕ → List ℕ
 update_text job sealed =
     long_text 2 (1 ∷ big_bytes 2 1 ++ 0 ∷ big_bytes 2 job.by.id ++ big_bytes 2 0 ++ big_bytes 4 job.by.made ++ key_text job.gives.id job.gives.made sealed)
@@ -66,7 +66,7 @@ update_kd spi arrays = body_text 1 (packet_text 3 spi arrays)
 abbrev pub reply_kd : Keyed → List ℕ
 reply_kd keyed = body_text 2 (traffic_text keyed.traffic ++ packet_text 3 keyed.spi (download_text keyed.path))
 
--- values that can be told: a key with a position that has a number of 2 octets, an epoch of 4, and 16 octets each for its IV and itself
+-- values that can be written: a key with a position that has a number of 2 octets, an epoch of 4, and 16 octets each for its IV and itself
 pub record PathKeyFits (key : PathKey) : Type 0 where
   pub some : 0 < key.id
   pub id : key.id < 65536

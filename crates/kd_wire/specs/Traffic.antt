@@ -1,5 +1,5 @@
--- The key packet of a traffic key (RFC 6407 section 5.6.1): behind its header a SPI's size of 1 octet, the SPI, and two attributes, which are the key
--- of the cipher (1) and that of the integrity (2), in this order or the other one.
+-- The key packet of a traffic key (RFC 6407 section 5.6.1): after its header a SPI's size of 1 octet, the SPI, and two attributes, which
+-- are the key of the cipher (1) and that of the integrity (2), in this order or the other one.
 use Rattle.std.specs.Prelude.{ℕ, ◌+◌, ◌-◌, ◌==◌, ◌&&◌, not, List, [], ◌∷◌, take, drop, Option, if◌then◌else◌}
 use Rattle.std.specs.List.{list_any}
 use Rattle.group_terms.specs.declared.values.TrafficValue.{TrafficValue}
@@ -19,7 +19,7 @@ module _ (text : List ℕ) where
   abbrev pub other_kind : ℕ → ℕ
   other_kind at = 3 - kind_at text at
 
-  -- the place behind the key at a place
+  -- the place after the key at a place
   abbrev pub behind_key : ℕ → ℕ
   behind_key at = at + 4 + key_size (kind_at text at)
 
@@ -41,7 +41,7 @@ module _ (text : List ℕ) where
         (or_else (first_fault (traffic_key_tests (other_kind at ∷ []) (behind_key at)))
         (first_fault (no_more_tests text (behind_key (behind_key at)) base)))
 
-    -- the first fault behind the header of a packet that begins here
+    -- the first fault after the header of a packet that begins here
     abbrev pub traffic_fault : ℕ → Option WireFault
     traffic_fault at = or_else (first_fault (spi_tests text base 4 (at + 4))) (traffic_keys_fault (at + 9))
 

@@ -58,7 +58,7 @@ impl ArrayKind {
         }
     }
 
-    /// Whether an attribute of this kind is due as an array, behind the one that came first.
+    /// Whether an attribute of this kind is due as an array, after the one that came first.
     fn is_due(self, first: Option<usize>, kind: u16) -> bool
         ensures { result ≡ list_any (λ due. due == kind) (due_kinds self first) }
     {
@@ -126,7 +126,7 @@ fn with_item(span: Option<UpdateSpan>, text: &[u8], at: usize, next: usize) -> O
     }
 }
 
-/// Reads an attribute, given the array that came first; gives the place behind it.
+/// Reads an attribute, given the array that came first; gives the place after it.
 fn read_item(
     kind: ArrayKind,
     first: Option<usize>,
@@ -242,7 +242,7 @@ fn read_count(
     Ok(count)
 }
 
-/// Reads what stands behind that in an array with so many keys.
+/// Reads what comes after that in an array with so many keys.
 fn read_keys(
     kind: ArrayKind,
     first: Option<usize>,

@@ -26,8 +26,8 @@ const FIRST: usize = 4;
 /// The size of the SPI of a packet for keys of the tree.
 pub(crate) const LKH_SPI_SIZE: u8 = 16;
 
-/// What a key download payload gives (RFC 6407 section 5.6): a traffic key alone; the SPI of rekey datagrams and where update arrays stand; or a
-/// traffic key, that SPI, and the keys of a path.
+/// What a key download payload gives (RFC 6407 section 5.6): a traffic key alone; the SPI of rekey datagrams and where update arrays stand;
+/// or a traffic key, that SPI, and the keys of a path.
 #[derive(Debug, Drop)]
 pub struct KdView {
     pub tek: Option<TrafficValue>,
@@ -40,8 +40,8 @@ pub struct KdView {
 /// Reads the body of a key download payload, whose first octet has the place `base` in its datagram; else its first fault: Short where a
 /// field is not whole, or an attribute, an array or the root's key is missing; Value where a number, a size, an LKH ID, a key's type or its
 /// handle is not taken; Kind where a packet or an attribute is not awaited, or has a form or a length that is not taken; Reserved where a
-/// reserved field is not zero; Version at an array of another version; Length where a packet's is less than its header or leads out of the body, an array's does not fit its keys, or octets are
-/// left behind the last packet.
+/// reserved field is not zero; Version at an array of another version; Length where a packet's is less than its header or leads out of the
+/// body, an array's does not fit its keys, or octets are left after the last packet.
 pub fn read_kd(body: &[u8], base: u32) -> Result<KdView, WireFault>
     requires small { base + length body.now ≤ 4294967295 }
     ensures { result ≡ answer (kd_fault body.now base) (kd_fields body.now) }
@@ -81,7 +81,7 @@ fn read_one(body: &[u8], base: u32) -> Result<KdView, WireFault>
     read_updates_alone(packet.end, body, base)
 }
 
-/// Reads a traffic key behind the header of its packet, which is the last one.
+/// Reads a traffic key after the header of its packet, which is the last one.
 fn read_traffic_alone(end: usize, body: &[u8], base: u32) -> Result<KdView, WireFault>
     requires end { end ≡ second body.now }
     requires least { 8 ≤ end }
@@ -99,7 +99,7 @@ fn read_traffic_alone(end: usize, body: &[u8], base: u32) -> Result<KdView, Wire
     })
 }
 
-/// Reads update arrays behind the header of their packet, which is the last one.
+/// Reads update arrays after the header of their packet, which is the last one.
 fn read_updates_alone(end: usize, body: &[u8], base: u32) -> Result<KdView, WireFault>
     requires end { end ≡ second body.now }
     requires least { 8 ≤ end }
@@ -118,7 +118,7 @@ fn read_updates_alone(end: usize, body: &[u8], base: u32) -> Result<KdView, Wire
     })
 }
 
-/// Reads a packet for a traffic key, and behind it one with the keys of a path.
+/// Reads a packet for a traffic key, and after it one with the keys of a path.
 fn read_two(body: &[u8], base: u32) -> Result<KdView, WireFault>
     requires within { 4 ≤ length body.now }
     requires small { base + length body.now ≤ 4294967295 }
@@ -144,7 +144,7 @@ struct LkhPacket {
     span: Option<UpdateSpan>,
 }
 
-/// Reads what stands behind the header of a packet for keys of the tree, which stands between two places.
+/// Reads what comes after the header of a packet for keys of the tree, which stands between two places.
 fn read_lkh(
     kind: ArrayKind,
     at: usize,
@@ -197,7 +197,7 @@ fn download(span: Option<UpdateSpan>, at: usize, body: &[u8]) -> Path
     }
 }
 
-/// Nothing stands behind the last packet.
+/// Nothing comes after the last packet.
 fn read_surplus(body: &[u8], at: usize, base: u32) -> Result<(), WireFault>
     requires within { at ≤ length body.now }
     requires small { base + length body.now ≤ 4294967295 }

@@ -101,7 +101,7 @@ fn read_given_key(
     Ok(())
 }
 
-/// Reads the type of a key and the reserved octet behind it.
+/// Reads the type of a key and the reserved octet after it.
 fn read_type(text: &[u8], at: usize, base: u32) -> Result<(), WireFault>
     requires within { at + 48 ≤ length text.now }
     requires small { base + length text.now ≤ 4294967295 }

@@ -71,7 +71,8 @@ pub fn a_body_has_one_of_three_forms()
         GivesTraffic (kd_fields body) ⊎ (GivesUpdates (kd_fields body) ⊎ GivesPath (kd_fields body)) }
 {}
 
-/// Where the SPIs stand in a body without fault: that of the first packet at place 9, and behind a traffic key that of the second at place 74.
+/// Where the SPIs stand in a body without fault: that of the first packet at place 9, and after a traffic key that of the second at place
+/// 74.
 pub fn spis_stand_at_known_places()
     ensures traffic { (body : List ℕ) (base : ℕ) → kd_fault body base ≡ None → IfSome (kd_fields body).tek (λ traffic. traffic.spi ≡ take 4 (drop 9 body)) }
     ensures updates { (body : List ℕ) (base : ℕ) → kd_fault body base ≡ None → (kd_fields body).tek ≡ None →
@@ -80,7 +81,7 @@ pub fn spis_stand_at_known_places()
         IfSome (kd_fields body).lkh_spi (λ spi. spi ≡ take 16 (drop 74 body)) }
 {}
 
-/// Whether a body has a fault does not hang on its place in the datagram.
+/// Whether a body has a fault does not depend on its place in the datagram.
 pub fn a_fault_is_there_from_any_base()
     ensures { (body : List ℕ) (base other : ℕ) → kd_fault body base ≡ None → kd_fault body other ≡ None }
 {}

@@ -20,8 +20,8 @@ pub struct WrapJob {
     pub gives: PathKey,
 }
 
-/// Appends the update array of a job, as an attribute of 64 octets (RFC 6407 section 5.6.3.2): the given key's IV and octets are sealed by cipher
-/// block chaining under the other key, with that key's IV.
+/// Appends the update array of a job, as an attribute of 64 octets (RFC 6407 section 5.6.3.2): the given key's IV and octets are sealed by
+/// cipher block chaining under the other key, with that key's IV.
 pub fn write_update(job: &WrapJob, out: &mut Octets) -> Result<(), NoMemory>
     ensures ok { OnOk result ((text : List ℕ) × IsUpdate job.now text × (out.new ≡ out.old ++ text)) }
     ensures err { OnErr result (out.new ≡ out.old) }

@@ -6,7 +6,7 @@ ghost use Rattle.kd_wire.specs.Spis.{spi_tests};
 use gd_wire::{fault, read_octet, skip};
 use group_terms::{WireFault, WireWhat};
 
-/// The place behind the SPI of this size, whose size is told at a place.
+/// The place after the SPI of this size, whose size is at a place.
 pub(crate) fn skip_spi(size: u8, text: &[u8], at: usize, base: u32) -> Result<usize, WireFault>
     requires within { at ≤ length text.now }
     requires small { base + length text.now ≤ 4294967295 }

@@ -23,7 +23,7 @@ struct KeyPlaces {
     integrity_key: usize,
 }
 
-/// Reads what stands behind the header of the packet that begins at a place and ends with the text (RFC 6407 section 5.6.1).
+/// Reads what comes after the header of the packet that begins at a place and ends with the text (RFC 6407 section 5.6.1).
 pub(crate) fn read_traffic(text: &[u8], at: usize, base: u32) -> Result<TrafficValue, WireFault>
     requires within { at + 4 ≤ length text.now }
     requires small { base + length text.now ≤ 4294967295 }
@@ -59,7 +59,7 @@ fn key_places(kind: u16, first: usize, second: usize) -> KeyPlaces
     }
 }
 
-/// Reads an attribute of one of these kinds; gives the place behind it.
+/// Reads an attribute of one of these kinds; gives the place after it.
 fn read_key(kinds: &[u16], text: &[u8], at: usize, base: u32) -> Result<usize, WireFault>
     requires within { at ≤ length text.now }
     requires small { base + length text.now ≤ 4294967295 }

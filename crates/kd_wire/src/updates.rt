@@ -12,8 +12,8 @@ use byteorder::{BigEndian, ByteOrder};
 use gd_wire::{attribute_kind, is_short};
 use group_terms::LkhId;
 
-/// Where the update arrays of a body stand: from the first octet of the first one to the place behind the last one, counted from the body's first
-/// octet, and how many there are.
+/// Where the update arrays of a body stand: from the first octet of the first one to the place after the last one, counted from the body's
+/// first octet, and how many there are.
 #[derive(Clone, Copy, Debug, PartialEq, Eq)]
 pub struct UpdateSpan {
     pub start: usize,
@@ -21,8 +21,8 @@ pub struct UpdateSpan {
     pub arrays: u32,
 }
 
-/// An update array (RFC 6407 section 5.6.3.2): the position and the epoch of the key under which its first key is sealed, the number of its keys,
-/// the place of the first one, and where a walk goes on. Who wants the second key of an array opens it with the first, and so on.
+/// An update array (RFC 6407 section 5.6.3.2): the position and the epoch of the key under which its first key is sealed, the number of its
+/// keys, the place of the first one, and where a walk goes on. Who wants the second key of an array opens it with the first, and so on.
 #[derive(Clone, Copy, Debug, PartialEq, Eq)]
 pub struct UpdateArray {
     pub by: LkhId,
@@ -40,7 +40,8 @@ pub struct UpdateKey {
     pub sealed: [u8; 32],
 }
 
-/// The array at which a walk stands, or `None` where it is at its end. A walk begins at the start of the span, and goes on where an array says.
+/// The array at which a walk stands, or `None` where it is at its end. A walk begins at the start of the span, and goes on where an array
+/// says.
 pub fn next_update(body: &[u8], span: &UpdateSpan, at: usize) -> Option<UpdateArray>
     requires taken { (base : ℕ) × (kd_fault body.now base ≡ None) }
     requires span { (kd_fields body.now).updates ≡ Some span.now }
@@ -73,7 +74,8 @@ fn packet(body: &[u8]) -> &[u8]
     &body[..4 + usize::from(BigEndian::read_u16(&body[6..]))]
 }
 
-/// Whether one of the keys that so many update arrays give is that of the root; the first of these stands at a place, and they end with the text.
+/// Whether one of the keys that so many update arrays give is that of the root; the first of these stands at a place, and they end with the
+/// text.
 pub(crate) fn give_root(body: &[u8], text: &[u8], arrays: u32, start: usize) -> bool
     requires text { (end : ℕ) × (text.now ≡ take end body.now) }
     requires whole { AreWhole text.now start }
@@ -136,7 +138,7 @@ fn find_array(text: &[u8], start: usize) -> Option<usize>
     None
 }
 
-/// The place behind the attribute that begins here.
+/// The place after the attribute that begins here.
 fn behind(text: &[u8], at: usize) -> usize
     requires here { at + 4 ≤ length text.now }
     requires within { behind text.now at ≤ length text.now }

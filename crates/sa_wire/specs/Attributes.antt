@@ -9,24 +9,24 @@ use Rattle.gd_wire.specs.Fields.{there}
 use Rattle.sa_wire.specs.Rules.{has_rule, rule_for, takes, without}
 
 module _ (text : List ℕ) where
-  -- the place behind the attribute at this place; a long form that is taken has 4 octets
+  -- the place after the attribute at this place; a long form that is taken has 4 octets
   abbrev pub behind : ℕ → ℕ
   behind at = if is_short text at then at + 4 else at + 8
 
-  -- the place of the attribute of this kind among so many from here on, and the place behind them where there is none
+  -- the place of the attribute of this kind among so many from here on, and the place after them where there is none
   abbrev pub place_of : ℕ → ℕ → ℕ → ℕ
   place_of kind zero at = at
   place_of kind (suc more) at = if kind_at text at == kind then at else place_of kind more (behind at)
 
   module _ (base : ℕ) where
-    -- The type is that of one of these rules. A fault of the kind or the form is told at the type, one of a number at that.
+    -- The type is that of one of these rules. A fault of the kind or the form is at the type, one of a number at that.
     abbrev pub type_tests : List Rule → ℕ → List Test
     type_tests rules at =
         there text base at 2
         ∷ test (has_rule (kind_at text at) rules) (Kind (kind_at text at)) (base + at)
         ∷ []
 
-    -- behind the type, in the short form, a number that the rule takes
+    -- after the type, in the short form, a number that the rule takes
     abbrev pub short_tests : Rule → ℕ → List Test
     short_tests rule at =
         there text base (at + 2) 2

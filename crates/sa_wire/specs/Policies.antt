@@ -1,7 +1,7 @@
--- The body of an SA payload (RFC 6407 section 5.2): the domain of interpretation in 4 octets, which is 2 for GDOI, the situation 0 in 4, the kind of
--- the first payload of a policy in 2, a reserved field of 2, and then the payloads. Our choices are that there is one for the KEK at most (SAK, 15), and
--- then one for the TEK at most (SAT, 16), of the two at least one, and none of another kind; and that the TEK is for ESP with AES. What stands in front
--- is tested first.
+-- The body of an SA payload (RFC 6407 section 5.2): the domain of interpretation in 4 octets, which is 2 for GDOI, the situation 0 in 4,
+-- the kind of the first payload of a policy in 2, a reserved field of 2, and then the payloads. Our choices are that there is one for the
+-- KEK at most (SAK, 15), and then one for the TEK at most (SAT, 16), of the two at least one, and none of another kind; and that the TEK is
+-- for ESP with AES. What stands in front is tested first.
 use Rattle.std.specs.Prelude.{ℕ, ◌+◌, ◌==◌, ◌||◌, ◌≤◌, List, [], ◌∷◌, length, take, drop, Option, None, Some, IfSome, if◌then◌else◌}
 use Rattle.byteorder.specs.Endian.{big_from}
 use Rattle.group_terms.specs.declared.wires.WireFault.{WireFault}
@@ -18,16 +18,17 @@ use Rattle.sa_wire.specs.declared.places.TekPlaces.{TekPlaces}
 use Rattle.sa_wire.specs.Rules.{kek_rules, tek_rules}
 use Rattle.sa_wire.specs.Attributes.{attributes_fault, place_of}
 
--- Two identifications stand in a policy, for the source and the destination: a type of 1 octet, a port of 2, and the length of the data in 1,
--- before the data. The place behind one, and behind both:
+-- Two identifications stand in a policy, for the source and the destination: a type of 1 octet, a port of 2, and the length of the data in
+-- 1, before the data. The place after one, and after both:
 abbrev pub id_end : List ℕ → ℕ → ℕ
 id_end text at = at + 4 + octet_at text (at + 3)
 
 abbrev pub ids_end : List ℕ → ℕ → ℕ
 ids_end text at = id_end text (id_end text at)
 
--- Where the SPI begins in a policy that begins here. In that of the KEK (RFC 6407 section 5.3) a protocol of 1 octet and the identifications are
--- before it; in that of the TEK (section 5.5) the protocol's id and the protocol, 1 octet each, the identifications, and the transform's id.
+-- Where the SPI begins in a policy that begins here. In that of the KEK (RFC 6407 section 5.3) a protocol of 1 octet and the
+-- identifications are before it; in that of the TEK (section 5.5) the protocol's id and the protocol, 1 octet each, the identifications,
+-- and the transform's id.
 abbrev pub kek_spi : List ℕ → ℕ → ℕ
 kek_spi text at = ids_end text (at + 1)
 
@@ -41,7 +42,7 @@ module _ (text : List ℕ) (base : ℕ) where
   abbrev pub ids_fault : ℕ → Option WireFault
   ids_fault at = or_else (first_fault (id_tests at)) (first_fault (id_tests (id_end text at)))
 
-  -- a SPI of 16 octets, and a reserved field of 4, stand behind the identifications
+  -- a SPI of 16 octets, and a reserved field of 4, come after the identifications
   abbrev pub kek_tests : ℕ → List Test
   kek_tests spi =
       there text base spi 16
@@ -94,7 +95,7 @@ module _ (body : List ℕ) (base : ℕ) where
       ∷ test (big_from 10 2 body == 0) Reserved (base + 10)
       ∷ []
 
-  -- octets behind the last payload are too many
+  -- octets after the last payload are too many
   abbrev pub end_fault : ℕ → Option WireFault
   end_fault at = first_fault (test (at == length body) Length (base + at) ∷ [])
 
@@ -105,7 +106,7 @@ module _ (body : List ℕ) (base : ℕ) where
       (or_else (tek_fault (up_to_end body at) base (at + 4))
       (end_fault (section_end body at)))
 
-  -- behind the payload for the KEK: that for the TEK, where it is named, or nothing
+  -- after the payload for the KEK: that for the TEK, where it is named, or nothing
   abbrev pub rest_fault : ℕ → ℕ → Option WireFault
   rest_fault next at = if next == 16 then sat_fault at else end_fault at
 

@@ -3,8 +3,8 @@ use Rattle.std.specs.Prelude.{ℕ, ◌==◌, ◌&&◌, nat_le, nat_lt, Bool, tru
 use Rattle.std.specs.List.{position_or_len}
 use Rattle.sa_wire.specs.declared.rules.Rule.{Rule}
 
--- A rule has a kind, the least and the most of the numbers that are taken in the short form, and says whether a long form of 4 octets is taken
--- too, with any value.
+-- A rule has a kind, the least and the most of the numbers that are taken in the short form, and says whether a long form of 4 octets is
+-- taken too, with any value.
 
 -- of this kind just this number is taken
 abbrev pub only : ℕ → ℕ → Rule
@@ -22,13 +22,14 @@ any kind = record { kind = kind; least = 0; most = 65535; long = false }
 abbrev pub any_form : ℕ → Rule
 any_form kind = record { kind = kind; least = 0; most = 65535; long = true }
 
--- Of the KEK (RFC 6407 section 5.3), by our choice of values: the management algorithm is LKH, the algorithm AES, and its key length 128 bits; any lifetime in
--- either form; the signature's hash is SHA-256; any algorithm of the signature, and any length of its key.
+-- Of the KEK (RFC 6407 section 5.3), by our choice of values: the management algorithm is LKH, the algorithm AES, and its key length 128
+-- bits; any lifetime in either form; the signature's hash is SHA-256; any algorithm of the signature, and any length of its key.
 abbrev pub kek_rules : List Rule
 kek_rules = only 1 1 ∷ only 2 3 ∷ only 3 128 ∷ any_form 4 ∷ only 5 3 ∷ any 6 ∷ any 7 ∷ []
 
--- Of the TEK (RFC 6407 section 5.5, RFC 2407 section 4.5), by our choice too: the life type is seconds; any life duration in either form; the encapsulation mode is
--- tunnel or transport, the authentication algorithm HMAC with SHA-256 (RFC 4868), and the key length 128 bits (RFC 3602 section 5.3).
+-- Of the TEK (RFC 6407 section 5.5, RFC 2407 section 4.5), by our choice too: the life type is seconds; any life duration in either form;
+-- the encapsulation mode is tunnel or transport, the authentication algorithm HMAC with SHA-256 (RFC 4868), and the key length 128 bits
+-- (RFC 3602 section 5.3).
 abbrev pub tek_rules : List Rule
 tek_rules = only 1 1 ∷ any_form 2 ∷ between 4 1 2 ∷ only 5 5 ∷ only 6 128 ∷ []
 

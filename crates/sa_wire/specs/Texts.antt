@@ -75,7 +75,7 @@ tek_size (Some tek) = 51
 abbrev pub sa_size : SaPolicy → ℕ
 sa_size policy = 12 + kek_size policy.kek + tek_size policy.tek
 
--- policies that can be told: a SPI of 16 octets for the KEK and one of 4 for the TEK, and numbers of 2 octets for the signature
+-- policies that can be written: a SPI of 16 octets for the KEK and one of 4 for the TEK, and numbers of 2 octets for the signature
 pub record KekPolicyFits (kek : KekPolicy) : Type 0 where
   pub spi : length kek.spi ≡ 16
   pub algorithm : kek.sign.algorithm < 65536

@@ -34,7 +34,7 @@ pub(crate) fn read_attributes(
     read_no_more(text, at, base)
 }
 
-/// Reads an attribute for which a rule is due, and takes that rule off; gives the place behind the attribute.
+/// Reads an attribute for which a rule is due, and takes that rule off; gives the place after the attribute.
 fn read_attribute(
     due: &mut ArrayVec<Rule, MOST_RULES>,
     text: &[u8],
@@ -71,7 +71,7 @@ fn place_among(rules: &[Rule], kind: u16) -> Option<usize>
     rules.iter().position(|rule| rule.kind == kind)
 }
 
-/// Reads what stands behind the type of an attribute; gives the place behind that.
+/// Reads what comes after the type of an attribute; gives the place after that.
 fn read_value(rule: &Rule, text: &[u8], at: usize, base: u32) -> Result<usize, WireFault>
     requires within { at + 2 ≤ length text.now }
     requires small { base + length text.now ≤ 4294967295 }
@@ -123,7 +123,7 @@ fn other_kind(text: &[u8], at: usize, base: u32) -> WireFault
     fault(WireWhat::Kind { number }, base + at as u32)
 }
 
-/// The place behind an attribute without fault.
+/// The place after an attribute without fault.
 fn behind(text: &[u8], at: usize) -> usize
     requires here { at + 2 ≤ length text.now }
     requires within { behind text.now at ≤ length text.now }

@@ -15,7 +15,7 @@ pub fn written_policies_have_their_size()
     ensures { (policy : SaPolicy) → PolicyFits policy → length (sa_text policy) ≡ sa_size policy }
 {}
 
-/// Whether a body has a fault does not hang on its place in the datagram.
+/// Whether a body has a fault does not depend on its place in the datagram.
 pub fn a_fault_is_there_from_any_base()
     ensures { (body : List ℕ) (base other : ℕ) → sa_fault body base ≡ None → sa_fault body other ≡ None }
 {}

@@ -88,7 +88,7 @@ fn find_with_kek(body: &[u8], base: u32) -> Result<SaPlaces, WireFault>
     })
 }
 
-/// Reads what stands behind the payload for the KEK: the payload for the TEK, where that comes next, or nothing.
+/// Reads what comes after the payload for the KEK: the payload for the TEK, where that comes next, or nothing.
 fn read_rest(part: Section, body: &[u8], base: u32) -> Result<Option<TekPlaces>, WireFault>
     requires within { part.end ≤ length body.now }
     requires small { base + length body.now ≤ 4294967295 }
@@ -125,7 +125,7 @@ fn read_head(body: &[u8], base: u32) -> Result<u16, WireFault>
     Ok(first)
 }
 
-/// Reads the payload for the TEK, and that nothing stands behind it.
+/// Reads the payload for the TEK, and that nothing comes after it.
 fn read_sat(body: &[u8], at: usize, base: u32) -> Result<TekPlaces, WireFault>
     requires within { at ≤ length body.now }
     requires small { base + length body.now ≤ 4294967295 }
@@ -138,7 +138,7 @@ fn read_sat(body: &[u8], at: usize, base: u32) -> Result<TekPlaces, WireFault>
     Ok(places)
 }
 
-/// Nothing stands behind the last payload.
+/// Nothing comes after the last payload.
 fn read_end(body: &[u8], at: usize, base: u32) -> Result<(), WireFault>
     requires within { at ≤ length body.now }
     requires small { base + length body.now ≤ 4294967295 }
@@ -168,7 +168,7 @@ fn find_kek(text: &[u8], at: usize, base: u32) -> Result<KekPlaces, WireFault>
     })
 }
 
-/// Reads what stands before the attributes; gives the place of the SPI, which has 16 octets, with 4 reserved ones behind it.
+/// Reads what stands before the attributes; gives the place of the SPI, which has 16 octets, with 4 reserved ones after it.
 fn find_kek_spi(text: &[u8], at: usize, base: u32) -> Result<usize, WireFault>
     requires within { at ≤ length text.now }
     requires small { base + length text.now ≤ 4294967295 }
@@ -208,7 +208,7 @@ fn find_tek_spi(text: &[u8], at: usize, base: u32) -> Result<usize, WireFault>
     skip_transform(text, transform, base)
 }
 
-/// The place behind the protocol's id, which is that of ESP, and the protocol.
+/// The place after the protocol's id, which is that of ESP, and the protocol.
 fn skip_protocol(text: &[u8], at: usize, base: u32) -> Result<usize, WireFault>
     requires within { at ≤ length text.now }
     requires small { base + length text.now ≤ 4294967295 }
@@ -221,7 +221,7 @@ fn skip_protocol(text: &[u8], at: usize, base: u32) -> Result<usize, WireFault>
     skip(text, at + 1, 1, base)
 }
 
-/// The place behind the transform's id, which is that of AES; there a SPI of 4 octets stands.
+/// The place after the transform's id, which is that of AES; there a SPI of 4 octets stands.
 fn skip_transform(text: &[u8], at: usize, base: u32) -> Result<usize, WireFault>
     requires within { at ≤ length text.now }
     requires small { base + length text.now ≤ 4294967295 }
@@ -235,7 +235,7 @@ fn skip_transform(text: &[u8], at: usize, base: u32) -> Result<usize, WireFault>
     Ok(at + 1)
 }
 
-/// The place behind the identifications of the source and the destination.
+/// The place after the identifications of the source and the destination.
 fn skip_ids(text: &[u8], at: usize, base: u32) -> Result<usize, WireFault>
     requires within { at ≤ length text.now }
     requires small { base + length text.now ≤ 4294967295 }
@@ -246,7 +246,7 @@ fn skip_ids(text: &[u8], at: usize, base: u32) -> Result<usize, WireFault>
     skip_id(text, second, base)
 }
 
-/// The place behind an identification: its type, its port, and the length of its data stand before these.
+/// The place after an identification: its type, its port, and the length of its data stand before these.
 fn skip_id(text: &[u8], at: usize, base: u32) -> Result<usize, WireFault>
     requires within { at ≤ length text.now }
     requires small { base + length text.now ≤ 4294967295 }

@@ -38,11 +38,11 @@ pub struct TekPolicy {
     pub spi: [u8; 4],
 }
 
-/// Reads the body of an SA payload, whose first octet has the place `base` in its datagram; else its first fault: Short where a field is not
-/// whole, Value where a number is not taken, Reserved where a reserved field is not zero, Length where a payload's is less than its header or
-/// leads out of the body, or octets are left behind the last payload, and Kind where a payload is not awaited, or an attribute has no rule, is
-/// there a second time or has a form that is not taken; Short at the end of a payload, too, where an attribute is missing. Any identifications of any
-/// protocol are taken, and any lifetime, short or long in 4 octets; the order of attributes is free.
+/// Reads the body of an SA payload, whose first octet has the place `base` in its datagram; else its first fault: Short where a field is
+/// not whole, Value where a number is not taken, Reserved where a reserved field is not zero, Length where a payload's is less than its
+/// header or leads out of the body, or octets are left after the last payload, and Kind where a payload is not awaited, or an attribute has
+/// no rule, is there a second time or has a form that is not taken; Short at the end of a payload, too, where an attribute is missing. Any
+/// identifications of any protocol are taken, and any lifetime, short or long in 4 octets; the order of attributes is free.
 pub fn read_sa(body: &[u8], base: u32) -> Result<SaPolicy, WireFault>
     requires small { base + length body.now ≤ 4294967295 }
     ensures { result ≡ answer (sa_fault body.now base) (sa_fields body.now) }

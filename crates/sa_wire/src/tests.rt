@@ -93,7 +93,7 @@ fn attributes_are_taken_in_any_order(rt: HostRuntime) -> Result<(), Fail> {
     Ok(())
 }
 
-/// A second attribute of a kind, one without a rule, a long form where that is not taken, and a number that is not taken, behind a SAT of
+/// A second attribute of a kind, one without a rule, a long form where that is not taken, and a number that is not taken, after a SAT of
 /// which the attributes begin at place 39 of the body.
 #[test]
 fn attributes_stand_exactly_once(rt: HostRuntime) -> Result<(), Fail> {

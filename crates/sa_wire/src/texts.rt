@@ -94,7 +94,7 @@ fn append_head(first: u8, out: &mut Octets) -> Result<(), NoMemory>
     out.extend(&[0, 0, 0, 2, 0, 0, 0, 0, 0, first, 0, 0])
 }
 
-/// Appends the payload for the KEK, behind which one of this kind comes, or none for 0.
+/// Appends the payload for the KEK, after which one of this kind comes, or none for 0.
 fn append_sak(kek: &KekPolicy, next: u8, out: &mut Octets) -> Result<(), NoMemory>
     ensures ok { OnOk result (out.new ≡ out.old ++ payload_text next (kek_text kek.now)) }
     ensures err { OnErr result (take (length out.old) out.new ≡ out.old) }

@@ -1,5 +1,4 @@
 pub mod Lines
 pub mod Numbers
 pub mod Report
-pub mod Requests
 pub mod Words

@@ -1,11 +1,11 @@
 -- What a line of a script says.
 use Rattle.std.specs.Prelude.{ℕ, ◌^◌, ◌&&◌, nat_lt, nat_le, nat_eq, Bool, true, false, List, [], ◌∷◌, length, Option, None, Some, if◌then◌else◌, codes}
-use Rattle.std.specs.List.{starts_with, list_all}
+use Rattle.std.specs.List.{starts_with}
 use Rattle.std.specs.Option.{option_map, option_and_then}
 use Rattle.std.specs.Str.{bytes_eq}
 use Rattle.group_terms.specs.Names.{Name, name_of}
 use Rattle.script_text.specs.Words.{words_of}
-use Rattle.script_text.specs.Numbers.{is_digit, number_of}
+use Rattle.script_text.specs.Numbers.{decimal_in}
 use Rattle.script_text.specs.declared.lines.Line.{Line}
 use Rattle.script_text.specs.declared.lines.Line.TheVariants.{Nothing, Join, Leave, Batch, Derive}
 
@@ -27,9 +27,7 @@ command_with command name =
 
 -- a number of 1 to 10 decimal digits, below 2^32
 abbrev pub number_in : List ℕ → Option ℕ
-number_in text =
-    if nat_le 1 (length text) && (nat_le (length text) 10 && (list_all is_digit text && nat_lt (number_of text) (2 ^ 32)))
-    then Some (number_of text) else None
+number_in text = decimal_in 10 (2 ^ 32) text
 
 -- the names that words are, where each is one
 abbrev pub names_of : List (List ℕ) → Option (List Name)
@@ -44,7 +42,7 @@ members_of words = if nat_le 1 (length words) && nat_le (length words) 8 then na
 abbrev pub derive_of : List ℕ → List (List ℕ) → Option Line
 derive_of number names = option_and_then (λ epoch. option_map (λ members. Derive epoch members) (members_of names)) (number_in number)
 
--- a command, by the words behind it
+-- a command, by the words after it
 abbrev pub command_of : List ℕ → List (List ℕ) → Option Line
 command_of command [] = lone_command command
 command_of command (first ∷ others) =

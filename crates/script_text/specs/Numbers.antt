@@ -1,6 +1,6 @@
 -- Decimal numbers.
-use Rattle.std.specs.Prelude.{ℕ, ◌+◌, ◌-◌, ◌*◌, ◌&&◌, nat_le, Bool, List}
-use Rattle.std.specs.List.{fold}
+use Rattle.std.specs.Prelude.{ℕ, ◌+◌, ◌-◌, ◌*◌, ◌&&◌, nat_le, nat_lt, Bool, List, length, Option, None, Some, if◌then◌else◌}
+use Rattle.std.specs.List.{fold, list_all}
 
 abbrev pub is_digit : ℕ → Bool
 is_digit c = nat_le 48 c && nat_le c 57
@@ -8,3 +8,11 @@ is_digit c = nat_le 48 c && nat_le c 57
 -- what decimal digits say
 abbrev pub number_of : List ℕ → ℕ
 number_of digits = fold (λ number digit. number * 10 + (digit - 48)) 0 digits
+
+-- whether a text is 1 to so many digits
+abbrev pub is_number : ℕ → List ℕ → Bool
+is_number most text = nat_le 1 (length text) && (nat_le (length text) most && list_all is_digit text)
+
+-- the number that a text of 1 to so many digits says, where it is below a limit; leading zeros are taken
+abbrev pub decimal_in : ℕ → ℕ → List ℕ → Option ℕ
+decimal_in most limit text = if is_number most text && nat_lt (number_of text) limit then Some (number_of text) else None

@@ -51,26 +51,41 @@ epoch_line output = line_with (
 abbrev pub create_text : ℕ → Answer → List ℕ
 create_text depth (Opened group resent) = line_with (codes "new" ∷ codes "depth" ∷ decimal depth ∷ [])
 create_text depth (Refused why) = refusal_line (codes "new") why
-create_text depth answer = []
+create_text depth Done = []
+create_text depth Queued = []
+create_text depth (Batched output) = []
+create_text depth Nothing = []
+create_text depth (Derived can) = []
 
 -- the name waits for the next batch, or is a member already
 abbrev pub join_text : Name → Answer → List ℕ
 join_text m Queued = line_with (m ∷ codes "queued" ∷ [])
 join_text m Nothing = line_with (m ∷ codes "nothing" ∷ [])
 join_text m (Refused why) = refusal_line m why
-join_text m answer = []
+join_text m Done = []
+join_text m (Batched output) = []
+join_text m (Opened group resent) = []
+join_text m (Derived can) = []
 
 -- the member goes out with the next batch
 abbrev pub leave_text : Name → Answer → List ℕ
 leave_text m Done = line_with (m ∷ codes "leaving" ∷ [])
 leave_text m (Refused why) = refusal_line m why
-leave_text m answer = []
+leave_text m Queued = []
+leave_text m (Batched output) = []
+leave_text m (Opened group resent) = []
+leave_text m Nothing = []
+leave_text m (Derived can) = []
 
 -- what the batch made, and then each of its wraps in order
 abbrev pub batch_text : Answer → List ℕ
 batch_text (Batched output) = epoch_line output ++ flat_map wrap_line output.wraps
 batch_text (Refused why) = refusal_line (codes "batch") why
-batch_text answer = []
+batch_text Done = []
+batch_text Queued = []
+batch_text (Opened group resent) = []
+batch_text Nothing = []
+batch_text (Derived can) = []
 
 abbrev pub derived_word : Bool → List ℕ
 derived_word derived = if derived then codes "yes" else codes "none"
@@ -78,7 +93,12 @@ derived_word derived = if derived then codes "yes" else codes "none"
 -- of which epoch, who, and whether they derive its traffic key
 abbrev pub derive_text : ℕ → List Name → Answer → List ℕ
 derive_text epoch members (Derived derived) = line_with (codes "derive" ∷ decimal epoch ∷ (members ++ derived_word derived ∷ []))
-derive_text epoch members answer = []
+derive_text epoch members Done = []
+derive_text epoch members Queued = []
+derive_text epoch members (Batched output) = []
+derive_text epoch members (Opened group resent) = []
+derive_text epoch members Nothing = []
+derive_text epoch members (Refused why) = []
 
 -- what is reported of an answer, by what was asked
 abbrev pub answer_text : Asked → Answer → List ℕ

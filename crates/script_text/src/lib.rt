@@ -3,8 +3,8 @@
 
 pub use ends::end_line;
 pub use lines::{Line, MOST_LINE_OCTETS, read_line};
+pub use numbers::read_decimal;
 pub use reports::report_entry;
-pub use requests::request_of;
 
 mod ends;
 mod lines;
@@ -12,7 +12,6 @@ mod members;
 mod numbers;
 mod refusals;
 mod reports;
-mod requests;
 #[cfg(test)]
 mod tests;
 mod words;

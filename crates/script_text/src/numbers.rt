@@ -1,11 +1,17 @@
-ghost use Rattle.std.specs.Prelude.{◌≡◌, ◌^◌, ◌<◌, ◌++◌, min, true, OnOk};
+ghost use Rattle.std.specs.Prelude.{◌≡◌, ◌≤◌, ◌^◌, ◌++◌, min, IsTrue, true, OnOk};
 ghost use Rattle.std.specs.Fmt.{decimal};
 ghost use Rattle.std.specs.List.{list_all};
-ghost use Rattle.script_text.specs.Numbers.{is_digit, number_of};
+ghost use Rattle.script_text.specs.Numbers.{is_digit, is_number, number_of, decimal_in};
 ghost use Rattle.script_text.specs.Lines.{number_in};
 
 use group_model::{NoMemory, Octets};
 use std::alloc::Global;
+
+/// How many digits the number of an epoch has at the most.
+const MOST_EPOCH_DIGITS: usize = 10;
+
+/// One more than the last epoch that has a number.
+const EPOCH_LIMIT: u64 = 1 << 32;
 
 /// Puts a number at the end of a text, in decimal.
 pub fn append_number(alloc: Global, number: u32, out: &mut Octets) -> Result<(), NoMemory>
@@ -16,25 +22,33 @@ pub fn append_number(alloc: Global, number: u32, out: &mut Octets) -> Result<(),
     Ok(())
 }
 
-/// How many digits a number has at the most.
-const MOST_DIGITS: usize = 10;
-
-/// More than any number. Greater ones count as this one.
-const TOO_MUCH: u64 = 1 << 32;
-
 /// The number that a text is, of 1 to 10 decimal digits and below 2^32; `None` where it is none.
 pub fn read_number(text: &[u8]) -> Option<u32>
     ensures { result ≡ number_in text.now }
 {
-    if text.is_empty() || text.len() > MOST_DIGITS || !are_digits(text) {
+    let number = read_decimal(text, MOST_EPOCH_DIGITS, EPOCH_LIMIT)?;
+    Some(number as u32)
+}
+
+/// The number that a text says, of 1 to so many decimal digits and below a limit; `None` where it says none.
+///
+/// The limit is at most 2^32. Leading zeros are taken.
+pub fn read_decimal(text: &[u8], most_digits: usize, limit: u64) -> Option<u64>
+    requires { limit ≤ 2 ^ 32 }
+    ensures { result ≡ decimal_in most_digits limit text.now }
+{
+    if !reads_as_number(text, most_digits) {
         return None;
     }
-    let number = number_of(text);
-    if number == TOO_MUCH {
-        None
-    } else {
-        Some(number as u32)
-    }
+    let number = number_of(text, limit);
+    if number < limit { Some(number) } else { None }
+}
+
+fn reads_as_number(text: &[u8], most_digits: usize) -> bool
+    ensures test { result ≡ is_number most_digits text.now }
+    ensures digits { IsTrue result → list_all is_digit text.now ≡ true }
+{
+    1 <= text.len() && text.len() <= most_digits && are_digits(text)
 }
 
 fn are_digits(text: &[u8]) -> bool
@@ -43,14 +57,15 @@ fn are_digits(text: &[u8]) -> bool
     text.iter().all(|c| c.is_ascii_digit())
 }
 
-/// The number that digits say, up to `TOO_MUCH`.
-fn number_of(digits: &[u8]) -> u64
-    requires { list_all is_digit digits.now ≡ true }
-    ensures { result ≡ min (number_of digits.now) TOO_MUCH }
+/// The number that digits say, up to a limit.
+fn number_of(digits: &[u8], limit: u64) -> u64
+    requires digits { list_all is_digit digits.now ≡ true }
+    requires limit { limit ≤ 2 ^ 32 }
+    ensures { result ≡ min (number_of digits.now) limit }
 {
     let mut number = 0;
     for digit in digits {
-        number = (number * 10 + u64::from(digit.saturating_sub(b'0'))).min(TOO_MUCH);
+        number = (number * 10 + u64::from(digit.saturating_sub(b'0'))).min(limit);
     }
     number
 }

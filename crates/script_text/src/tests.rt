@@ -1,4 +1,4 @@
-use crate::{Line, end_line, read_line, report_entry, request_of};
+use crate::{Line, end_line, read_decimal, read_line, report_entry};
 use group_model::{
     Answer, Asked, Entry, GroupSeen, KeyName, List, LkhId, MOST_MEMBERS, MemberName, MemberNames,
     Output, Outside, Refusal, Wrap,
@@ -144,12 +144,11 @@ fn batched(alloc: Global) -> Result<Answer, Fail> {
 fn entries_are_reported_in_lines(rt: HostRuntime) -> Result<(), Fail> {
     let alloc = rt.alloc();
     let member = MemberName::read(b"b_1").ok_or("a name")?;
-    let joins = request_of(Line::Join { member }).ok_or("a request")?;
     let entries = [
         entry_of(Asked::Create { depth: 2 }, opened(alloc)),
         refused(Asked::Create { depth: 2 }, Refusal::NoMemory),
         entry_of(Asked::Create { depth: 2 }, Answer::Queued),
-        entry_of(joins, Answer::Queued),
+        entry_of(Asked::Join { member }, Answer::Queued),
         entry_of(Asked::Join { member }, Answer::Nothing),
         refused(Asked::Join { member }, Refusal::TreeFull { held: 4 }),
         entry_of(Asked::Leave { member }, Answer::Done),
@@ -175,4 +174,20 @@ fn entries_are_reported_in_lines(rt: HostRuntime) -> Result<(), Fail> {
         wrap 1.2 traffic.2\nbatch refused no-memory\nderive 7 b_1 b_1 yes\nderive 0 b_1 none\nend 0\nend 2 line 7\n";
     assert_eq!(rt; out.as_slice(), lines.as_slice());
     Ok(())
+}
+
+#[test]
+fn decimal_numbers_are_read(rt: HostRuntime) {
+    let table = [
+        ("0", Some(0)),
+        ("004", Some(4)),
+        ("0004", None),
+        ("5", None),
+        ("", None),
+        ("+4", None),
+        ("4 ", None),
+    ];
+    for (text, number) in table {
+        assert_eq!(rt; read_decimal(text.as_bytes(), 3, 5), number, "{text}");
+    }
 }

@@ -6,7 +6,8 @@ use Rattle.std.proofs.lemmas.Bool.{or_left, or_right, or_cases, false≢true}
 use Rattle.std.proofs.lemmas.List.Elements.{Contains-append_left, Contains-append_right, Contains-append_cases, Contains-push, Contains-push_cases}
 use Rattle.std.proofs.lemmas.List.{append_assoc, append-nil, take_more, map_more}
 use Rattle.std.proofs.lemmas.List.Concat.{flat_map-append}
-use Rattle.sym_closure.specs.Firsts.{AreFirsts, Gains, HasSame}
+use Rattle.sym_closure.specs.Firsts.{AreFirsts, AreAmong, HasSame}
+use Rattle.sym_closure.specs.Private.Gains.{Gains}
 
 pub AreFirsts-then : {X : Type 0} (seen a b firsts others : List X) → AreFirsts seen a firsts → AreFirsts (seen ++ firsts) b others → AreFirsts seen (a ++ b) (firsts ++ others)
 AreFirsts-then seen [] b firsts others h k =
@@ -28,6 +29,20 @@ AreFirsts-then seen (item ∷ a) b firsts others h k = elim h [
 
 pub Gains-none : {X : Type 0} (items : List X) → Gains items [] items
 Gains-none items = ([], sym (append-nil items), refl)
+
+-- an item that is new, and one that is not
+pub Gains-new : {X : Type 0} (items : List X) (item : X) → (Contains items item → ⊥) → Gains items (item ∷ []) (items ++ item ∷ [])
+Gains-new items item new = (item ∷ [], refl, inr (new, ([], refl, refl)))
+
+pub Gains-old : {X : Type 0} (items : List X) (item : X) → Contains items item → Gains items (item ∷ []) items
+Gains-old items item there = ([], sym (append-nil items), inl (there, refl))
+
+-- where an item is new, the list has it and no other
+pub Gains-one : {X : Type 0} (old new : List X) (item : X) → (Contains old item → ⊥) → Gains old (item ∷ []) new → new ≡ old ++ item ∷ []
+Gains-one old new item absent h = elim h.2 [
+  | inl there ↦ absurd (absent there.0)
+  | inr one ↦ h.1 ∙ ap (λ firsts. old ++ firsts) (one.1.1 ∙ ap (λ others. item ∷ others) one.1.2)
+]
 
 pub Gains-then : {X : Type 0} (first second third a b : List X) → Gains first a second → Gains second b third → Gains first (a ++ b) third
 Gains-then first second third a b h k = (
@@ -84,7 +99,8 @@ Gains-next_one f first second third items place item within is h k =
     (Gains-then first second third (map f (take place items)) (f item ∷ []) h k)
 
 -- the first items are the same items
-firsts_in : {X : Type 0} (seen items firsts : List X) → AreFirsts seen items firsts → (item : X) → Contains items item → Contains (seen ++ firsts) item
+pub firsts_in : {X : Type 0} (seen items firsts : List X) → AreFirsts seen items firsts → (item : X) → Contains items item
+    → Contains (seen ++ firsts) item
 firsts_in seen [] firsts h item c = absurd (no_item item c)
 firsts_in seen (first ∷ items) firsts h item c = elim h [
   | inl there ↦ elim (Contains-append_cases (first ∷ []) items item c) [
@@ -101,7 +117,8 @@ firsts_in seen (first ∷ items) firsts h item c = elim h [
       )
 ]
 
-firsts_of : {X : Type 0} (seen items firsts : List X) → AreFirsts seen items firsts → (item : X) → Contains firsts item → Contains items item
+pub firsts_of : {X : Type 0} (seen items firsts : List X) → AreFirsts seen items firsts → (item : X) → Contains firsts item
+    → Contains items item
 firsts_of seen [] firsts h item c = absurd (no_item item (subst (λ all. Contains all item) h c))
 firsts_of seen (first ∷ items) firsts h item c = elim h [
   | inl there ↦ Contains-append_right (first ∷ []) items item (firsts_of seen items firsts there.1 item c)
@@ -119,3 +136,38 @@ HasSame-firsts items firsts h = (firsts_in [] items firsts h, firsts_of [] items
 
 pub HasSame-gained : {X : Type 0} (items firsts : List X) → Gains [] items firsts → HasSame items firsts
 HasSame-gained items firsts h = subst (HasSame items) (sym h.1) (HasSame-firsts items h.0 h.2)
+
+-- what a list gained is there
+pub Gains-has : {X : Type 0} (old items new : List X) → Gains old items new → (item : X) → Contains items item → Contains new item
+Gains-has old items new h item c = subst (λ all. Contains all item) (sym h.1) (firsts_in old items h.0 h.2 item c)
+
+-- lists with the same items
+pub HasSame-itself : {X : Type 0} (items : List X) → HasSame items items
+HasSame-itself items = (λ item c. c, λ item c. c)
+
+pub HasSame-trans : {X : Type 0} (a b c : List X) → HasSame a b → HasSame b c → HasSame a c
+HasSame-trans a b c h k = (λ item there. k.0 item (h.0 item there), λ item there. h.1 item (k.1 item there))
+
+AreAmong-append : {X : Type 0} (a b more : List X) → AreAmong a b → AreAmong (a ++ more) (b ++ more)
+AreAmong-append a b more h item c = elim (Contains-append_cases a more item c) [
+  | inl first ↦ Contains-append_left b more item (h item first)
+  | inr later ↦ Contains-append_right b more item later
+]
+
+pub HasSame-append : {X : Type 0} (a b more : List X) → HasSame a b → HasSame (a ++ more) (b ++ more)
+HasSame-append a b more h = (AreAmong-append a b more h.0, AreAmong-append b a more h.1)
+
+-- a list that got some items, and then some more
+HasSame-then : {X : Type 0} (old middle new a b : List X) → HasSame (old ++ a) middle → HasSame (middle ++ b) new
+    → HasSame (old ++ (a ++ b)) new
+HasSame-then old middle new a b h k =
+    subst (λ all. HasSame all new) (append_assoc old a b)
+    (HasSame-trans ((old ++ a) ++ b) (middle ++ b) new (HasSame-append (old ++ a) middle b h) k)
+
+-- the items of a list up to a place, and the next
+pub HasSame-next : {X : Type 0} (start old new items : List X) (place : ℕ) (item : X) → place < length items
+    → item ≡ get_or items place item → HasSame (start ++ take place items) old → HasSame (old ++ item ∷ []) new
+    → HasSame (start ++ take (place + 1) items) new
+HasSame-next start old new items place item within is h k =
+    let front : take place items ++ item ∷ [] ≡ take (place + 1) items = ap (λ one. take place items ++ one ∷ []) is ∙ sym (take_more items place item within) in
+    subst (λ all. HasSame (start ++ all) new) front (HasSame-then start old new (take place items) (item ∷ []) h k)

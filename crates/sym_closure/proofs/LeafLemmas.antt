@@ -4,17 +4,17 @@ use Rattle.std.specs.Prelude.{Contains}
 use Rattle.std.specs.List.{enumerate_from, zip}
 use Rattle.std.specs.Option.{unwrap_or}
 use Rattle.std.proofs.lemmas.Bool.{cases_Bool, cases_eq, cases_lt, and_from, eq-eqb, or_left, or_right, or_parts, false≢true}
-use Rattle.std.proofs.lemmas.List.{length-map, get_or-map}
+use Rattle.std.proofs.lemmas.List.{length-map, get_or-map, get_or-replicate}
 use Rattle.std.proofs.lemmas.List.Folds.{list_any_at}
 use Rattle.std.proofs.lemmas.List.FromFn.{length-enumerate_from, get_or-enumerate_from}
+use Rattle.std.proofs.lemmas.Slice.Eq.{bytes_eq-Decides}
 use Rattle.std.proofs.lemmas.Slice.Zip.{length-zip, get_or-zip}
 use Rattle.group_terms.specs.Names.{Name}
 use Rattle.group_terms.specs.Positions.{is_below, some_leaf_below}
 use Rattle.group_terms.specs.declared.changes.Change.{Change}
-use Rattle.group_model.specs.Places.{Holders, holders_at}
+use Rattle.group_model.specs.Places.{Holders, is_held_by, holders_at}
 use Rattle.group_model.specs.Fresh.{is_same_holder, changed_leaves, is_fresh, last_change, upwards}
-use Rattle.group_model.proofs.EpochLemmas.{length-holders_of}
-use Rattle.group_model.proofs.StayedLemmas.{same_name-is}
+use Rattle.group_model.specs.Laws.{Laws}
 use Rattle.sym_closure.proofs.FirstLemmas.{only_item}
 use Rattle.sym_closure.proofs.ContainLemmas.{Contains-cases}
 
@@ -30,7 +30,7 @@ same_holder : (before after : Option Name) → is_same_holder before after ≡ t
 same_holder None None h = refl
 same_holder (Some name) None h = absurd (false≢true h)
 same_holder None (Some holder) h = absurd (false≢true h)
-same_holder (Some name) (Some holder) h = ap Some (same_name-is holder name h)
+same_holder (Some name) (Some holder) h = ap Some ((bytes_eq-Decides holder name).0 h)
 
 module _ (depth : ℕ) (before after : Holders) (whole : length before ≡ 2 ^ depth) (all : length after ≡ 2 ^ depth) where
   pub length-changed : length (changed_leaves before after) ≡ 2 ^ depth
@@ -64,6 +64,10 @@ module _ (depth : ℕ) (batches : List (List Change)) where
     | false ↦ omega (arith, last_low epoch v)
   ]
 
+  none_first : (v : ℕ) → unwrap_or (last_change depth batches 0 v) 0 ≡ 0
+  unfolding last_change
+  none_first v = refl
+
   -- a fresh position has a key of this epoch
   pub last_fresh : (epoch v : ℕ) → is_fresh depth (holders_at depth batches epoch) (holders_at depth batches (suc epoch)) v ≡ true → last_change depth batches (suc epoch) v ≡ Some (suc epoch)
   unfolding last_change
@@ -73,6 +77,7 @@ module _ (depth : ℕ) (batches : List (List Change)) where
   unfolding last_change
   last_stale epoch v stale = ap (λ b. cond b (Some (suc epoch)) (last_change depth batches epoch v)) stale
 
+module _ (laws : Laws) (depth : ℕ) (batches : List (List Change)) where
   -- while a position keeps its key, each leaf below it keeps its holder
   same_since : (v i : ℕ) → i < 2 ^ depth → is_below depth v (2 ^ depth + i) ≡ true → (from later : ℕ) → from ≤ later → unwrap_or (last_change depth batches later v) 0 ≡ unwrap_or (last_change depth batches from v) 0 → get_or (holders_at depth batches later) i None ≡ get_or (holders_at depth batches from) i None
   same_since v i low below from zero since same =
@@ -82,12 +87,12 @@ module _ (depth : ℕ) (batches : List (List Change)) where
     | inl now ↦ ap (λ epoch. get_or (holders_at depth batches epoch) i None) (sym now)
     | inr before ↦ elim (cases_Bool (is_fresh depth (holders_at depth batches later) (holders_at depth batches (suc later)) v)) [
       | inl fresh ↦ (
-          let made : unwrap_or (last_change depth batches (suc later) v) 0 ≡ suc later = ap (λ last. unwrap_or last 0) (last_fresh later v fresh) in
-          absurd (omega (arith, made, same, last_low from v, since, before))
+          let made : unwrap_or (last_change depth batches (suc later) v) 0 ≡ suc later = ap (λ last. unwrap_or last 0) (last_fresh depth batches later v fresh) in
+          absurd (omega (arith, made, same, last_low depth batches from v, since, before))
           )
       | inr stale ↦
-          kept_below depth (holders_at depth batches later) (holders_at depth batches (suc later)) (length-holders_of depth (take later batches)) (length-holders_of depth (take (suc later) batches)) v i low below stale
-          ∙ same_since v i low below from later (omega (arith, since, before)) (ap (λ last. unwrap_or last 0) (sym (last_stale later v stale)) ∙ same)
+          kept_below depth (holders_at depth batches later) (holders_at depth batches (suc later)) (laws.each_leaf depth (take later batches)) (laws.each_leaf depth (take (suc later) batches)) v i low below stale
+          ∙ same_since v i low below from later (omega (arith, since, before)) (ap (λ last. unwrap_or last 0) (sym (last_stale depth batches later v stale)) ∙ same)
     ]
   ]
 
@@ -97,6 +102,17 @@ module _ (depth : ℕ) (batches : List (List Change)) where
     | inl earlier ↦ sym (same_since v i low below one other (omega (arith, earlier)) (sym same))
     | inr later ↦ same_since v i low below other one later same
   ]
+
+  -- a position has a key as soon as somebody has a leaf below it
+  pub has_key : (v i epoch : ℕ) (m : Name) → i < 2 ^ depth → is_below depth v (2 ^ depth + i) ≡ true → is_held_by m (get_or (holders_at depth batches epoch) i None) ≡ true → last_change depth batches epoch v ≡ Some (unwrap_or (last_change depth batches epoch v) 0)
+  has_key v i epoch m low below held = at (last_change depth batches epoch v) refl
+    where
+      at : (last : Option ℕ) → last_change depth batches epoch v ≡ last → last ≡ Some (unwrap_or last 0)
+      at (Some made) is = refl
+      at None is =
+          let never : unwrap_or (last_change depth batches epoch v) 0 ≡ unwrap_or (last_change depth batches 0 v) 0 = ap (λ last. unwrap_or last 0) is ∙ sym (none_first depth batches v) in
+          let nobody : get_or (holders_at depth batches epoch) i None ≡ None = same_since v i low below 0 epoch (omega arith) never ∙ get_or-replicate (2 ^ depth) i None None low in
+          absurd (false≢true (sym (ap (is_held_by m) nobody) ∙ held))
 
 -- the positions on the way up from a leaf are those that it is below
 pub upwards-below : (steps leaf v : ℕ) → Contains (upwards steps leaf) v → is_below steps v leaf ≡ true

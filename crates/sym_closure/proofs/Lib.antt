@@ -1,9 +1,14 @@
 pub mod AnswerLemmas
+pub mod ClosureLemmas
 pub mod ContainLemmas
 pub mod DerivationLemmas
 pub mod FirstLemmas
+pub mod GraphLemmas
+pub mod KnowledgeLemmas
 pub mod LeafLemmas
+pub mod MarkLemmas
 pub mod MemberLemmas
+pub mod PlaceLemmas
 pub mod PrefixLemmas
 pub mod SecrecyLemmas
 pub mod SentLemmas

@@ -1,5 +1,5 @@
 -- What a member derives: batch after batch the keys of its path, and with them the traffic key.
-use Rattle.std.proofs.Common.{◌≡◌, ℕ, zero, suc, ◌+◌, ◌-◌, ◌*◌, ◌^◌, ◌<◌, ◌≤◌, Bool, true, false, cond, eqb, ltb, leb, ◌&&◌, ◌||◌, List, [], ◌∷◌, ◌++◌, Option, Some, None, length, map, take, get_or, sym, refl, ap, ◌∙◌, subst, arith, inl, inr}
+use Rattle.std.proofs.Common.{◌≡◌, ℕ, zero, suc, ◌+◌, ◌-◌, ◌*◌, ◌^◌, ◌<◌, ◌≤◌, Bool, true, false, cond, eqb, ltb, leb, ◌&&◌, ◌||◌, List, [], ◌∷◌, ◌++◌, Option, Some, None, length, map, take, get_or, sym, refl, ap, ◌∙◌, subst, arith, inl, inr, add-one}
 use Rattle.std.specs.Prelude.{Contains}
 use Rattle.std.specs.List.{list_any, filter, enumerate_from, position_or_len}
 use Rattle.std.specs.Option.{option_map, unwrap_or}
@@ -9,6 +9,7 @@ use Rattle.std.proofs.lemmas.List.{get_or-map, length-map}
 use Rattle.std.proofs.lemmas.List.Elements.{Contains-append_left, Contains-push}
 use Rattle.std.proofs.lemmas.List.Folds.{list_any_at}
 use Rattle.std.proofs.lemmas.List.FromFn.{length-enumerate_from, get_or-enumerate_from}
+use Rattle.std.proofs.lemmas.Slice.Eq.{bytes_eq-Decides}
 use Rattle.group_terms.specs.Names.{Name}
 use Rattle.group_terms.specs.Positions.{halved, is_below, some_leaf_below}
 use Rattle.group_terms.specs.declared.changes.Change.{Change}
@@ -18,12 +19,10 @@ use Rattle.group_terms.specs.declared.keys.Wrap.{Wrap}
 use Rattle.group_terms.proofs.BelowLemmas.{below_leaf, test_from_halved, pow_pos}
 use Rattle.group_model.specs.Places.{Holders, is_held_by, is_member, holders_at, place_in, IsValid}
 use Rattle.group_model.specs.Fresh.{is_same_holder, changed_leaves, is_fresh, node_name, upwards, key_path}
-use Rattle.group_model.specs.Stayed.{is_kept, kept_leaves, stayed_at}
+use Rattle.group_model.specs.Stayed.{is_kept, kept_leaves, has_stayed, stayed_at}
 use Rattle.group_model.specs.Wraps.{falling, kept_children, wraps_of, node_wraps, wraps_at}
 use Rattle.group_model.specs.Derivations.{CanDerive}
-use Rattle.group_model.proofs.EpochLemmas.{length-holders_of}
-use Rattle.group_model.proofs.StayedLemmas.{same_name-is, same_name-self}
-use Rattle.group_model.proofs.PlaceLemmas.{place_found, stays_at}
+use Rattle.group_model.specs.Laws.{Laws}
 use Rattle.sym_closure.specs.Worlds.{epochs_of, keys_told, wraps_since}
 use Rattle.sym_closure.specs.Secrecy.{IsMemberThrough}
 use Rattle.sym_closure.proofs.FirstLemmas.{Contains-first}
@@ -63,7 +62,7 @@ leaf_of_mark depth v passes h =
 
 pub held_some : (m : Name) (holder : Option Name) → is_held_by m holder ≡ true → holder ≡ Some m
 held_some m None h = absurd (false≢true h)
-held_some m (Some name) h = ap Some (sym (same_name-is m name h))
+held_some m (Some name) h = ap Some (sym ((bytes_eq-Decides m name).0 h))
 
 -- a leaf with the same holder before and after is not fresh
 leaf_stale : (depth : ℕ) (before after : Holders) (m : Name) (i : ℕ) → length before ≡ 2 ^ depth → length after ≡ 2 ^ depth → 1 ≤ depth → i < 2 ^ depth → is_held_by m (get_or before i None) ≡ true → is_held_by m (get_or after i None) ≡ true → is_fresh depth before after (2 ^ depth + i) ≡ false
@@ -86,7 +85,7 @@ leaf_stale depth before after m i whole all deep low was is =
     neither a b p q = rw (p, q) refl
 
     same_holders : get_or before i None ≡ Some m → get_or after i None ≡ Some m → is_same_holder (get_or before i None) (get_or after i None) ≡ true
-    same_holders p q = rw (p, q) (same_name-self m)
+    same_holders p q = rw (p, q) ((bytes_eq-Decides m m).1 refl)
 
 -- a member has a place
 place_of : (depth : ℕ) (holders : Holders) (m : Name) → is_member holders m ≡ true → (i : ℕ) × (place_in depth holders m ≡ Some (2 ^ depth + i)) × (i < length holders)
@@ -102,7 +101,7 @@ place_of depth holders m member =
       | inr other ↦ (let later = first_low p xs (subst (λ b. (b || list_any p xs) ≡ true) other h) in rw other (omega (arith, later)))
     ]
 
-module _ (depth : ℕ) (batches : List (List Change)) (m : Name) where
+module _ (laws : Laws) (depth : ℕ) (batches : List (List Change)) (m : Name) where
   -- the key that a step up gives, where m stayed and the position above is fresh
   module _ (at i : ℕ) (low : i < 2 ^ depth) (was : is_member (holders_at depth batches at) m ≡ true) (is : is_held_by m (get_or (holders_at depth batches (suc at)) i None) ≡ true) where
     abbrev before : Holders
@@ -115,7 +114,7 @@ module _ (depth : ℕ) (batches : List (List Change)) (m : Name) where
     same_before = ap (holders_at depth batches) (omega arith)
 
     whole : i < length after
-    whole = omega (arith, low, length-holders_of depth (take (suc at) batches))
+    whole = omega (arith, low, laws.each_leaf depth (take (suc at) batches))
 
     keeps : is_kept before (get_or after i None) ≡ true
     keeps = ap (is_kept before) (held_some m (get_or after i None) is) ∙ ap (λ holders. is_member holders m) same_before ∙ was
@@ -166,19 +165,25 @@ module _ (depth : ℕ) (batches : List (List Change)) (m : Name) where
         (and_from (ltb from (suc at)) (leb (suc at) epoch) (lt-ltb from (suc at) (omega (arith, later))) (le-leb (suc at) epoch earlier)))
         c
 
-    -- its leaf stays the same
+    -- its leaf stays the same over a batch, and so over all of them
+    stays : (at : ℕ) → at < length batches → has_stayed (holders_at depth batches at) (holders_at depth batches (suc at)) m ≡ true → place_in depth (holders_at depth batches (suc at)) m ≡ place_in depth (holders_at depth batches at) m
+    stays at early stayed =
+        let next : at + 1 ≡ suc at = add-one at in
+        subst (λ later. place_in depth (holders_at depth batches later) m ≡ place_in depth (holders_at depth batches at) m) next
+        (laws.places_stay depth at batches m valid early (subst (λ later. has_stayed (holders_at depth batches at) (holders_at depth batches later) m ≡ true) (sym next) stayed))
+
     place_at : (i at : ℕ) → place_in depth (holders_at depth batches from) m ≡ Some (2 ^ depth + i) → from ≤ at → at ≤ epoch → place_in depth (holders_at depth batches at) m ≡ Some (2 ^ depth + i)
     place_at i zero place later earlier = (let first : from ≡ 0 = omega (arith, later) in subst (λ at. place_in depth (holders_at depth batches at) m ≡ Some (2 ^ depth + i)) first place)
     place_at i (suc at) place later earlier = elim (cases_eq from (suc at)) [
       | inl now ↦ subst (λ at. place_in depth (holders_at depth batches at) m ≡ Some (2 ^ depth + i)) now place
       | inr before ↦
-          stays_at depth at batches m valid (omega (arith, earlier, within)) (and_from (is_member (holders_at depth batches at) m) (is_member (holders_at depth batches (suc at)) m) (through at (omega (arith, later, before)) (omega (arith, earlier))) (through (suc at) later earlier))
+          stays at (omega (arith, earlier, within)) (and_from (is_member (holders_at depth batches at) m) (is_member (holders_at depth batches (suc at)) m) (through at (omega (arith, later, before)) (omega (arith, earlier))) (through (suc at) later earlier))
           ∙ place_at i at place (omega (arith, later, before)) (omega (arith, earlier))
     ]
 
     held_at : (i at : ℕ) → place_in depth (holders_at depth batches from) m ≡ Some (2 ^ depth + i) → from ≤ at → at ≤ epoch → is_held_by m (get_or (holders_at depth batches at) i None) ≡ true
     held_at i at place later earlier =
-        let found = place_found depth (holders_at depth batches at) m (2 ^ depth + i) (place_at i at place later earlier) in
+        let found = laws.places_held depth (2 ^ depth + i) (holders_at depth batches at) m (place_at i at place later earlier) in
         let same : found.0 ≡ i = omega (arith, found.1) in
         subst (λ k. is_held_by m (get_or (holders_at depth batches at) k None) ≡ true) same found.2
 
@@ -202,7 +207,7 @@ module _ (depth : ℕ) (batches : List (List Change)) (m : Name) where
         stale k up h = subst (λ last. CanDerive have pairs (Node (halved k (2 ^ depth + i)) (unwrap_or last 0))) (sym (last_stale depth batches at (halved k (2 ^ depth + i)) h)) (path k up)
 
         pub path_more : (k : ℕ) → k ≤ depth → CanDerive have pairs (node_name depth batches (suc at) (halved k (2 ^ depth + i)))
-        path_more zero up = stale 0 up (leaf_stale depth (holders_at depth batches at) (holders_at depth batches (suc at)) m i (length-holders_of depth (take at batches)) (length-holders_of depth (take (suc at) batches)) deep low (held_at i at place later (omega (arith, earlier))) held_now)
+        path_more zero up = stale 0 up (leaf_stale depth (holders_at depth batches at) (holders_at depth batches (suc at)) m i (laws.each_leaf depth (take at batches)) (laws.each_leaf depth (take (suc at) batches)) deep low (held_at i at place later (omega (arith, earlier))) held_now)
         path_more (suc k) up = elim (cases_Bool (is_fresh depth (holders_at depth batches at) (holders_at depth batches (suc at)) (halved (suc k) (2 ^ depth + i)))) [
           | inl fresh ↦
               subst (λ last. CanDerive have pairs (Node (halved (suc k) (2 ^ depth + i)) (unwrap_or last 0))) (sym (last_fresh depth batches at (halved (suc k) (2 ^ depth + i)) fresh))
@@ -240,7 +245,7 @@ module _ (depth : ℕ) (batches : List (List Change)) (m : Name) where
         | inr before ↦ traffic_more at (omega (arith, later, before)) earlier (path_at at (omega (arith, later, before)) (omega (arith, earlier)))
       ]
 
-pub members_follow : (depth : ℕ) (batches : List (List Change)) → 1 ≤ depth → IsValid depth batches → (from epoch : ℕ) (m : Name) → from ≤ epoch → epoch ≤ length batches → IsMemberThrough depth batches from epoch m → CanDerive (keys_told depth batches from m) (wraps_since depth batches from epoch) (Traffic epoch)
-members_follow depth batches deep valid from epoch m begun within through =
+pub members_follow : (laws : Laws) (depth : ℕ) (batches : List (List Change)) → 1 ≤ depth → IsValid depth batches → (from epoch : ℕ) (m : Name) → from ≤ epoch → epoch ≤ length batches → IsMemberThrough depth batches from epoch m → CanDerive (keys_told depth batches from m) (wraps_since depth batches from epoch) (Traffic epoch)
+members_follow laws depth batches deep valid from epoch m begun within through =
     let found = place_of depth (holders_at depth batches from) m (through from (omega arith) begun) in
-    traffic_at depth batches m from epoch deep valid within through begun found.0 found.1 (omega (arith, found.2, length-holders_of depth (take from batches))) epoch begun (omega arith)
+    traffic_at laws depth batches m from epoch deep valid within through begun found.0 found.1 (omega (arith, found.2, laws.each_leaf depth (take from batches))) epoch begun (omega arith)

@@ -16,11 +16,11 @@ use Rattle.group_model.specs.Fresh.{is_fresh, last_change, upwards}
 use Rattle.group_model.specs.Stayed.{kept_leaves, somebody_stayed}
 use Rattle.group_model.specs.Wraps.{falling, wraps_at}
 use Rattle.group_model.specs.Derivations.{told_pairs}
-use Rattle.group_model.proofs.UndoLemmas.{holders_at-take, last_change-take}
+use Rattle.group_model.specs.Laws.{Laws}
 use Rattle.sym_closure.specs.Worlds.{epochs_of, keys_told, pairs_at, world, told_at, holdings}
 use Rattle.sym_closure.proofs.ContainLemmas.{Contains-flat_map, Contains-from_flat_map, Contains-range, Contains-from_range}
 
--- what an epoch sends and tells hangs on its holders, on those before it, and on the last changes alone
+-- what an epoch sends and tells depends on its holders, on those before it, and on the last changes alone
 module _ (depth epoch : ℕ) (before after : Holders) (last : ℕ → Option ℕ) where
   abbrev node_by : ℕ → KeyName
   node_by v = Node v (unwrap_or (last v) 0)
@@ -42,15 +42,15 @@ wraps_at-by : (depth : ℕ) (batches : List (List Change)) (epoch : ℕ) → wra
 unfolding wraps_at
 wraps_at-by depth batches epoch = refl
 
-module _ (depth n : ℕ) (batches : List (List Change)) (epoch : ℕ) (early : epoch ≤ n) where
+module _ (laws : Laws) (depth n : ℕ) (batches : List (List Change)) (epoch : ℕ) (early : epoch ≤ n) where
   before_same : holders_at depth (take n batches) (epoch - 1) ≡ holders_at depth batches (epoch - 1)
-  before_same = holders_at-take depth n batches (epoch - 1) (omega (arith, early))
+  before_same = laws.holders_stay depth n (epoch - 1) batches (omega (arith, early))
 
   pub after_same : holders_at depth (take n batches) epoch ≡ holders_at depth batches epoch
-  after_same = holders_at-take depth n batches epoch early
+  after_same = laws.holders_stay depth n epoch batches early
 
   last_same : last_change depth (take n batches) epoch ≡ last_change depth batches epoch
-  last_same = λ j v. last_change-take depth n batches epoch v early j
+  last_same = λ j v. laws.last_changes_stay depth n epoch v batches early j
 
   -- its encryptions
   pub wraps_at-take : wraps_at depth (take n batches) epoch ≡ wraps_at depth batches epoch
@@ -69,7 +69,7 @@ module _ (depth n : ℕ) (batches : List (List Change)) (epoch : ℕ) (early : e
   pub told_at-take : (coalition : List Name) → told_at depth (take n batches) coalition epoch ≡ told_at depth batches coalition epoch
   told_at-take coalition = λ j. flat_map (λ m. keys_told-take m j) (filter (is_member (after_same j)) coalition)
 
-module _ (depth n : ℕ) (batches : List (List Change)) where
+module _ (laws : Laws) (depth n : ℕ) (batches : List (List Change)) where
   -- an epoch of the first ones is one of all
   within : (epoch : ℕ) → Contains (epochs_of (take n batches)) epoch → (epoch ≤ n) × Contains (epochs_of batches) epoch
   within epoch c =
@@ -81,7 +81,7 @@ module _ (depth n : ℕ) (batches : List (List Change)) where
       let at = Contains-from_flat_map (pairs_at depth (take n batches)) (epochs_of (take n batches)) pair c in
       let early = within at.0 at.1 in
       Contains-flat_map (pairs_at depth batches) (epochs_of batches) at.0 pair early.1
-      (subst (λ pairs. Contains pairs pair) (pairs_at-take depth n batches at.0 early.0) at.2)
+      (subst (λ pairs. Contains pairs pair) (pairs_at-take laws depth n batches at.0 early.0) at.2)
 
   pub holdings-take : (coalition : List Name) (name : KeyName) → Contains (holdings depth (take n batches) coalition) name → Contains (holdings depth batches coalition) name
   holdings-take coalition name c = elim (Contains-append_cases (map Phase coalition) (flat_map (told_at depth (take n batches) coalition) (epochs_of (take n batches))) name c) [
@@ -91,6 +91,6 @@ module _ (depth n : ℕ) (batches : List (List Change)) where
         let early = within at.0 at.1 in
         Contains-append_right (map Phase coalition) (flat_map (told_at depth batches coalition) (epochs_of batches)) name
         (Contains-flat_map (told_at depth batches coalition) (epochs_of batches) at.0 name early.1
-        (subst (λ names. Contains names name) (told_at-take depth n batches at.0 early.0 coalition) at.2))
+        (subst (λ names. Contains names name) (told_at-take laws depth n batches at.0 early.0 coalition) at.2))
         )
   ]

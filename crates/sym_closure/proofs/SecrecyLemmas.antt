@@ -6,7 +6,10 @@ use Rattle.std.specs.Option.{option_map, unwrap_or}
 use Rattle.std.proofs.lemmas.Bool.{cases_lt, or_left, or_right, eq-eqb, false≢true}
 use Rattle.std.proofs.lemmas.Grind.{pow_more}
 use Rattle.std.proofs.lemmas.List.{get_or_past}
+use Rattle.std.proofs.lemmas.List.Folds.{list_any_at}
 use Rattle.std.proofs.lemmas.List.Elements.{Contains-append_cases, Contains-push_cases}
+use Rattle.std.proofs.lemmas.Option.{same_Some}
+use Rattle.std.proofs.lemmas.Slice.Eq.{bytes_eq-Decides}
 use Rattle.group_terms.specs.Names.{Name}
 use Rattle.group_terms.specs.Positions.{is_below, some_leaf_below}
 use Rattle.group_terms.specs.declared.changes.Change.{Change}
@@ -19,14 +22,12 @@ use Rattle.group_model.specs.Fresh.{changed_leaves, is_fresh, last_change, node_
 use Rattle.group_model.specs.Stayed.{kept_leaves, stayed_at}
 use Rattle.group_model.specs.Wraps.{falling, kept_children, wraps_of, node_wraps, wraps_at}
 use Rattle.group_model.specs.Derivations.{AreAtHand, CanDerive, told_pairs}
-use Rattle.group_model.proofs.EpochLemmas.{length-holders_of}
-use Rattle.group_model.proofs.StayedLemmas.{same_name-self, member_at}
-use Rattle.group_model.proofs.PlaceLemmas.{place_found}
+use Rattle.group_model.specs.Laws.{Laws}
 use Rattle.sym_closure.specs.Worlds.{epochs_of, members_at, keys_told, pairs_at, world, told_at, holdings}
-use Rattle.sym_closure.specs.Secrecy.{HadLeafBelow, HasMember, IsReached}
+use Rattle.sym_closure.specs.Secrecy.{HadLeafBelow, HasMember, IsWithinReach}
 use Rattle.sym_closure.proofs.FirstLemmas.{no_item, only_item}
 use Rattle.sym_closure.proofs.ContainLemmas.{Contains-cases, Contains-from_map, Contains-from_filter, Contains-from_flat_map, Contains-from_some, Contains-from_range, Contains-from_falling, passes_in}
-use Rattle.sym_closure.proofs.LeafLemmas.{last_fresh, same_below, upwards-below}
+use Rattle.sym_closure.proofs.LeafLemmas.{last_fresh, same_below, has_key, upwards-below}
 
 -- what holds of all that is held, and passes from a pair's one key to the other, holds of all that can be derived
 module _ (have : List KeyName) (pairs : List Wrap) (P : KeyName → Type 0) (held : (name : KeyName) → Contains have name → P name) (passes : (pair : Wrap) → Contains pairs pair → P pair.by → P pair.gives) where
@@ -48,59 +49,61 @@ module _ (have : List KeyName) (pairs : List Wrap) (P : KeyName → Type 0) (hel
   pub each_derived : (goal : KeyName) → CanDerive have pairs goal → P goal
   each_derived goal h = at_hand [] h.0 (λ name c. absurd (no_item name c)) h.1 goal h.2
 
-module _ (depth : ℕ) (batches : List (List Change)) (coalition : List Name) where
-  abbrev Reached : KeyName → Type 0
-  Reached = IsReached depth batches coalition
+module _ (laws : Laws) (depth : ℕ) (batches : List (List Change)) (coalition : List Name) where
+  abbrev WithinReach : KeyName → Type 0
+  WithinReach = IsWithinReach depth batches coalition
 
-  -- what one of them is told is reached
-  path_reached : (m : Name) (epoch : ℕ) (name : KeyName) → Contains coalition m → 1 ≤ epoch → epoch ≤ length batches → (at : Option ℕ) → place_in depth (holders_at depth batches epoch) m ≡ at → Contains (unwrap_or (option_map (λ leaf. map (node_name depth batches epoch) (upwards depth leaf)) at) []) name → Reached name
-  path_reached m epoch name ours begun within None at c = absurd (no_item name c)
-  path_reached m epoch name ours begun within (Some leaf) at c =
+  -- what one of them is told is within reach
+  path_in_reach : (m : Name) (epoch : ℕ) (name : KeyName) → Contains coalition m → 1 ≤ epoch → epoch ≤ length batches → (at : Option ℕ) → place_in depth (holders_at depth batches epoch) m ≡ at → Contains (unwrap_or (option_map (λ leaf. map (node_name depth batches epoch) (upwards depth leaf)) at) []) name → WithinReach name
+  path_in_reach m epoch name ours begun within None at c = absurd (no_item name c)
+  path_in_reach m epoch name ours begun within (Some leaf) at c =
       let found = Contains-from_map (node_name depth batches epoch) (upwards depth leaf) name c in
-      let place = place_found depth (holders_at depth batches epoch) m leaf at in
-      subst Reached found.2 (record {
+      let place = laws.places_held depth leaf (holders_at depth batches epoch) m at in
+      let low : place.0 < 2 ^ depth = elim (cases_lt place.0 (length (holders_at depth batches epoch))) [
+        | inl low ↦ omega (arith, low, laws.each_leaf depth (take epoch batches))
+        | inr past ↦ absurd (false≢true (sym (ap (is_held_by m) (get_or_past (holders_at depth batches epoch) place.0 None past)) ∙ place.2))
+      ] in
+      let below : is_below depth found.0 (2 ^ depth + place.0) ≡ true = subst (λ x. is_below depth found.0 x ≡ true) place.1 (upwards-below depth leaf found.0 found.1) in
+      subst WithinReach found.2 (record {
         m = m;
         ours = ours;
         epoch = epoch;
         begun = begun;
         within = within;
         leaf = place.0;
-        low = elim (cases_lt place.0 (length (holders_at depth batches epoch))) [
-          | inl low ↦ omega (arith, low, length-holders_of depth (take epoch batches))
-          | inr past ↦ absurd (false≢true (sym (ap (is_held_by m) (get_or_past (holders_at depth batches epoch) place.0 None past)) ∙ place.2))
-        ];
+        low = low;
         held = place.2;
-        below = subst (λ x. is_below depth found.0 x ≡ true) (sym place.1) (upwards-below depth leaf found.0 found.1);
-        key = refl;
+        below = below;
+        key = has_key laws depth batches found.0 place.0 epoch m low below place.2;
       })
 
-  told_reached : (m : Name) (epoch : ℕ) (name : KeyName) → Contains coalition m → Contains (epochs_of batches) epoch → is_member (holders_at depth batches epoch) m ≡ true → Contains (keys_told depth batches epoch m) name → Reached name
-  told_reached m epoch name ours within member c =
+  told_in_reach : (m : Name) (epoch : ℕ) (name : KeyName) → Contains coalition m → Contains (epochs_of batches) epoch → is_member (holders_at depth batches epoch) m ≡ true → Contains (keys_told depth batches epoch m) name → WithinReach name
+  told_in_reach m epoch name ours within member c =
       let bounds = Contains-from_range 1 (length batches) epoch within in
       elim (Contains-push_cases _ (Traffic epoch) name c) [
-        | inl path ↦ path_reached m epoch name ours bounds.0 (omega (arith, bounds.1)) (place_in depth (holders_at depth batches epoch) m) refl path
-        | inr traffic ↦ subst Reached traffic (record { m = m; ours = ours; within = omega (arith, bounds.1); member = member })
+        | inl path ↦ path_in_reach m epoch name ours bounds.0 (omega (arith, bounds.1)) (place_in depth (holders_at depth batches epoch) m) refl path
+        | inr traffic ↦ subst WithinReach traffic (record { m = m; ours = ours; within = omega (arith, bounds.1); member = member })
       ]
 
-  -- all that they can hold is reached
-  held_reached : (name : KeyName) → Contains (holdings depth batches coalition) name → Reached name
-  held_reached name c = elim (Contains-append_cases (map Phase coalition) _ name c) [
-    | inl phase ↦ (let found = Contains-from_map Phase coalition name phase in subst Reached found.2 found.1)
+  -- all that they can hold is within reach
+  held_in_reach : (name : KeyName) → Contains (holdings depth batches coalition) name → WithinReach name
+  held_in_reach name c = elim (Contains-append_cases (map Phase coalition) _ name c) [
+    | inl phase ↦ (let found = Contains-from_map Phase coalition name phase in subst WithinReach found.2 found.1)
     | inr told ↦ (
         let at = Contains-from_flat_map (told_at depth batches coalition) (epochs_of batches) name told in
         let to = Contains-from_flat_map (keys_told depth batches at.0) (filter (is_member (holders_at depth batches at.0)) coalition) name at.2 in
         let one = Contains-from_filter (is_member (holders_at depth batches at.0)) coalition to.0 to.1 in
-        told_reached to.0 at.0 name one.0 at.1 one.1 to.2
+        told_in_reach to.0 at.0 name one.0 at.1 one.1 to.2
         )
   ]
 
-  -- a reply tells what its member reaches
-  reply_reached : (epoch : ℕ) (m : Name) (pair : Wrap) → Contains (epochs_of batches) epoch → Contains (members_at depth batches epoch) m → Contains (told_pairs m (keys_told depth batches epoch m)) pair → Reached pair.by → Reached pair.gives
-  reply_reached epoch m pair within member c by =
+  -- a reply tells what is within its member's reach
+  reply_in_reach : (epoch : ℕ) (m : Name) (pair : Wrap) → Contains (epochs_of batches) epoch → Contains (members_at depth batches epoch) m → Contains (told_pairs m (keys_told depth batches epoch m)) pair → WithinReach pair.by → WithinReach pair.gives
+  reply_in_reach epoch m pair within member c by =
       let found = Contains-from_map (λ name. record { by = Phase m; gives = name }) (keys_told depth batches epoch m) pair c in
-      let ours : Contains coalition m = subst (λ (pair : Wrap). Reached pair.by) (sym found.2) by in
-      let there : is_member (holders_at depth batches epoch) m ≡ true = passes_in (is_held_by m) (holders_at depth batches epoch) (Some m) (Contains-from_some (holders_at depth batches epoch) m member) (same_name-self m) in
-      subst (λ (pair : Wrap). Reached pair.gives) found.2 (told_reached m epoch found.0 ours within there found.1)
+      let ours : Contains coalition m = subst (λ (pair : Wrap). WithinReach pair.by) (sym found.2) by in
+      let there : is_member (holders_at depth batches epoch) m ≡ true = passes_in (is_held_by m) (holders_at depth batches epoch) (Some m) (Contains-from_some (holders_at depth batches epoch) m member) ((bytes_eq-Decides m m).1 refl) in
+      subst (λ (pair : Wrap). WithinReach pair.gives) found.2 (told_in_reach m epoch found.0 ours within there found.1)
 
   -- what is below a child is below its parent
   below_parent : (v child x : ℕ) → 1 ≤ v → v ≤ 2 ^ depth - 1 → Contains (2 * v ∷ (2 * v + 1) ∷ []) child → 2 ^ depth ≤ x → x < 2 ^ (depth + 1) → is_below depth child x ≡ true → is_below depth v x ≡ true
@@ -112,9 +115,9 @@ module _ (depth : ℕ) (batches : List (List Change)) (coalition : List Name) wh
       ]
 
   -- the new key of a position under the key of a child
-  child_reached : (epoch v child : ℕ) → suc epoch ≤ length batches → is_fresh depth (holders_at depth batches epoch) (holders_at depth batches (suc epoch)) v ≡ true → 1 ≤ v → v ≤ 2 ^ depth - 1 → Contains (2 * v ∷ (2 * v + 1) ∷ []) child → HadLeafBelow depth batches coalition child (unwrap_or (last_change depth batches (suc epoch) child) 0) → HadLeafBelow depth batches coalition v (suc epoch)
-  child_reached epoch v child within fresh positive inner c stood =
-      let same = same_below depth batches child stood.leaf stood.low stood.below (suc epoch) stood.epoch (sym stood.key) in
+  child_in_reach : (epoch v child : ℕ) → suc epoch ≤ length batches → is_fresh depth (holders_at depth batches epoch) (holders_at depth batches (suc epoch)) v ≡ true → 1 ≤ v → v ≤ 2 ^ depth - 1 → Contains (2 * v ∷ (2 * v + 1) ∷ []) child → HadLeafBelow depth batches coalition child (unwrap_or (last_change depth batches (suc epoch) child) 0) → HadLeafBelow depth batches coalition v (suc epoch)
+  child_in_reach epoch v child within fresh positive inner c stood =
+      let same = same_below laws depth batches child stood.leaf stood.low stood.below (suc epoch) stood.epoch (sym (ap (λ last. unwrap_or last 0) stood.key)) in
       record {
         m = stood.m;
         ours = stood.ours;
@@ -125,71 +128,71 @@ module _ (depth : ℕ) (batches : List (List Change)) (coalition : List Name) wh
         low = stood.low;
         held = ap (is_held_by stood.m) same ∙ stood.held;
         below = below_parent v child (2 ^ depth + stood.leaf) positive inner c (omega arith) (omega (arith, stood.low, pow_more 2 depth)) stood.below;
-        key = ap (λ last. unwrap_or last 0) (last_fresh depth batches epoch v fresh);
+        key = last_fresh depth batches epoch v fresh;
       }
 
   -- an encryption between two keys of the tree
-  node_reached : (epoch : ℕ) (pair : Wrap) → suc epoch ≤ length batches → Contains (node_wraps depth batches (suc epoch)) pair → Reached pair.by → Reached pair.gives
-  node_reached epoch pair within c by =
+  node_in_reach : (epoch : ℕ) (pair : Wrap) → suc epoch ≤ length batches → Contains (node_wraps depth batches (suc epoch)) pair → WithinReach pair.by → WithinReach pair.gives
+  node_in_reach epoch pair within c by =
       let above = Contains-from_flat_map (wraps_of depth batches (suc epoch)) (filter (is_fresh depth (holders_at depth batches (suc epoch - 1)) (holders_at depth batches (suc epoch))) (falling (2 ^ depth - 1))) pair c in
       let fresh = Contains-from_filter (is_fresh depth (holders_at depth batches (suc epoch - 1)) (holders_at depth batches (suc epoch))) (falling (2 ^ depth - 1)) above.0 above.1 in
       let inner = Contains-from_falling (2 ^ depth - 1) above.0 fresh.0 in
       let child = Contains-from_map (λ child. record { by = node_name depth batches (suc epoch) child; gives = Node above.0 (suc epoch) }) (kept_children depth batches (suc epoch) above.0) pair above.2 in
       let kept = Contains-from_filter (some_leaf_below depth (kept_leaves (holders_at depth batches (suc epoch - 1)) (holders_at depth batches (suc epoch)))) (2 * above.0 ∷ (2 * above.0 + 1) ∷ []) child.0 child.1 in
-      subst (λ (pair : Wrap). Reached pair.gives) child.2
-      (child_reached epoch above.0 child.0 within (subst (λ before. is_fresh depth (holders_at depth batches before) (holders_at depth batches (suc epoch)) above.0 ≡ true) (omega arith) fresh.1) inner.0 inner.1 kept.0
-      (subst (λ (pair : Wrap). Reached pair.by) (sym child.2) by))
+      subst (λ (pair : Wrap). WithinReach pair.gives) child.2
+      (child_in_reach epoch above.0 child.0 within (subst (λ before. is_fresh depth (holders_at depth batches before) (holders_at depth batches (suc epoch)) above.0 ≡ true) (omega arith) fresh.1) inner.0 inner.1 kept.0
+      (subst (λ (pair : Wrap). WithinReach pair.by) (sym child.2) by))
 
   -- the traffic key under the key of the root
-  root_reached : (epoch : ℕ) → suc epoch ≤ length batches → HadLeafBelow depth batches coalition 1 (suc epoch) → HasMember depth batches coalition (suc epoch)
-  root_reached epoch within stood =
+  root_in_reach : (epoch : ℕ) → suc epoch ≤ length batches → HadLeafBelow depth batches coalition 1 (suc epoch) → HasMember depth batches coalition (suc epoch)
+  root_in_reach epoch within stood =
       let fresh : (at : ℕ) → is_fresh depth (holders_at depth batches at) (holders_at depth batches (suc at)) 1 ≡ true = λ at. or_left (eqb 1 1) (some_leaf_below depth (changed_leaves (holders_at depth batches at) (holders_at depth batches (suc at))) 1) (eq-eqb 1 1 refl) in
-      let key : stood.epoch ≡ suc epoch = own_epoch stood.epoch fresh stood.begun ∙ stood.key in
+      let key : stood.epoch ≡ suc epoch = same_Some stood.epoch (suc epoch) (sym (own_epoch stood.epoch fresh stood.begun) ∙ stood.key) in
       record {
         m = stood.m;
         ours = stood.ours;
         within = within;
-        member = member_at (holders_at depth batches (suc epoch)) stood.m stood.leaf (omega (arith, stood.low, length-holders_of depth (take (suc epoch) batches)))
+        member = list_any_at (is_held_by stood.m) (holders_at depth batches (suc epoch)) stood.leaf None (omega (arith, stood.low, laws.each_leaf depth (take (suc epoch) batches)))
             (subst (λ at. is_held_by stood.m (get_or (holders_at depth batches at) stood.leaf None) ≡ true) key stood.held);
       }
     where
-      own_epoch : (at : ℕ) → ((at : ℕ) → is_fresh depth (holders_at depth batches at) (holders_at depth batches (suc at)) 1 ≡ true) → 1 ≤ at → at ≡ unwrap_or (last_change depth batches at 1) 0
+      own_epoch : (at : ℕ) → ((at : ℕ) → is_fresh depth (holders_at depth batches at) (holders_at depth batches (suc at)) 1 ≡ true) → 1 ≤ at → last_change depth batches at 1 ≡ Some at
       own_epoch zero fresh begun = absurd (omega (arith, begun))
-      own_epoch (suc at) fresh begun = sym (ap (λ last. unwrap_or last 0) (last_fresh depth batches at 1 (fresh at)))
+      own_epoch (suc at) fresh begun = last_fresh depth batches at 1 (fresh at)
 
-  wraps_reached : (epoch : ℕ) (stayed : Bool) (pair : Wrap) → suc epoch ≤ length batches → Contains (cond stayed (node_wraps depth batches (suc epoch) ++ record { by = Node 1 (suc epoch); gives = Traffic (suc epoch) } ∷ []) []) pair → Reached pair.by → Reached pair.gives
-  wraps_reached epoch false pair within c by = absurd (no_item pair c)
-  wraps_reached epoch true pair within c by = elim (Contains-push_cases (node_wraps depth batches (suc epoch)) (record { by = Node 1 (suc epoch); gives = Traffic (suc epoch) }) pair c) [
-    | inl node ↦ node_reached epoch pair within node by
-    | inr root ↦ subst (λ (pair : Wrap). Reached pair.gives) root (root_reached epoch within (subst (λ (pair : Wrap). Reached pair.by) (sym root) by))
+  wraps_in_reach : (epoch : ℕ) (stayed : Bool) (pair : Wrap) → suc epoch ≤ length batches → Contains (cond stayed (node_wraps depth batches (suc epoch) ++ record { by = Node 1 (suc epoch); gives = Traffic (suc epoch) } ∷ []) []) pair → WithinReach pair.by → WithinReach pair.gives
+  wraps_in_reach epoch false pair within c by = absurd (no_item pair c)
+  wraps_in_reach epoch true pair within c by = elim (Contains-push_cases (node_wraps depth batches (suc epoch)) (record { by = Node 1 (suc epoch); gives = Traffic (suc epoch) }) pair c) [
+    | inl node ↦ node_in_reach epoch pair within node by
+    | inr root ↦ subst (λ (pair : Wrap). WithinReach pair.gives) root (root_in_reach epoch within (subst (λ (pair : Wrap). WithinReach pair.by) (sym root) by))
   ]
 
-  wrap_reached : (epoch : ℕ) (pair : Wrap) → 1 ≤ epoch → epoch ≤ length batches → Contains (wraps_at depth batches epoch) pair → Reached pair.by → Reached pair.gives
+  wrap_in_reach : (epoch : ℕ) (pair : Wrap) → 1 ≤ epoch → epoch ≤ length batches → Contains (wraps_at depth batches epoch) pair → WithinReach pair.by → WithinReach pair.gives
   unfolding wraps_at
-  wrap_reached zero pair begun within c by = absurd (omega (arith, begun))
-  wrap_reached (suc epoch) pair begun within c by = wraps_reached epoch (stayed_at depth batches (suc epoch)) pair within c by
+  wrap_in_reach zero pair begun within c by = absurd (omega (arith, begun))
+  wrap_in_reach (suc epoch) pair begun within c by = wraps_in_reach epoch (stayed_at depth batches (suc epoch)) pair within c by
 
-  pair_reached : (pair : Wrap) → Contains (world depth batches) pair → Reached pair.by → Reached pair.gives
-  pair_reached pair c by =
+  pair_in_reach : (pair : Wrap) → Contains (world depth batches) pair → WithinReach pair.by → WithinReach pair.gives
+  pair_in_reach pair c by =
       let at = Contains-from_flat_map (pairs_at depth batches) (epochs_of batches) pair c in
       let bounds = Contains-from_range 1 (length batches) at.0 at.1 in
       elim (Contains-append_cases (wraps_at depth batches at.0) _ pair at.2) [
-        | inl wrap ↦ wrap_reached at.0 pair bounds.0 (omega (arith, bounds.1)) wrap by
+        | inl wrap ↦ wrap_in_reach at.0 pair bounds.0 (omega (arith, bounds.1)) wrap by
         | inr told ↦ (
             let to = Contains-from_flat_map (λ m. told_pairs m (keys_told depth batches at.0 m)) (members_at depth batches at.0) pair told in
-            reply_reached at.0 to.0 pair at.1 to.1 to.2 by
+            reply_in_reach at.0 to.0 pair at.1 to.1 to.2 by
             )
       ]
 
-  pub all_reached : (goal : KeyName) → CanDerive (holdings depth batches coalition) (world depth batches) goal → IsReached depth batches coalition goal
-  all_reached goal h = each_derived (holdings depth batches coalition) (world depth batches) Reached held_reached pair_reached goal h
+  pub all_in_reach : (goal : KeyName) → CanDerive (holdings depth batches coalition) (world depth batches) goal → IsWithinReach depth batches coalition goal
+  all_in_reach goal h = each_derived (holdings depth batches coalition) (world depth batches) WithinReach held_in_reach pair_in_reach goal h
 
-pub no_others : (depth : ℕ) (batches : List (List Change)) (epoch : ℕ) (others : List Name) → list_any (is_member (holders_at depth batches epoch)) others ≡ false → CanDerive (holdings depth batches others) (world depth batches) (Traffic epoch) → ⊥
-no_others depth batches epoch others none h =
-    let was = all_reached depth batches others (Traffic epoch) h in
+pub no_others : (laws : Laws) (depth : ℕ) (batches : List (List Change)) (epoch : ℕ) (others : List Name) → list_any (is_member (holders_at depth batches epoch)) others ≡ false → CanDerive (holdings depth batches others) (world depth batches) (Traffic epoch) → ⊥
+no_others laws depth batches epoch others none h =
+    let was = all_in_reach laws depth batches others (Traffic epoch) h in
     false≢true (sym none ∙ passes_in (is_member (holders_at depth batches epoch)) others was.m was.ours was.member)
 
-pub nobody_yet : (depth : ℕ) (batches : List (List Change)) (epoch : ℕ) (anybody : List Name) → length batches < epoch → CanDerive (holdings depth batches anybody) (world depth batches) (Traffic epoch) → ⊥
-nobody_yet depth batches epoch anybody later h =
-    let was = all_reached depth batches anybody (Traffic epoch) h in
+pub nobody_yet : (laws : Laws) (depth : ℕ) (batches : List (List Change)) (epoch : ℕ) (anybody : List Name) → length batches < epoch → CanDerive (holdings depth batches anybody) (world depth batches) (Traffic epoch) → ⊥
+nobody_yet laws depth batches epoch anybody later h =
+    let was = all_in_reach laws depth batches anybody (Traffic epoch) h in
     omega (arith, later, was.within)

@@ -1,43 +1,42 @@
 -- What a history has sent and told, entry by entry.
-use Rattle.std.proofs.Common.{◌≡◌, ℕ, ◌+◌, ◌^◌, ◌<◌, ◌≤◌, true, cond, eqb, get_or, List, [], ◌∷◌, ◌++◌, length, map, take, sym, refl, ap, ◌∙◌, subst, arith, append_assoc, ◌⊎◌, inl, inr}
+use Rattle.std.proofs.Common.{◌≡◌, ℕ, ◌+◌, ◌^◌, ◌<◌, ◌≤◌, true, cond, eqb, List, [], ◌∷◌, ◌++◌, length, map, take, sym, refl, ap, ◌∙◌, subst, arith, append_assoc, ◌⊎◌, inl, inr}
 use Rattle.std.specs.Prelude.{Contains}
 use Rattle.std.specs.List.{filter, flat_map, list_any}
-use Rattle.std.proofs.lemmas.Bool.{cases_Bool, cases_lt, cond_both}
+use Rattle.std.proofs.lemmas.Bool.{cases_Bool, cases_lt, cond_both, or_left, false≢true}
 use Rattle.std.proofs.lemmas.List.{append-nil, length-append, take-append-le, take_all}
 use Rattle.std.proofs.lemmas.List.Concat.{flat_map-append}
 use Rattle.std.proofs.lemmas.List.Elements.{Contains-append_left, Contains-append_right, Contains-append_cases}
-use Rattle.std.proofs.lemmas.List.Sums.{fold-append}
 use Rattle.std.proofs.lemmas.Slice.Eq.{bytes_eq-Decides}
 use Rattle.group_terms.specs.Names.{Name, same_name}
 use Rattle.group_terms.specs.declared.changes.Change.{Change}
 use Rattle.group_terms.specs.declared.keys.KeyName.{KeyName}
 use Rattle.group_terms.specs.declared.keys.KeyName.TheVariants.{Traffic, Phase}
 use Rattle.group_terms.specs.declared.keys.Wrap.{Wrap}
-use Rattle.group_model.specs.Places.{is_held_by, is_member, holders_of, holders_at, joiners, Fits}
+use Rattle.group_model.specs.Places.{is_held_by, is_member, holders_of, holders_at, joiners, IsValid}
 use Rattle.group_model.specs.Wraps.{wraps_at}
-use Rattle.group_model.specs.Replies.{reply_at, replies_to}
-use Rattle.group_model.specs.Groups.{Group, no_group, group_after, after_entry, after_answer, with_batch, depth_after, batches_after, present_holders}
-use Rattle.group_model.specs.Legal.{IsDue, IsWantOfMemory, IsStep, AreSteps, IsLegal, IsLegalHistory, join_answer, leave_answer, output_of, is_pending, taken_leaves}
+use Rattle.group_model.specs.Replies.{reply_at, replies_to, says_of}
+use Rattle.group_model.specs.Groups.{Reading, Group, no_group, new_group, present_group, group_after, after_entry, after_answer, with_batch, depth_after, batches_after, present_holders, IsSound}
+use Rattle.group_model.specs.Legal.{IsDue, IsOutOfMemory, IsOutputOf, IsBatched, IsStep, AreSteps, IsLegalHistory, opens, leaves_taken, answer_to_join, answer_to_leave, is_pending}
 use Rattle.group_model.specs.Derivations.{replies_in, replies_sent, names_to, held_names, told_pairs, reply_pairs, pairs_in, pairs_sent, CanDerive}
 use Rattle.group_model.specs.declared.entries.Entry.{Entry}
-use Rattle.group_model.specs.declared.entries.SentReply.{SentReply}
+use Rattle.group_model.specs.declared.entries.SymReply.{SymReply}
+use Rattle.group_model.specs.declared.entries.Output.{Output}
 use Rattle.group_model.specs.declared.entries.Asked.{Asked}
 use Rattle.group_model.specs.declared.entries.Asked.TheVariants.{Create, Join, Leave, Batch, Derive}
 use Rattle.group_model.specs.declared.entries.Answer.{Answer}
-use Rattle.group_model.specs.declared.entries.Answer.TheVariants.{Queued, Done, Nothing, Batched, Refused}
-use Rattle.group_model.specs.declared.entries.Refusal.TheVariants.{NotMember, AlreadyPending, TreeFull}
-use Rattle.group_model.proofs.EpochLemmas.{holders_at-new}
-use Rattle.group_model.proofs.JoinLemmas.{joins}
-use Rattle.group_model.proofs.HistoryLemmas.{IsSound, IsSound-none, IsSound-step, IsSound-history}
+use Rattle.group_model.specs.declared.entries.Answer.TheVariants.{Done, Queued, Batched, Nothing, Derived, Refused}
+use Rattle.group_model.specs.declared.entries.Refusal.TheVariants.{NotMember, AlreadyPending, TreeFull, NoMemory}
+use Rattle.group_model.specs.Laws.{Laws}
 use Rattle.sym_closure.specs.Worlds.{epochs_of, members_at, keys_told, pairs_at, world, told_at, holdings, wraps_since}
+use Rattle.sym_closure.specs.Firsts.{AreAmong}
 use Rattle.sym_closure.specs.Secrecy.{SendsItsWraps, IsPartOfWorld, RepliedMembersDerive}
-use Rattle.sym_closure.proofs.FirstLemmas.{no_item}
+use Rattle.sym_closure.proofs.FirstLemmas.{no_item, Contains-first}
 use Rattle.sym_closure.proofs.ContainLemmas.{Contains-from_map, Contains-filter, Contains-flat_map, Contains-from_flat_map, Contains-some, Contains-range, Contains-from_range, passes_in, passes_from}
 use Rattle.sym_closure.proofs.MemberLemmas.{held_some, members_follow}
 use Rattle.sym_closure.proofs.PrefixLemmas.{wraps_at-take, keys_told-take, world-take, holdings-take}
 
 -- one batch more
-module _ (depth : ℕ) (batches : List (List Change)) (batch : List Change) where
+module _ (laws : Laws) (depth : ℕ) (batches : List (List Change)) (batch : List Change) where
   abbrev longer : List (List Change)
   longer = batches ++ batch ∷ []
 
@@ -52,16 +51,16 @@ module _ (depth : ℕ) (batches : List (List Change)) (batch : List Change) wher
 
   -- what the earlier epochs send and tell stays
   pub world-more : (pair : Wrap) → Contains (world depth batches) pair → Contains (world depth longer) pair
-  world-more pair c = world-take depth (length batches) longer pair (subst (λ list. Contains (world depth list) pair) (sym front) c)
+  world-more pair c = world-take laws depth (length batches) longer pair (subst (λ list. Contains (world depth list) pair) (sym front) c)
 
   pub holdings-more : (coalition : List Name) (name : KeyName) → Contains (holdings depth batches coalition) name → Contains (holdings depth longer coalition) name
-  holdings-more coalition name c = holdings-take depth (length batches) longer coalition name (subst (λ list. Contains (holdings depth list coalition) name) (sym front) c)
+  holdings-more coalition name c = holdings-take laws depth (length batches) longer coalition name (subst (λ list. Contains (holdings depth list coalition) name) (sym front) c)
 
   pub wraps_at-more : (epoch : ℕ) → epoch ≤ length batches → wraps_at depth longer epoch ≡ wraps_at depth batches epoch
-  wraps_at-more epoch early = sym (wraps_at-take depth (length batches) longer epoch early) ∙ ap (λ list. wraps_at depth list epoch) front
+  wraps_at-more epoch early = sym (wraps_at-take laws depth (length batches) longer epoch early) ∙ ap (λ list. wraps_at depth list epoch) front
 
   pub keys_told-more : (epoch : ℕ) (m : Name) → epoch ≤ length batches → keys_told depth longer epoch m ≡ keys_told depth batches epoch m
-  keys_told-more epoch m early = sym (keys_told-take depth (length batches) longer epoch early m) ∙ ap (λ list. keys_told depth list epoch m) front
+  keys_told-more epoch m early = sym (keys_told-take laws depth (length batches) longer epoch early m) ∙ ap (λ list. keys_told depth list epoch m) front
 
   last_there : Contains (epochs_of longer) last
   last_there = Contains-range 1 last last (omega (arith, last_is)) (omega arith)
@@ -72,17 +71,17 @@ module _ (depth : ℕ) (batches : List (List Change)) (batch : List Change) wher
       Contains-flat_map (pairs_at depth longer) (epochs_of longer) last wrap last_there
       (Contains-append_left (wraps_at depth longer last) (flat_map (λ m. told_pairs m (keys_told depth longer last m)) (members_at depth longer last)) wrap c)
 
-  module _ (fits : Fits (holders_of depth batches) batch) where
+  module _ (valid : IsValid depth longer) where
     -- who comes in is a member
     comes_in : (m : Name) → Contains (joiners batch) m → is_member (holders_at depth longer last) m ≡ true
     comes_in m c =
-        ap (λ epoch. is_member (holders_at depth longer epoch) m) last_is
-        ∙ ap (λ holders. is_member holders m) (holders_at-new depth batches batch)
-        ∙ joins (holders_of depth batches) batch m fits (passes_in (same_name m) (joiners batch) m c ((bytes_eq-Decides m m).1 refl))
+        ap (λ list. is_member (holders_of depth list) m) (take_all last longer (omega arith))
+        ∙ laws.who_is_member depth batches batch m valid
+        ∙ or_left _ _ (passes_in (same_name m) (joiners batch) m c ((bytes_eq-Decides m m).1 refl))
 
     -- to whom a reply goes, and what it says
-    reply_is : (reply : SentReply) → Contains (replies_to depth longer batch) reply → (m : Name) × Contains (joiners batch) m × (record { says = reply_at depth longer last m; datagram = [] } ≡ reply)
-    reply_is reply c = Contains-from_map (λ m. record { says = reply_at depth longer last m; datagram = [] }) (joiners batch) reply c
+    reply_is : (reply : SymReply) → Contains (replies_to depth longer batch) reply → (m : Name) × Contains (joiners batch) m × (reply_at depth longer last m ≡ reply)
+    reply_is reply c = Contains-from_map (reply_at depth longer last) (joiners batch) reply c
 
     pub told_in_world : (pair : Wrap) → Contains (flat_map reply_pairs (replies_to depth longer batch)) pair → Contains (world depth longer) pair
     told_in_world pair c =
@@ -93,13 +92,13 @@ module _ (depth : ℕ) (batches : List (List Change)) (batch : List Change) wher
         Contains-flat_map (pairs_at depth longer) (epochs_of longer) last pair last_there
         (Contains-append_right (wraps_at depth longer last) (flat_map (λ m. told_pairs m (keys_told depth longer last m)) (members_at depth longer last)) pair
         (Contains-flat_map (λ m. told_pairs m (keys_told depth longer last m)) (members_at depth longer last) to.0 pair there
-        (subst (λ (reply : SentReply). Contains (reply_pairs reply) pair) (sym to.2) of.2)))
+        (subst (λ (reply : SymReply). Contains (reply_pairs reply) pair) (sym to.2) of.2)))
 
     pub told_in_holdings : (coalition : List Name) (name : KeyName) → Contains (flat_map (names_to coalition) (replies_to depth longer batch)) name → Contains (holdings depth longer coalition) name
     told_in_holdings coalition name c =
         let of = Contains-from_flat_map (names_to coalition) (replies_to depth longer batch) name c in
         let to = reply_is of.0 of.1 in
-        let told : Contains (cond (list_any (same_name to.0) coalition) (keys_told depth longer last to.0) []) name = subst (λ (reply : SentReply). Contains (names_to coalition reply) name) (sym to.2) of.2 in
+        let told : Contains (cond (list_any (same_name to.0) coalition) (keys_told depth longer last to.0) []) name = subst (λ (reply : SymReply). Contains (names_to coalition reply) name) (sym to.2) of.2 in
         elim (cases_Bool (list_any (same_name to.0) coalition)) [
           | inr none ↦ absurd (no_item name (subst (λ b. Contains (cond b (keys_told depth longer last to.0) []) name) none told))
           | inl ours ↦ (
@@ -115,10 +114,10 @@ module _ (depth : ℕ) (batches : List (List Change)) (batch : List Change) wher
 
 -- what was sent and told is what the batches say
 pub record Tells (depth : ℕ) (batches : List (List Change)) (entries : List Entry) : Type 0 where
-  pub wraps : (epoch : ℕ) (wrap : Wrap) → Contains (epochs_of batches) epoch → Contains (wraps_at depth batches epoch) wrap → Contains (pairs_sent entries) wrap
+  pub wraps : (epoch : ℕ) → Contains (epochs_of batches) epoch → (entry : Entry) × Contains entries entry × AreAmong (wraps_at depth batches epoch) (pairs_in entry.answer)
   pub sent : (pair : Wrap) → Contains (pairs_sent entries) pair → Contains (world depth batches) pair
   pub held : (coalition : List Name) (name : KeyName) → Contains (held_names entries coalition) name → Contains (holdings depth batches coalition) name
-  pub told : (reply : SentReply) → Contains (replies_sent entries) reply → (reply.says.keyed_epoch ≤ length batches) × (reply.says.names ≡ keys_told depth batches reply.says.keyed_epoch reply.says.member)
+  pub told : (reply : SymReply) → Contains (replies_sent entries) reply → (reply.keyed_epoch ≤ length batches) × (reply.names ≡ keys_told depth batches reply.keyed_epoch reply.member)
 
 -- what one entry more adds
 module _ {X : Type 0} (f : Entry → List X) (before : List Entry) (entry : Entry) where
@@ -134,6 +133,12 @@ module _ {X : Type 0} (f : Entry → List X) (before : List Entry) (entry : Entr
   pub comes : (x : X) → Contains (f entry) x → Contains (flat_map f (before ++ entry ∷ [])) x
   comes x c = subst (λ list. Contains list x) (sym added) (Contains-append_right (flat_map f before) (f entry) x c)
 
+-- an epoch whose encryptions an earlier entry sent
+still_sent : (depth : ℕ) (batches : List (List Change)) (before : List Entry) (entry : Entry) (epoch : ℕ)
+    → (one : Entry) × Contains before one × AreAmong (wraps_at depth batches epoch) (pairs_in one.answer)
+    → (one : Entry) × Contains (before ++ entry ∷ []) one × AreAmong (wraps_at depth batches epoch) (pairs_in one.answer)
+still_sent depth batches before entry epoch h = (h.0, Contains-append_left before (entry ∷ []) h.0 h.1, h.2)
+
 -- an answer that sends nothing, and makes no batch
 pub record IsQuiet (group : Group) (asked : Asked) (answer : Answer) : Type 0 where
   pub depth : (after_answer group asked answer).depth ≡ group.depth
@@ -142,42 +147,30 @@ pub record IsQuiet (group : Group) (asked : Asked) (answer : Answer) : Type 0 wh
   pub replies : replies_in answer ≡ []
 
 -- the answer to a batch
-pub record IsMade (group : Group) (asked : Asked) (answer : Answer) : Type 0 where
-  pub made : after_answer group asked answer ≡ with_batch group
-  pub due : answer ≡ Batched (output_of group.depth (with_batch group).batches group.queue)
-
-quiet : {depth : ℕ} {batches : List (List Change)} {queue now : List Change} → {asked : Asked} {answer : Answer} → after_answer (record { depth = depth; batches = batches; queue = queue }) asked answer ≡ record { depth = depth; batches = batches; queue = now } → pairs_in answer ≡ [] → replies_in answer ≡ [] → IsQuiet (record { depth = depth; batches = batches; queue = queue }) asked answer
-quiet same none nothing = record { depth = ap (λ (group : Group). group.depth) same; batches = ap (λ (group : Group). group.batches) same; pairs = none; replies = nothing }
+abbrev pub IsMade : Group → Asked → Answer → Type 0
+IsMade group asked answer = (after_answer group asked answer ≡ with_batch group) × IsBatched group answer
 
 module _ (group : Group) where
-  quiet_join : (m : Name) → IsQuiet group (Join m) (join_answer group m)
-  quiet_join m =
-      cond_both (is_member (present_holders group) m) Nothing _ (IsQuiet group (Join m)) (λ member. quiet refl refl refl)
-      (λ stranger. cond_both (is_pending group.queue m) (Refused AlreadyPending) _ (IsQuiet group (Join m)) (λ pending. quiet refl refl refl)
-      (λ free. cond_both (eqb (taken_leaves group) (2 ^ group.depth)) (Refused (TreeFull (taken_leaves group))) Queued (IsQuiet group (Join m)) (λ full. quiet refl refl refl) (λ left. quiet refl refl refl)))
+  -- an answer that leaves depth and batches as they are
+  pub quiet : (asked : Asked) (answer : Answer) → (after_answer group asked answer).depth ≡ group.depth → (after_answer group asked answer).batches ≡ group.batches → pairs_in answer ≡ [] → replies_in answer ≡ [] → IsQuiet group asked answer
+  quiet asked answer deep list none nothing = record { depth = deep; batches = list; pairs = none; replies = nothing }
 
-  quiet_leave : (m : Name) → IsQuiet group (Leave m) (leave_answer group m)
+  quiet_join : (m : Name) → IsQuiet group (Join m) (answer_to_join group.depth (present_holders group) group.queue m)
+  quiet_join m =
+      cond_both (is_member (present_holders group) m) Nothing _ (IsQuiet group (Join m)) (λ member. quiet (Join m) Nothing refl refl refl refl)
+      (λ stranger. cond_both (is_pending group.queue m) (Refused AlreadyPending) _ (IsQuiet group (Join m)) (λ pending. quiet (Join m) (Refused AlreadyPending) refl refl refl refl)
+      (λ free. cond_both (eqb (leaves_taken group.depth (present_holders group) group.queue) (2 ^ group.depth)) (Refused (TreeFull (leaves_taken group.depth (present_holders group) group.queue))) Queued (IsQuiet group (Join m)) (λ full. quiet (Join m) (Refused (TreeFull (leaves_taken group.depth (present_holders group) group.queue))) refl refl refl refl) (λ left. quiet (Join m) Queued refl refl refl refl)))
+
+  quiet_leave : (m : Name) → IsQuiet group (Leave m) (answer_to_leave group.depth (present_holders group) group.queue m)
   quiet_leave m =
       cond_both (is_member (present_holders group) m) _ (Refused NotMember) (IsQuiet group (Leave m))
-      (λ member. cond_both (is_pending group.queue m) (Refused AlreadyPending) Done (IsQuiet group (Leave m)) (λ pending. quiet refl refl refl) (λ free. quiet refl refl refl))
-      (λ stranger. quiet refl refl refl)
-
-kind_of : (before : List Entry) (asked : Asked) (answer : Answer) → 0 < length before → IsDue before asked answer ⊎ IsWantOfMemory asked answer → IsQuiet (group_after no_group before) asked answer ⊎ IsMade (group_after no_group before) asked answer
-kind_of before (Create depth) answer some (inl due) = absurd (omega (arith, some, ap length due.0))
-kind_of before (Join m) answer some (inl due) = inl (subst (IsQuiet (group_after no_group before) (Join m)) (sym due) (quiet_join (group_after no_group before) m))
-kind_of before (Leave m) answer some (inl due) = inl (subst (IsQuiet (group_after no_group before) (Leave m)) (sym due) (quiet_leave (group_after no_group before) m))
-kind_of before Batch answer some (inl due) = inr (record { made = ap (after_answer (group_after no_group before) Batch) due; due = due })
-kind_of before Batch answer some (inr want) = inl (subst (IsQuiet (group_after no_group before) Batch) (sym want) (quiet refl refl refl))
-kind_of before (Derive epoch members) answer some (inl due) = inl (subst (IsQuiet (group_after no_group before) (Derive epoch members)) (sym due.1) (quiet refl refl refl))
-kind_of before (Create depth) answer some (inr want) = absurd want
-kind_of before (Join m) answer some (inr want) = absurd want
-kind_of before (Leave m) answer some (inr want) = absurd want
-kind_of before (Derive epoch members) answer some (inr want) = absurd want
+      (λ member. cond_both (is_pending group.queue m) (Refused AlreadyPending) Done (IsQuiet group (Leave m)) (λ pending. quiet (Leave m) (Refused AlreadyPending) refl refl refl refl) (λ free. quiet (Leave m) Done refl refl refl refl))
+      (λ stranger. quiet (Leave m) (Refused NotMember) refl refl refl refl)
 
 -- an entry that sends nothing
 Tells-quiet : (depth : ℕ) (batches : List (List Change)) (before : List Entry) (entry : Entry) → Tells depth batches before → pairs_in entry.answer ≡ [] → replies_in entry.answer ≡ [] → Tells depth batches (before ++ entry ∷ [])
 Tells-quiet depth batches before entry h none nothing = record {
-  wraps = λ epoch wrap within c. stays (λ (entry : Entry). pairs_in entry.answer) before entry wrap (h.wraps epoch wrap within c);
+  wraps = λ epoch within. still_sent depth batches before entry epoch (h.wraps epoch within);
   sent = λ pair c. elim (old_or_new (λ (entry : Entry). pairs_in entry.answer) before entry pair c) [
     | inl old ↦ h.sent pair old
     | inr new ↦ absurd (no_item pair (subst (λ pairs. Contains pairs pair) none new))
@@ -196,120 +189,141 @@ Tells-quiet depth batches before entry h none nothing = record {
 }
 
 -- an entry that makes a batch
-Tells-made : (depth : ℕ) (batches : List (List Change)) (batch : List Change) (before : List Entry) (entry : Entry) → Fits (holders_of depth batches) batch → Tells depth batches before → entry.answer ≡ Batched (output_of depth (batches ++ batch ∷ []) batch) → Tells depth (batches ++ batch ∷ []) (before ++ entry ∷ [])
-Tells-made depth batches batch before entry fits h due = record {
-  wraps = λ epoch wrap within c. elim (cases_lt (length batches) epoch) [
+Tells-made : (laws : Laws) (depth : ℕ) (batches : List (List Change)) (batch : List Change) (before : List Entry) (entry : Entry) (made : Output) → IsValid depth (batches ++ batch ∷ []) → Tells depth batches before → entry.answer ≡ Batched made → IsOutputOf depth (batches ++ batch ∷ []) batch made → Tells depth (batches ++ batch ∷ []) (before ++ entry ∷ [])
+Tells-made laws depth batches batch before entry made valid h due puts = record {
+  wraps = λ epoch within. elim (cases_lt (length batches) epoch) [
     | inl late ↦ (
-        let bounds = Contains-from_range 1 (last depth batches batch) epoch within in
-        let now : epoch ≡ last depth batches batch = omega (arith, late, bounds.1, last_is depth batches batch) in
-        comes (λ (entry : Entry). pairs_in entry.answer) before entry wrap
-        (subst (λ answer. Contains (pairs_in answer) wrap) (sym due)
-        (Contains-append_left (wraps_at depth (batches ++ batch ∷ []) (last depth batches batch)) (flat_map reply_pairs (replies_to depth (batches ++ batch ∷ []) batch)) wrap
-        (subst (λ epoch. Contains (wraps_at depth (batches ++ batch ∷ []) epoch) wrap) now c)))
+        let bounds = Contains-from_range 1 (last laws depth batches batch) epoch within in
+        let now : epoch ≡ length (batches ++ batch ∷ []) = omega (arith, late, bounds.1, last_is laws depth batches batch) in (
+          entry,
+          Contains-append_right before (entry ∷ []) entry (Contains-first entry []),
+          λ wrap there.
+              subst (λ answer. Contains (pairs_in answer) wrap) (sym due)
+              (Contains-append_left made.wraps (flat_map reply_pairs (says_of made.replies)) wrap
+              (subst (λ wraps. Contains wraps wrap) (ap (wraps_at depth (batches ++ batch ∷ [])) now ∙ sym puts.wraps) there)),
+        )
         )
     | inr early ↦ (
-        let bounds = Contains-from_range 1 (last depth batches batch) epoch within in
-        stays (λ (entry : Entry). pairs_in entry.answer) before entry wrap
-        (h.wraps epoch wrap (Contains-range 1 (length batches) epoch bounds.0 (omega (arith, early)))
-        (subst (λ wraps. Contains wraps wrap) (wraps_at-more depth batches batch epoch early) c))
+        let bounds = Contains-from_range 1 (last laws depth batches batch) epoch within in
+        let old = still_sent depth batches before entry epoch (h.wraps epoch (Contains-range 1 (length batches) epoch bounds.0 (omega (arith, early)))) in
+        (old.0, old.1, λ wrap there. old.2 wrap (subst (λ wraps. Contains wraps wrap) (wraps_at-more laws depth batches batch epoch early) there))
         )
   ];
   sent = λ pair c. elim (old_or_new (λ (entry : Entry). pairs_in entry.answer) before entry pair c) [
-    | inl old ↦ world-more depth batches batch pair (h.sent pair old)
-    | inr new ↦ elim (Contains-append_cases (wraps_at depth (batches ++ batch ∷ []) (last depth batches batch)) (flat_map reply_pairs (replies_to depth (batches ++ batch ∷ []) batch)) pair (subst (λ answer. Contains (pairs_in answer) pair) due new)) [
-      | inl wrap ↦ wrap_in_world depth batches batch pair wrap
-      | inr told ↦ told_in_world depth batches batch fits pair told
+    | inl old ↦ world-more laws depth batches batch pair (h.sent pair old)
+    | inr new ↦ elim (Contains-append_cases made.wraps (flat_map reply_pairs (says_of made.replies)) pair (subst (λ answer. Contains (pairs_in answer) pair) due new)) [
+      | inl wrap ↦ wrap_in_world laws depth batches batch pair (subst (λ wraps. Contains wraps pair) puts.wraps wrap)
+      | inr told ↦ told_in_world laws depth batches batch valid pair (subst (λ says. Contains (flat_map reply_pairs says) pair) puts.replies told)
     ]
   ];
   held = λ coalition name c. elim (Contains-append_cases (map Phase coalition) (flat_map (λ (entry : Entry). flat_map (names_to coalition) (replies_in entry.answer)) (before ++ entry ∷ [])) name c) [
-    | inl phase ↦ holdings-more depth batches batch coalition name (h.held coalition name (Contains-append_left (map Phase coalition) (flat_map (λ (entry : Entry). flat_map (names_to coalition) (replies_in entry.answer)) before) name phase))
+    | inl phase ↦ holdings-more laws depth batches batch coalition name (h.held coalition name (Contains-append_left (map Phase coalition) (flat_map (λ (entry : Entry). flat_map (names_to coalition) (replies_in entry.answer)) before) name phase))
     | inr told ↦ elim (old_or_new (λ (entry : Entry). flat_map (names_to coalition) (replies_in entry.answer)) before entry name told) [
-      | inl old ↦ holdings-more depth batches batch coalition name (h.held coalition name (Contains-append_right (map Phase coalition) (flat_map (λ (entry : Entry). flat_map (names_to coalition) (replies_in entry.answer)) before) name old))
-      | inr new ↦ told_in_holdings depth batches batch fits coalition name (subst (λ answer. Contains (flat_map (names_to coalition) (replies_in answer)) name) due new)
+      | inl old ↦ holdings-more laws depth batches batch coalition name (h.held coalition name (Contains-append_right (map Phase coalition) (flat_map (λ (entry : Entry). flat_map (names_to coalition) (replies_in entry.answer)) before) name old))
+      | inr new ↦ told_in_holdings laws depth batches batch valid coalition name
+          (subst (λ says. Contains (flat_map (names_to coalition) says) name) puts.replies (subst (λ answer. Contains (flat_map (names_to coalition) (replies_in answer)) name) due new))
     ]
   ];
   told = λ reply c. elim (old_or_new (λ (entry : Entry). replies_in entry.answer) before entry reply c) [
     | inl old ↦ (
         let told = h.told reply old in
-        (omega (arith, told.0, last_is depth batches batch), told.1 ∙ sym (keys_told-more depth batches batch reply.says.keyed_epoch reply.says.member told.0))
+        (omega (arith, told.0, last_is laws depth batches batch), told.1 ∙ sym (keys_told-more laws depth batches batch reply.keyed_epoch reply.member told.0))
         )
     | inr new ↦ (
-        let to = reply_is depth batches batch fits reply (subst (λ answer. Contains (replies_in answer) reply) due new) in
-        subst (λ (reply : SentReply). (reply.says.keyed_epoch ≤ last depth batches batch) × (reply.says.names ≡ keys_told depth (batches ++ batch ∷ []) reply.says.keyed_epoch reply.says.member)) to.2 (omega arith, refl)
+        let to = reply_is laws depth batches batch valid reply (subst (λ says. Contains says reply) puts.replies (subst (λ answer. Contains (replies_in answer) reply) due new)) in
+        subst (λ (reply : SymReply). (reply.keyed_epoch ≤ last laws depth batches batch) × (reply.names ≡ keys_told depth (batches ++ batch ∷ []) reply.keyed_epoch reply.member)) to.2 (omega arith, refl)
         )
   ];
 }
 
--- one entry more
-Tells-step : (before : List Entry) (entry : Entry) → 0 < length before → IsSound (group_after no_group before) → Tells (depth_after before) (batches_after before) before → IsStep before entry → (depth_after (before ++ entry ∷ []) ≡ depth_after before) × Tells (depth_after (before ++ entry ∷ [])) (batches_after (before ++ entry ∷ [])) (before ++ entry ∷ [])
-Tells-step before entry some sound h step =
-    let group = group_after no_group before in
-    let next : group_after no_group (before ++ entry ∷ []) ≡ after_answer group entry.asked entry.answer = fold-append after_entry no_group before (entry ∷ []) in
-    elim (kind_of before entry.asked entry.answer some step.answered) [
-      | inl quiet ↦ (
-          let deep = ap (λ (group : Group). group.depth) next ∙ quiet.depth in
-          let list = ap (λ (group : Group). group.batches) next ∙ quiet.batches in (
-            deep,
-            subst (λ depth. Tells depth (batches_after (before ++ entry ∷ [])) (before ++ entry ∷ [])) (sym deep)
-                (subst (λ batches. Tells (depth_after before) batches (before ++ entry ∷ [])) (sym list)
-                (Tells-quiet (depth_after before) (batches_after before) before entry h quiet.pairs quiet.replies)),
-          )
-          )
-      | inr made ↦ (
-          let now = next ∙ made.made in (
-            ap (λ (group : Group). group.depth) now,
-            subst (λ (group : Group). Tells group.depth group.batches (before ++ entry ∷ [])) (sym now)
-                (Tells-made (depth_after before) (batches_after before) group.queue before entry sound.fits h made.due),
-          )
-          )
-    ]
-
-Tells-after : (before entries : List Entry) → 0 < length before → IsSound (group_after no_group before) → 1 ≤ depth_after before → Tells (depth_after before) (batches_after before) before → AreSteps before entries → (1 ≤ depth_after (before ++ entries)) × Tells (depth_after (before ++ entries)) (batches_after (before ++ entries)) (before ++ entries)
-Tells-after before [] some sound deep h steps = subst (λ all. (1 ≤ depth_after all) × Tells (depth_after all) (batches_after all) all) (sym (append-nil before)) (deep, h)
-Tells-after before (entry ∷ entries) some sound deep h steps =
-    let more = Tells-step before entry some sound h steps.0 in
-    subst (λ all. (1 ≤ depth_after all) × Tells (depth_after all) (batches_after all) all) (append_assoc before (entry ∷ []) entries)
-    (Tells-after (before ++ entry ∷ []) entries (omega (arith, length-append before (entry ∷ []))) (IsSound-step before entry sound steps.0) (omega (arith, deep, more.0)) more.1 steps.1)
-
 -- before anything is sent
 Tells-none : (depth : ℕ) → Tells depth [] []
 Tells-none depth = record {
-  wraps = λ epoch wrap within c. absurd (no_item epoch within);
+  wraps = λ epoch within. absurd (no_item epoch within);
   sent = λ pair c. absurd (no_item pair c);
   held = λ coalition name c. c;
   told = λ reply c. absurd (no_item reply c);
 }
 
--- the making of the group
-Tells-first : (depth : ℕ) (entry : Entry) → entry.asked ≡ Create depth → IsStep [] entry → (1 ≤ depth_after (entry ∷ [])) × Tells (depth_after (entry ∷ [])) (batches_after (entry ∷ [])) (entry ∷ [])
-Tells-first depth entry asked step = elim (subst (λ asked. IsDue [] asked entry.answer ⊎ IsWantOfMemory asked entry.answer) asked step.answered) [
-  | inr want ↦ absurd want
-  | inl due ↦ (
-      let now : after_answer no_group entry.asked entry.answer ≡ record { depth = depth; batches = []; queue = [] } = ap (λ asked. after_answer no_group asked entry.answer) asked ∙ ap (after_answer no_group (Create depth)) due.3 in
-      subst (λ (group : Group). (1 ≤ group.depth) × Tells group.depth group.batches (entry ∷ [])) (sym now)
-      (due.1, Tells-quiet depth [] [] entry (Tells-none depth) (ap pairs_in due.3) (ap replies_in due.3))
-      )
+-- a request that opens a group makes one
+opening_of : (asked : Asked) → opens asked ≡ true → (depth : ℕ) × (asked ≡ Create depth)
+opening_of (Create depth) h = (depth, refl)
+opening_of (Join m) h = absurd (false≢true h)
+opening_of (Leave m) h = absurd (false≢true h)
+opening_of Batch h = absurd (false≢true h)
+opening_of (Derive epoch members) h = absurd (false≢true h)
+
+-- an answer sends nothing and makes no batch, or it is that to a batch
+kind_of : (group : Group) (before : List Entry) (asked : Asked) (answer : Answer) → 0 < length before → IsDue group before asked answer ⊎ IsOutOfMemory asked answer → IsQuiet group asked answer ⊎ IsMade group asked answer
+kind_of group before (Create depth) answer some (inl due) = absurd (omega (arith, some, ap length due.0))
+kind_of group before (Join m) answer some (inl due) = inl (subst (IsQuiet group (Join m)) (sym due) (quiet_join group m))
+kind_of group before (Leave m) answer some (inl due) = inl (subst (IsQuiet group (Leave m)) (sym due) (quiet_leave group m))
+kind_of group before Batch answer some (inl due) = inr (ap (after_answer group Batch) due.1, due)
+kind_of group before Batch answer some (inr short) = inl (subst (IsQuiet group Batch) (sym short) (quiet group Batch (Refused NoMemory) refl refl refl refl))
+kind_of group before (Derive epoch members) answer some (inl due) = inl (subst (IsQuiet group (Derive epoch members)) (sym due.1) (quiet group (Derive epoch members) (Derived due.0) refl refl refl refl))
+kind_of group before (Create depth) answer some (inr short) = absurd short
+kind_of group before (Join m) answer some (inr short) = absurd short
+kind_of group before (Leave m) answer some (inr short) = absurd short
+kind_of group before (Derive epoch members) answer some (inr short) = absurd short
+
+-- what the entries so far sent and told is what the batches of the group say, in a tree of more than one leaf
+abbrev TellsAll : Group → List Entry → Type 0
+TellsAll group entries = (1 ≤ group.depth) × Tells group.depth group.batches entries
+
+-- one entry more
+Tells-step : (laws : Laws) (group : Group) (before : List Entry) (entry : Entry) → 0 < length before → IsSound group → TellsAll group before → IsStep group before entry → TellsAll (after_entry group entry) (before ++ entry ∷ [])
+Tells-step laws group before entry some sound h step = elim (kind_of group before entry.asked entry.answer some step.answered) [
+  | inl quiet ↦ (
+    omega (arith, quiet.depth, h.0),
+    subst (λ depth. Tells depth (after_entry group entry).batches (before ++ entry ∷ [])) (sym quiet.depth)
+        (subst (λ batches. Tells group.depth batches (before ++ entry ∷ [])) (sym quiet.batches)
+        (Tells-quiet group.depth group.batches before entry h.1 quiet.pairs quiet.replies)),
+  )
+  | inr made ↦ subst (λ (group : Group). TellsAll group (before ++ entry ∷ [])) (sym made.0)
+      (h.0, Tells-made laws group.depth group.batches group.queue before entry made.1.0 (subst IsSound made.0 (laws.sound_after group before entry sound step)).valid h.1 made.1.1 made.1.2)
 ]
 
--- the whole history
-Tells-history : (depth : ℕ) (requests : List Asked) (entries : List Entry) → IsLegal (Create depth ∷ requests) entries → (1 ≤ depth_after entries) × Tells (depth_after entries) (batches_after entries) entries
-Tells-history depth requests [] legal = absurd (omega (arith, ap length legal.asked))
-Tells-history depth requests (entry ∷ entries) legal =
-    let first = Tells-first depth entry (ap (λ (all : List Asked). get_or all 0 entry.asked) legal.asked) legal.steps.0 in
-    Tells-after (entry ∷ []) entries (omega arith) (IsSound-step [] entry IsSound-none legal.steps.0) first.0 first.1 legal.steps.1
+Tells-after : (laws : Laws) (group : Group) (before entries : List Entry) → 0 < length before → IsSound group → TellsAll group before → AreSteps group before entries → TellsAll (group_after group entries) (before ++ entries)
+Tells-after laws group before [] some sound h steps = subst (TellsAll group) (sym (append-nil before)) h
+Tells-after laws group before (entry ∷ entries) some sound h steps =
+    subst (TellsAll (group_after group (entry ∷ entries))) (append_assoc before (entry ∷ []) entries)
+    (Tells-after laws (after_entry group entry) (before ++ entry ∷ []) entries (omega (arith, length-append before (entry ∷ []))) (laws.sound_after group before entry sound steps.0) (Tells-step laws group before entry some sound h steps.0) steps.1)
 
-pub sends_its_wraps : (entries : List Entry) → IsLegalHistory entries → SendsItsWraps entries
-sends_its_wraps entries (inl none) = subst SendsItsWraps (sym none) (λ epoch within wrap. (Tells-none 0).wraps epoch wrap within)
-sends_its_wraps entries (inr made) = λ epoch within wrap. (Tells-history made.0 made.1 entries made.2).1.wraps epoch wrap within
+-- the making of the group
+Tells-first : (group : Group) (entry : Entry) → opens entry.asked ≡ true → IsStep group [] entry → TellsAll (after_entry group entry) (entry ∷ [])
+Tells-first group entry opening step =
+    let made = opening_of entry.asked opening in
+    elim (subst (λ asked. IsDue group [] asked entry.answer ⊎ IsOutOfMemory asked entry.answer) made.1 step.answered) [
+      | inr short ↦ absurd short
+      | inl due ↦ (
+          let now : after_entry group entry ≡ new_group group made.0 = ap (after_answer group entry.asked) due.3 in
+          subst (λ (group : Group). TellsAll group (entry ∷ [])) (sym now)
+          (due.1, Tells-quiet made.0 [] [] entry (Tells-none made.0) (ap pairs_in due.3) (ap replies_in due.3))
+          )
+    ]
 
-pub part_of_world : (entries : List Entry) → IsLegalHistory entries → IsPartOfWorld entries
-part_of_world entries (inl none) = subst IsPartOfWorld (sym none) (record { sent = (Tells-none 0).sent; held = (Tells-none 0).held })
-part_of_world entries (inr made) = (let tells = (Tells-history made.0 made.1 entries made.2).1 in record { sent = tells.sent; held = tells.held })
+-- what the openings read
+module _ (laws : Laws) (readings : List Reading) where
+  -- the whole history, where there is one
+  Tells-history : (entry : Entry) (entries : List Entry) → IsLegalHistory readings (entry ∷ entries) → TellsAll (present_group readings (entry ∷ entries)) (entry ∷ entries)
+  Tells-history entry entries legal =
+      Tells-after laws (after_entry (no_group readings) entry) (entry ∷ []) entries (omega arith) (laws.sound_after (no_group readings) [] entry (laws.sound_first readings) legal.steps.0)
+      (Tells-first (no_group readings) entry legal.begins legal.steps.0) legal.steps.1
 
-pub replied_members : (entries : List Entry) → IsLegalHistory entries → RepliedMembersDerive entries
-replied_members entries (inl none) reply epoch c begun within through = absurd (no_item reply (subst (λ all. Contains (replies_sent all) reply) none c))
-replied_members entries (inr made) reply epoch c begun within through =
-    let tells = Tells-history made.0 made.1 entries made.2 in
-    let told = tells.1.told reply c in
-    subst (λ names. CanDerive names (wraps_since (depth_after entries) (batches_after entries) reply.says.keyed_epoch epoch) (Traffic epoch)) (sym told.1)
-    (members_follow (depth_after entries) (batches_after entries) tells.0 (IsSound-history entries (inr made)).valid reply.says.keyed_epoch epoch reply.says.member begun within through)
+  Tells-legal : (entries : List Entry) → IsLegalHistory readings entries → Tells (depth_after readings entries) (batches_after readings entries) entries
+  Tells-legal [] legal = Tells-none 0
+  Tells-legal (entry ∷ entries) legal = (Tells-history entry entries legal).1
+
+  pub sends_its_wraps : (entries : List Entry) → IsLegalHistory readings entries → SendsItsWraps readings entries
+  sends_its_wraps entries legal = (Tells-legal entries legal).wraps
+
+  pub part_of_world : (entries : List Entry) → IsLegalHistory readings entries → IsPartOfWorld readings entries
+  part_of_world entries legal = (let tells = Tells-legal entries legal in record { sent = tells.sent; held = tells.held })
+
+  pub replied_members : (entries : List Entry) → IsLegalHistory readings entries → RepliedMembersDerive readings entries
+  replied_members [] legal reply epoch c begun within through = absurd (no_item reply c)
+  replied_members (entry ∷ entries) legal reply epoch c begun within through =
+      let tells = Tells-history entry entries legal in
+      let told = tells.1.told reply c in
+      subst (λ names. CanDerive names (wraps_since (depth_after readings (entry ∷ entries)) (batches_after readings (entry ∷ entries)) reply.keyed_epoch epoch) (Traffic epoch)) (sym told.1)
+      (members_follow laws (depth_after readings (entry ∷ entries)) (batches_after readings (entry ∷ entries)) tells.0 (laws.sound_histories readings (entry ∷ entries) legal).valid reply.keyed_epoch epoch reply.member begun within through)

@@ -8,10 +8,6 @@ AreFirsts {X} seen (item ∷ items) firsts =
     (Contains seen item × AreFirsts seen items firsts)
     ⊎ ((Contains seen item → ⊥) × ((others : List X) × (firsts ≡ item ∷ others) × AreFirsts (seen ++ item ∷ []) items others))
 
--- a list grew by those of the items that it did not have
-abbrev pub Gains : {X : Type 0} → List X → List X → List X → Type 0
-Gains {X} old items new = (firsts : List X) × (new ≡ old ++ firsts) × AreFirsts old items firsts
-
 -- each item of a list is in another one
 abbrev pub AreAmong : {X : Type 0} → List X → List X → Type 0
 AreAmong {X} items others = (item : X) → Contains items item → Contains others item

@@ -1,4 +1,5 @@
-pub mod Closed
 pub mod Firsts
+pub mod Knowledge
+pub mod Private
 pub mod Secrecy
 pub mod Worlds

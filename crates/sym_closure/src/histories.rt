@@ -1,13 +1,15 @@
 //! What a history gave its members to hold, and what it sent.
-ghost use Rattle.std.specs.Prelude.{◌≡◌, [], ◌∷◌, map, IfOk, OnOk};
-ghost use Rattle.std.specs.List.{list_any, flat_map};
-ghost use Rattle.group_terms.specs.Names.{same_name};
-ghost use Rattle.group_terms.specs.declared.keys.KeyName.TheVariants.{Phase};
-ghost use Rattle.group_model.specs.Derivations.{names_to, held_names, replies_in, reply_pairs, pairs_in, pairs_sent};
-ghost use Rattle.sym_closure.specs.Firsts.{AreFirsts, Gains, HasSame};
+ghost use Rattle.std.specs.Prelude.{◌≡◌, [], ◌++◌, IfOk, OnOk};
+ghost use Rattle.std.specs.List.{flat_map};
+ghost use Rattle.group_model.specs.declared.entries.SentReply.{SentReply};
+ghost use Rattle.group_model.specs.Replies.{says_of};
+ghost use Rattle.group_model.specs.Derivations.{names_to, held_names, replies_in};
+ghost use Rattle.group_model.specs.Derivations.{told_pairs, reply_pairs, pairs_resent, pairs_in, pairs_sent};
+ghost use Rattle.sym_closure.specs.Firsts.{AreFirsts, HasSame};
+ghost use Rattle.sym_closure.specs.Private.Gains.{Gains};
 
 use crate::once::Once;
-use group_model::{Answer, Entry, KeyName, List, MemberName, NoMemory, SentReply, Wrap};
+use group_model::{Answer, Entry, KeyName, List, MemberName, NoMemory, PushPair, SentReply, Wrap};
 use std::alloc::Global;
 
 /// What some members hold after a history, each key once: their phase 1 keys (RFC 6407 section 2) in the order asked, and then
@@ -38,14 +40,14 @@ pub fn sent_pairs(alloc: Global, history: &[Entry]) -> Result<List<Wrap>, NoMemo
 {
     let mut pairs = Once::new(alloc);
     for entry in history {
-        add_pairs(&mut pairs, &entry.answer)?;
+        pairs.add_all(pairs_in(alloc, &entry.answer)?.as_slice())?;
     }
     Ok(pairs.into_list())
 }
 
 /// The replies that an answer sent.
 fn replies_of(answer: &Answer) -> &[SentReply]
-    ensures { result.now ≡ replies_in answer.now }
+    ensures { says_of result.now ≡ replies_in answer.now }
 {
     match answer {
         Answer::Batched { output } => output.replies.as_slice(),
@@ -64,7 +66,7 @@ fn add_names(
     replies: &[SentReply],
     members: &[MemberName],
 ) -> Result<(), NoMemory>
-    ensures { OnOk result (Gains names.old (flat_map (names_to members.now) replies.now) names.new) }
+    ensures { OnOk result (Gains names.old (flat_map (λ (reply : SentReply). names_to members.now reply.says) replies.now) names.new) }
 {
     for reply in replies {
         add_names_of(names, reply, members)?;
@@ -77,7 +79,7 @@ fn add_names_of(
     reply: &SentReply,
     members: &[MemberName],
 ) -> Result<(), NoMemory>
-    ensures { OnOk result (Gains names.old (names_to members.now reply.now) names.new) }
+    ensures { OnOk result (Gains names.old (names_to members.now reply.now.says) names.new) }
 {
     if members.contains(&reply.says.member) {
         names.add_all(reply.says.names.as_slice())
@@ -86,54 +88,52 @@ fn add_names_of(
     }
 }
 
-/// Adds what an answer sent.
-fn add_pairs(pairs: &mut Once<Wrap>, answer: &Answer) -> Result<(), NoMemory>
-    ensures { OnOk result (Gains pairs.old (pairs_in answer.now) pairs.new) }
+/// All that an answer sent: the wraps of a batch, and then what its replies encrypt; or the pushes that an opening sent again.
+pub(crate) fn pairs_in(alloc: Global, answer: &Answer) -> Result<List<Wrap>, NoMemory>
+    ensures { IfOk result (λ pairs. pairs ≡ pairs_in answer.now) }
 {
     match answer {
         Answer::Batched { output } => {
-            pairs.add_all(output.wraps.as_slice())?;
-            add_replies(pairs, output.replies.as_slice())?;
-            Ok(())
+            let mut pairs = List::copy_of(alloc, output.wraps.as_slice())?;
+            add_replies(&mut pairs, output.replies.as_slice())?;
+            Ok(pairs)
         }
+        Answer::Opened { resent, .. } => pairs_resent(alloc, resent),
         Answer::Done
         | Answer::Queued
-        | Answer::Opened { .. }
         | Answer::Nothing
         | Answer::Derived { .. }
-        | Answer::Refused { .. } => Ok(()),
+        | Answer::Refused { .. } => Ok(List::new(alloc)),
     }
 }
 
-fn add_replies(pairs: &mut Once<Wrap>, replies: &[SentReply]) -> Result<(), NoMemory>
-    ensures { OnOk result (Gains pairs.old (flat_map reply_pairs replies.now) pairs.new) }
+/// What a pair of pushes that was sent again encrypts, where there is one.
+fn pairs_resent(alloc: Global, resent: &Option<PushPair>) -> Result<List<Wrap>, NoMemory>
+    ensures { IfOk result (λ pairs. pairs ≡ pairs_resent resent.now) }
+{
+    match resent {
+        Some(pair) => List::copy_of(alloc, pair.wraps.as_slice()),
+        None => Ok(List::new(alloc)),
+    }
+}
+
+/// Adds what replies encrypt.
+fn add_replies(pairs: &mut List<Wrap>, replies: &[SentReply]) -> Result<(), NoMemory>
+    ensures { OnOk result (pairs.new ≡ pairs.old ++ flat_map (λ (reply : SentReply). reply_pairs reply.says) replies.now) }
 {
     for reply in replies {
-        add_reply(pairs, reply)?;
+        add_keys(pairs, &reply.says.member, reply.says.names.as_slice())?;
     }
     Ok(())
-}
-
-fn add_reply(pairs: &mut Once<Wrap>, reply: &SentReply) -> Result<(), NoMemory>
-    ensures { OnOk result (Gains pairs.old (reply_pairs reply.now) pairs.new) }
-{
-    add_keys(pairs, &reply.says.member, reply.says.names.as_slice())
 }
 
 /// Adds keys, each under the phase 1 key of a member.
-fn add_keys(pairs: &mut Once<Wrap>, member: &MemberName, names: &[KeyName]) -> Result<(), NoMemory>
-    ensures { OnOk result (Gains pairs.old (map (λ name. record { by = Phase member.now; gives = name }) names.now) pairs.new) }
+fn add_keys(pairs: &mut List<Wrap>, member: &MemberName, names: &[KeyName]) -> Result<(), NoMemory>
+    ensures { OnOk result (pairs.new ≡ pairs.old ++ told_pairs member.now names.now) }
 {
     for name in names {
-        add_key(pairs, member, name)?;
+        let by = KeyName::Phase { member: *member };
+        pairs.push(Wrap { by, gives: *name })?;
     }
-    Ok(())
-}
-
-fn add_key(pairs: &mut Once<Wrap>, member: &MemberName, name: &KeyName) -> Result<(), NoMemory>
-    ensures { OnOk result (Gains pairs.old (record { by = Phase member.now; gives = name.now } ∷ []) pairs.new) }
-{
-    let by = KeyName::Phase { member: *member };
-    pairs.add(Wrap { by, gives: *name })?;
     Ok(())
 }

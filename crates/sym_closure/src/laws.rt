@@ -1,45 +1,64 @@
 //! Who can derive which key, said of every list of batches and of every history.
-ghost use Rattle.std.specs.Prelude.{ℕ, ◌≤◌, List, take};
+ghost use Rattle.std.specs.Prelude.{ℕ, ◌≤◌, ◌++◌, List, take};
 ghost use Rattle.group_terms.specs.Names.{Name};
 ghost use Rattle.group_terms.specs.declared.changes.Change.{Change};
 ghost use Rattle.group_model.specs.declared.entries.Entry.{Entry};
 ghost use Rattle.group_model.specs.Places.{IsValid};
+ghost use Rattle.group_model.specs.Groups.{Reading};
 ghost use Rattle.group_model.specs.Legal.{IsLegalHistory};
 ghost use Rattle.sym_closure.specs.Firsts.{AreAmong};
+ghost use Rattle.sym_closure.specs.Knowledge.{Known, Knows};
 ghost use Rattle.sym_closure.specs.Worlds.{world, holdings};
-ghost use Rattle.sym_closure.specs.Secrecy.{NoOthersDerive, NobodyDerivesYet, DerivesOnlyReached, MembersDerive, SendsItsWraps, IsPartOfWorld, NoOthersDeriveFrom, RepliedMembersDerive, YesIsOfMembers};
+ghost use Rattle.sym_closure.specs.Secrecy.{NoOthersDerive, NobodyDerivesYet, DerivesOnlyWithinReach, MembersDerive, SendsItsWraps, IsPartOfWorld, NoOthersDeriveFrom, RepliedMembersDerive, YesIsOfMembers};
+
+use group_model::laws_hold;
 
 /// No coalition derives the traffic key of an epoch at which none of them is a member, nor that of an epoch to come; nor any key of the
 /// tree but those that the positions from their leaves up had while they had these leaves.
 pub fn no_others_derive()
     ensures traffic { (depth : ℕ) (batches : List (List Change)) → NoOthersDerive depth batches }
     ensures to_come { (depth : ℕ) (batches : List (List Change)) → NobodyDerivesYet depth batches }
-    ensures reached { (depth : ℕ) (batches : List (List Change)) → DerivesOnlyReached depth batches }
-{}
+    ensures within_reach { (depth : ℕ) (batches : List (List Change)) → DerivesOnlyWithinReach depth batches }
+{
+    laws_hold();
+}
 
 /// A member at each epoch from one to another derives the traffic key of the second from what it may be told at the first, by the
 /// encryptions since; in a valid list, and in a tree of more than one leaf.
 pub fn members_derive()
     ensures { (depth : ℕ) (batches : List (List Change)) → 1 ≤ depth → IsValid depth batches → MembersDerive depth batches }
-{}
+{
+    laws_hold();
+}
 
 /// What can be sent and given over the first epochs of a list is among what can be over all of them.
 pub fn a_longer_list_has_a_larger_world()
     ensures sent { (depth n : ℕ) (batches : List (List Change)) → AreAmong (world depth (take n batches)) (world depth batches) }
     ensures held { (depth n : ℕ) (batches : List (List Change)) (coalition : List Name) → AreAmong (holdings depth (take n batches) coalition) (holdings depth batches coalition) }
-{}
+{
+    laws_hold();
+}
 
-/// A history has sent the encryptions of its batches, and has sent and given nothing that these cannot send and give.
+/// Each batch of a history has sent its encryptions, and a history has sent and given nothing that these cannot send and give.
 pub fn a_history_is_part_of_its_world()
-    ensures wraps { (entries : List Entry) → IsLegalHistory entries → SendsItsWraps entries }
-    ensures part { (entries : List Entry) → IsLegalHistory entries → IsPartOfWorld entries }
-{}
+    ensures wraps { (readings : List Reading) (entries : List Entry) → IsLegalHistory readings entries → SendsItsWraps readings entries }
+    ensures part { (readings : List Reading) (entries : List Entry) → IsLegalHistory readings entries → IsPartOfWorld readings entries }
+{
+    laws_hold();
+}
 
 /// From what a history gave them and what it sent, no coalition derives the traffic key of an epoch at which none of them is a member.
 /// A member that was sent a reply derives those of the epochs through which it stays, by the encryptions since. The question
 /// whether names derive one is answered yes only for a member.
 pub fn a_history_serves_its_members_alone()
-    ensures others { (entries : List Entry) → IsLegalHistory entries → NoOthersDeriveFrom entries }
-    ensures members { (entries : List Entry) → IsLegalHistory entries → RepliedMembersDerive entries }
-    ensures yes { (entries : List Entry) → IsLegalHistory entries → YesIsOfMembers entries }
+    ensures others { (readings : List Reading) (entries : List Entry) → IsLegalHistory readings entries → NoOthersDeriveFrom readings entries }
+    ensures members { (readings : List Reading) (entries : List Entry) → IsLegalHistory readings entries → RepliedMembersDerive readings entries }
+    ensures yes { (readings : List Reading) (entries : List Entry) → IsLegalHistory readings entries → YesIsOfMembers readings entries }
+{
+    laws_hold();
+}
+
+/// What is known of a history stays known as it goes on.
+pub fn what_is_known_stays_known()
+    ensures { (known : Known) (entries more : List Entry) → Knows known entries → Knows known (entries ++ more) }
 {}

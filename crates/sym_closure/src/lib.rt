@@ -8,15 +8,19 @@ pub use group_model::Derivation;
 pub use histories::{held, sent_pairs};
 pub use laws::{
     a_history_is_part_of_its_world, a_history_serves_its_members_alone,
-    a_longer_list_has_a_larger_world, members_derive, no_others_derive,
+    a_longer_list_has_a_larger_world, members_derive, no_others_derive, what_is_known_stays_known,
 };
+pub use sent::Sent;
 
 mod closures;
 mod derivations;
+mod graphs;
 #[cfg(test)]
 mod group_tests;
 mod histories;
 mod laws;
 mod once;
+mod reached;
+mod sent;
 #[cfg(test)]
 mod tests;

@@ -1,30 +1,31 @@
 //! Lists in which nothing stands twice.
-ghost use Rattle.std.specs.Prelude.{◌≡◌, [], ◌∷◌, ◌++◌, Contains, Decides, IsTrue, IsFalse, IfOk, OnOk, OnErr};
-ghost use Rattle.sym_closure.specs.Firsts.{Gains};
+ghost use Rattle.std.specs.Prelude.{◌≡◌, ◌<◌, [], ◌∷◌, ◌++◌, length, slice_index_or, Contains, Decides};
+ghost use Rattle.std.specs.Prelude.{IsTrue, IsFalse, MatchOption, IfOk, OnOk, OnErr};
+ghost use Rattle.sym_closure.specs.Private.Gains.{Gains};
 
 use group_model::{List, NoMemory};
 use std::alloc::Global;
-use std::collections::HashSet;
+use std::collections::HashMap;
 use std::hash::Hash;
 use std::marker::Model;
 
-/// Items in the order in which they came first, each once.
-#[derive(Drop)]
+/// Items in the order in which they came first, each once, and the place of each.
+#[derive(Debug, Drop)]
 pub(crate) struct Once<T: Eq + Hash> {
     items: List<T>,
-    seen: HashSet<T>,
+    places: HashMap<T, usize>,
 }
 
 impl<T: Eq + Hash> Model for Once<T> {
     ghost use Rattle.std.specs.Prelude.{◌≡◌, List as Items};
-    ghost use Rattle.std.specs.List.{list_any};
-    ghost use Rattle.std.specs.HashSet.{contains};
+    ghost use Rattle.std.specs.List.{position_from};
+    ghost use Rattle.std.specs.HashMap.{get};
 
     ghost Value = { Items T };
 
     ghost view = { λ once. once.items };
 
-    ghost invariant = { λ once. (item : T) → contains T.eq once.seen item ≡ list_any (T.eq item) once.items };
+    ghost invariant = { λ once. (item : T) → get T.eq once.places item ≡ position_from (T.eq item) 0 once.items };
 }
 
 impl<T: Copy + Drop + Eq + Hash> Once<T> {
@@ -34,16 +35,24 @@ impl<T: Copy + Drop + Eq + Hash> Once<T> {
     {
         Once {
             items: List::new(alloc),
-            seen: HashSet::new(alloc),
+            places: HashMap::new(alloc),
         }
     }
 
-    /// Whether an item is there, of a type whose items are equal where they are the same.
-    pub(crate) fn has(&self, item: &T) -> bool
+    /// The place of an item, where it is there, of a type whose items are equal where they are the same.
+    pub(crate) fn place(&self, item: &T) -> Option<usize>
         requires exact { (a b : T) → Decides (T.eq a b) (a ≡ b) }
-        ensures { Decides result (Contains self.now item.now) }
+        ensures { MatchOption result (Contains self.now item.now → ⊥) (λ place.
+            (place < length self.now) × (slice_index_or self.now place item.now ≡ item.now)) }
     {
-        self.seen.contains(item)
+        self.places.get(item).copied()
+    }
+
+    /// The items.
+    pub(crate) fn as_slice(&self) -> &[T]
+        ensures { result.now ≡ self.now }
+    {
+        self.items.as_slice()
     }
 
     /// Puts an item at the end, unless it is there; says whether it was not.
@@ -54,11 +63,12 @@ impl<T: Copy + Drop + Eq + Hash> Once<T> {
         ensures there { IfOk result (λ added. IsFalse added → Contains self.old item × (self.new ≡ self.old)) }
         ensures err { OnErr result (self.new ≡ self.old) }
     {
-        if self.has(&item) {
+        if self.place(&item).is_some() {
             return Ok(false);
         }
+        let place = self.items.len();
         self.items.push(item)?;
-        match self.seen.insert(item) {
+        match self.places.insert(item, place) {
             Ok(_) => Ok(true),
             Err(_) => {
                 self.items.pop();
@@ -82,7 +92,7 @@ impl<T: Copy + Drop + Eq + Hash> Once<T> {
     pub(crate) fn into_list(self) -> List<T>
         ensures { result ≡ self }
     {
-        let Once { items, seen: _ } = self;
+        let Once { items, places: _ } = self;
         items
     }
 }

@@ -1,4 +1,7 @@
-use crate::{derive, held, is_derivation, sent_pairs};
+ghost use Rattle.std.specs.Prelude.{OnOk};
+ghost use Rattle.sym_closure.specs.Knowledge.{Knows};
+
+use crate::{Sent, derive, held, is_derivation, sent_pairs};
 use group_model::{
     Answer, Asked, Entry, KeyName, List, LkhId, MemberName, Output, Outside, SentReply, SymReply,
     Wrap,
@@ -94,6 +97,56 @@ fn a_history_tells_what_was_held_and_sent(rt: HostRuntime) -> Result<(), Fail> {
     Ok(())
 }
 
+/// At epoch 1 `a` comes in, at epoch 2 `b`, and at epoch 3 `a` goes out.
+#[test]
+fn what_is_sent_answers_who_derives_which_epoch(rt: HostRuntime) -> Result<(), Fail> {
+    let alloc = rt.alloc();
+    let (a, b) = (named(b"a")?, named(b"b")?);
+    let (right, left) = (node(3, 2)?, node(2, 1)?);
+    let (first, second, third) = (node(1, 1)?, node(1, 2)?, node(1, 3)?);
+    let mut history = List::new(alloc);
+    let mut sent = Sent::new(alloc);
+    let entry = batched(alloc, a, &[], &[left, first, traffic(1)])?;
+    grow(alloc, &mut history, &mut sent, entry)?;
+    assert_eq!(rt; derived(alloc, &sent, &[a])?, [true, false, false, false]);
+    assert_eq!(rt; derived(alloc, &sent, &[b])?, [false; 4]);
+    let wraps = [
+        pair(left, second),
+        pair(right, second),
+        pair(second, traffic(2)),
+    ];
+    let entry = batched(alloc, b, &wraps, &[right, second, traffic(2)])?;
+    grow(alloc, &mut history, &mut sent, entry)?;
+    let wraps = [pair(right, third), pair(third, traffic(3))];
+    let entry = batched(alloc, b, &wraps, &[])?;
+    grow(alloc, &mut history, &mut sent, entry)?;
+    assert_eq!(rt; derived(alloc, &sent, &[a])?, [true, true, false, false]);
+    assert_eq!(rt; derived(alloc, &sent, &[b])?, [false, true, true, false]);
+    assert_eq!(rt; derived(alloc, &sent, &[b, a])?, [true, true, true, false]);
+    assert_eq!(rt; derived(alloc, &sent, &[])?, [false; 4]);
+    Ok(())
+}
+
+/// Which of the epochs 1 to 4 have a traffic key that these members derive.
+fn derived(alloc: Global, sent: &Sent, members: &[MemberName]) -> Result<[bool; 4], Fail> {
+    Ok([
+        sent.derives(alloc, members, 1)?,
+        sent.derives(alloc, members, 2)?,
+        sent.derives(alloc, members, 3)?,
+        sent.derives(alloc, members, 4)?,
+    ])
+}
+
+/// Adds an entry to a history, and takes in what it sent.
+fn grow(alloc: Global, history: &mut List<Entry>, sent: &mut Sent, entry: Entry) -> Result<(), Fail>
+    requires { Knows sent.old history.old }
+    ensures { OnOk result (Knows sent.new history.new) }
+{
+    history.push(entry)?;
+    sent.follow(alloc, history.as_slice())?;
+    Ok(())
+}
+
 /// An entry of a batch with these wraps, and a reply with these keys.
 fn batched(
     alloc: Global,
@@ -130,6 +183,14 @@ fn batched(
         outside,
         answer: Answer::Batched { output },
     })
+}
+
+fn pair(by: KeyName, gives: KeyName) -> Wrap {
+    Wrap { by, gives }
+}
+
+fn traffic(made: u32) -> KeyName {
+    KeyName::Traffic { made }
 }
 
 fn node(number: u16, made: u32) -> Result<KeyName, Fail> {

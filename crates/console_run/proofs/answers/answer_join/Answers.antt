@@ -1,13 +1,15 @@
-use Rattle.std.proofs.Common.{ap, sym, ◌∙◌}
-use Rattle.group_model.specs.Places.{holders_of, is_member}
-use Rattle.console_run.proofs.StandLemmas.{holders_at-present, queued_room}
+use Rattle.std.proofs.Common.{sym, ◌∙◌}
+use Rattle.group_terms.specs.declared.changes.Change.TheVariants.{In}
+use Rattle.console_run.proofs.RoomLemmas.{HasRoom-fits, queued}
 use Rattle.console_run.proofs.answers.answer_join.Goals as goal
 
 pub returns-clause-room : goal.returns-clause-room
-returns-clause-room c queued =
-    let history = c.args.history.now in
-    let present = holders_at-present history.depth history.batches c.epoch.result c.epoch.ensures in
-    let stranger = ap (λ holders. is_member holders c.args.member.now) (sym present) ∙ sym c.is_member.ensures ∙ c.if-is_member.false in
-    let free = sym c.has_pending.ensures ∙ c.if-has_pending.false in
-    queued_room history.depth (holders_of history.depth history.batches) c.args.pending.now c.args.member.now c.requires.shallow (c.each_leaf_has_its_place.ensures history.depth history.batches) c.requires.fits
-    c.count_taken-held.result stranger free c.count_taken-held.ensures (λ full. c.if-held-leaves.false (full ∙ sym c.leaves.ensures.leaves))
+returns-clause-room c granted =
+    let tree = c.args.tree.now in
+    let pending = c.args.pending.now in
+    let m = c.args.member.now in
+    let each = sym c.leaves.ensures.each ∙ c.leaves.ensures.leaves in
+    let due = queued tree.depth tree.holders pending m (sym c.has.ensures ∙ c.if-has.false) (sym c.is_member.ensures.member ∙ c.if-is_member.false)
+    (λ full. c.if-held-leaves.false (c.count_taken-held.ensures ∙ full ∙ sym c.leaves.ensures.leaves)) in
+    HasRoom-fits tree.depth tree.holders pending (In m) c.a_batch_that_fits_has_few_changes.ensures.changes c.requires.shallow each
+    (c.granted_changes_fit.ensures.joins tree.depth tree.holders pending m each c.requires.fits due)

@@ -1,5 +1,5 @@
 use Rattle.std.proofs.Common.{◌≡◌, ◌++◌, ◌-◌}
-use Rattle.group_model.specs.Trees.{wraps_down}
+use Rattle.group_model.specs.Private.Trees.{wraps_down}
 use Rattle.group_model.proofs.trees.wrap_all.Given as goal
 
 -- the encryptions so far, and those of the positions that are left

@@ -1,32 +1,44 @@
-use Rattle.std.proofs.Common.{[], ◌++◌, sym, subst}
-use Rattle.std.specs.Prelude.{All, Contains}
-use Rattle.std.proofs.lemmas.List.Elements.{All-weaker, Contains-append_left}
-use Rattle.group_model.specs.Derivations.{IsDerivation}
-use Rattle.sym_closure.specs.Closed.{IsClosed}
-use Rattle.sym_closure.proofs.DerivationLemmas.{AreAtHand-then, AreAtHand-held, held_derivation}
+use Rattle.std.proofs.Common.{◌≡◌, ◌≤◌, length, get_or, sym, ◌∙◌, subst, inl, inr, arith}
+use Rattle.std.specs.Prelude.{Contains}
+use Rattle.std.proofs.lemmas.Bool.{cases_lt}
+use Rattle.std.proofs.lemmas.List.{take_all}
+use Rattle.std.proofs.lemmas.Option.{none-some, same_Some, slice_get-get_or, slice_get_within}
+use Rattle.sym_closure.specs.Private.Gains.{Gains}
+use Rattle.sym_closure.proofs.ClosureLemmas.{Closes-more}
 use Rattle.sym_closure.proofs.closures.close.Goals as goal
 
-pub loop-names-init : goal.loop-names-init
-loop-names-init c =
-    let start = held_derivation c.args.have.now c.args.pairs.now c.new-names.result c.add_all.new.self c.new-names.ensures c.in_ok-add_all.ensures in
-    record { derivation = start.0; held = start.1 }
+pub overflow_add-place : goal.overflow_add-place
+overflow_add-place c =
+    let low = slice_get_within c.loop-number.reached.order c.loop-number.place c.in-Some.number (sym c.in-Some.ensures.number) in
+    omega (arith, low, c.in-Some.ensures.few, c.in-Some.ensures.fits)
 
-pub returns-then-not-branch-clause-held : goal.returns-then-not-branch-clause-held
-returns-then-not-branch-clause-held c = subst (λ all. All (Contains all) c.args.have.now) (sym (c.in_ok-pass.ensures.closed c.if-not-branch.true).0) c.loop-names.invariant.held
+pub loop-number-smaller : goal.loop-number-smaller
+loop-number-smaller c =
+    let low = slice_get_within c.loop-number.reached.order c.loop-number.place c.in-Some.number (sym c.in-Some.ensures.number) in
+    omega (arith, low, c.in-Some.ensures.few, c.in_ok-add_all.ensures.bound)
 
-pub returns-then-not-branch-clause-closed : goal.returns-then-not-branch-clause-closed
-returns-then-not-branch-clause-closed c =
-    let closed = c.in_ok-pass.ensures.closed c.if-not-branch.true in
-    subst (IsClosed c.args.pairs.now) (sym closed.0) closed.1
-
-pub loop-names-preserved : goal.loop-names-preserved
-loop-names-preserved c =
-    let have = c.args.have.now in
-    let pairs = c.args.pairs.now in
-    let names = c.loop-names.names in
-    let more = c.in_ok-pass.ensures.grown in
+pub loop-number-preserved : goal.loop-number-preserved
+loop-number-preserved c =
+    let graph = c.args.graph.now in
+    let order = c.loop-number.reached.order in
+    let new = c.add_all.new.self.order in
+    let place = c.loop-number.place in
+    let number = c.in-Some.number in
+    let low = slice_get_within order place number (sym c.in-Some.ensures.number) in
+    let at : number ≡ get_or order place number =
+    same_Some number (get_or order place number) (c.in-Some.ensures.number ∙ slice_get-get_or order place number low) in
+    let gains = subst (λ given. Gains order given new) c.given.ensures.numbers c.in_ok-add_all.ensures.gains in
     record {
-      derivation = subst (IsDerivation have pairs) (sym more.1) (AreAtHand-then have pairs [] names more.0 c.loop-names.invariant.derivation (AreAtHand-held have pairs names more.0 more.2));
-      held = subst (λ all. All (Contains all) have) (sym more.1)
-          (All-weaker (Contains names) (Contains (names ++ more.0)) (λ name there. Contains-append_left names more.0 name there) have c.loop-names.invariant.held);
+      bound = c.in_ok-add_all.ensures.bound ∙ c.loop-number.invariant.bound;
+      closes = Closes-more graph c.args.reached.now.order order new place number c.loop-number.invariant.closes low at gains;
     }
+
+pub returns-clause-complete : goal.returns-clause-complete
+returns-clause-complete c = λ by gives there given.
+    let order = c.loop-number.reached.order in
+    let place = c.loop-number.place in
+    let end : length order ≤ place = elim (cases_lt place (length order)) [
+      | inl low ↦ absurd (none-some (get_or order place 0) (c.in_default.ensures.number ∙ slice_get-get_or order place 0 low))
+      | inr high ↦ high
+    ] in
+    c.loop-number.invariant.closes.done by gives (subst (λ front. Contains front by) (sym (take_all place order end)) there) given

@@ -1,14 +1,14 @@
-use Rattle.std.proofs.Common.{All, Contains}
-use Rattle.group_model.specs.Derivations.{IsDerivation}
-use Rattle.sym_closure.specs.Closed.{missing}
+use Rattle.std.proofs.Common.{◌≡◌, ◌-◌, length}
+use Rattle.sym_closure.proofs.ClosureLemmas.{Closes}
 use Rattle.sym_closure.proofs.closures.close.Given as goal
 
--- the keys so far are a derivation, with all that is held
-abbrev pub invariant-loop-names : goal.invariant-loop-names
-invariant-loop-names l = record {
-  derivation : IsDerivation l.fn.have l.fn.pairs l.names;
-  held : All (Contains l.names) l.fn.have;
+-- all is done of the numbers before the place
+abbrev pub invariant-loop-number : goal.invariant-loop-number
+invariant-loop-number l = record {
+  bound : l.reached.bound ≡ length l.graph.keys;
+  closes : Closes l.graph l.fn.reached.order l.reached.order l.place;
 }
 
-abbrev pub decreases-loop-names : goal.decreases-loop-names
-decreases-loop-names l = missing l.fn.pairs l.names
+-- how many numbers may still come
+abbrev pub decreases-loop-number : goal.decreases-loop-number
+decreases-loop-number l = l.reached.bound - l.place

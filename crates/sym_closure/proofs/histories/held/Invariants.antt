@@ -1,7 +1,7 @@
 use Rattle.std.proofs.Common.{[], take, map}
 use Rattle.group_terms.specs.declared.keys.KeyName.TheVariants.{Phase}
 use Rattle.group_model.specs.Derivations.{held_names}
-use Rattle.sym_closure.specs.Firsts.{Gains}
+use Rattle.sym_closure.specs.Private.Gains.{Gains}
 use Rattle.sym_closure.proofs.histories.held.Given as goal
 
 -- the phase 1 keys so far

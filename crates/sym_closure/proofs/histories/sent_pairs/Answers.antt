@@ -1,6 +1,7 @@
-use Rattle.std.proofs.Common.{[], sym, subst}
+use Rattle.std.proofs.Common.{[], sym, ◌∙◌, subst}
 use Rattle.std.proofs.lemmas.List.{take_all}
-use Rattle.sym_closure.specs.Firsts.{Gains, HasSame}
+use Rattle.sym_closure.specs.Firsts.{HasSame}
+use Rattle.sym_closure.specs.Private.Gains.{Gains}
 use Rattle.group_model.specs.declared.entries.Entry.{Entry}
 use Rattle.group_model.specs.Derivations.{pairs_in, pairs_sent}
 use Rattle.sym_closure.proofs.FirstLemmas.{Gains-next, HasSame-gained}
@@ -8,8 +9,13 @@ use Rattle.sym_closure.proofs.histories.sent_pairs.Goals as goal
 
 pub loop-entry-preserved : goal.loop-entry-preserved
 loop-entry-preserved c =
-    Gains-next (λ (entry : Entry). pairs_in entry.answer) [] c.loop-entry.pairs c.add_pairs.new.pairs [] c.args.history.now c.loop-entry.entry-index c.entry-item.result
-    c.loop-entry-test.true c.entry-item.is c.loop-entry.invariant c.in_ok-add_pairs.ensures
+    let before = c.loop-entry.pairs in
+    let after = c.add_all.new.self in
+    let entry = c.entry-item.result in
+    let sent : Gains before (pairs_in entry.answer) after =
+    subst (λ items. Gains before items after) (c.as_slice.ensures ∙ c.in_ok-pairs_in.ensures) c.in_ok-add_all.ensures in
+    Gains-next (λ (entry : Entry). pairs_in entry.answer) [] before after [] c.args.history.now c.loop-entry.entry-index entry
+    c.loop-entry-test.true c.entry-item.is c.loop-entry.invariant sent
 
 pub returns-clause-same : goal.returns-clause-same
 returns-clause-same c =

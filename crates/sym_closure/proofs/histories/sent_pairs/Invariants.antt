@@ -1,6 +1,6 @@
 use Rattle.std.proofs.Common.{[], take}
 use Rattle.group_model.specs.Derivations.{pairs_sent}
-use Rattle.sym_closure.specs.Firsts.{Gains}
+use Rattle.sym_closure.specs.Private.Gains.{Gains}
 use Rattle.sym_closure.proofs.histories.sent_pairs.Given as goal
 
 -- the pairs so far

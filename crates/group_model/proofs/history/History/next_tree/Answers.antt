@@ -1,16 +1,8 @@
-use Rattle.group_model.proofs.EpochLemmas.{StandsAt-first}
-use Rattle.group_model.proofs.WrapLemmas.{StandsAt-next}
+use Rattle.group_model.proofs.TreeLemmas.{StandsAt-step}
 use Rattle.group_model.proofs.history.History.next_tree.Goals as goal
 
-pub returns-in_ok-after-in-Some : goal.returns-in_ok-after-in-Some
-returns-in_ok-after-in-Some c =
+pub returns-clause-stands : goal.returns-clause-stands
+returns-clause-stands c =
     let history = c.args.self.now in
-    StandsAt-next history.depth history.batches c.args.batch.now c.changes.result.now c.epoch.result c.epoch-epoch.result c.in-Some.tree.now c.in_ok-after-in-Some.field-0
-    c.epoch.ensures c.epoch-epoch.ensures c.changes.ensures.changes c.in-Some.ensures.tree.1 c.in_ok-after-in-Some.ensures.holders (rw c.depth.ensures at c.in_ok-after-in-Some.ensures.made)
-
-pub returns-in_ok-after-in-None : goal.returns-in_ok-after-in-None
-returns-in_ok-after-in-None c =
-    let history = c.args.self.now in
-    let first = StandsAt-first history.depth history.batches c.epoch.result c.in_ok-tree-in-None.tree c.in-None.ensures.tree (rw c.depth-in-None.ensures at c.in_ok-tree-in-None.ensures.holders) (rw c.depth-in-None.ensures at c.in_ok-tree-in-None.ensures.made) in
-    StandsAt-next history.depth history.batches c.args.batch.now c.changes-in-None.result.now c.epoch.result c.epoch-epoch.result c.in_ok-tree-in-None.tree c.in_ok-after-in-None.field-0
-    c.epoch.ensures c.epoch-epoch.ensures c.changes-in-None.ensures.changes first c.in_ok-after-in-None.ensures.holders (rw c.depth-in-None-2.ensures at c.in_ok-after-in-None.ensures.made)
+    StandsAt-step history.depth c.args.index history.batches c.changes-changes.result.now c.args.tree.now c.in_ok-after.field-0 c.requires.index c.changes-changes.ensures.changes c.requires.stands c.in_ok-after.ensures.holders
+    (rw c.depth.ensures.depth at c.in_ok-after.ensures.made)

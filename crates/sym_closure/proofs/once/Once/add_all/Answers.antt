@@ -1,6 +1,6 @@
 use Rattle.std.proofs.Common.{◌≡◌, ◌+◌, ◌∷◌, [], ◌++◌, take, ap, sym, ◌∙◌, subst}
 use Rattle.std.proofs.lemmas.List.{take_more}
-use Rattle.sym_closure.specs.Firsts.{Gains}
+use Rattle.sym_closure.specs.Private.Gains.{Gains}
 use Rattle.sym_closure.proofs.FirstLemmas.{Gains-none, Gains-then}
 use Rattle.sym_closure.proofs.once.Once.add_all.Goals as goal
 

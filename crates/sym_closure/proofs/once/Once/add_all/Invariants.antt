@@ -1,5 +1,5 @@
 use Rattle.std.proofs.Common.{take}
-use Rattle.sym_closure.specs.Firsts.{Gains}
+use Rattle.sym_closure.specs.Private.Gains.{Gains}
 use Rattle.sym_closure.proofs.once.Once.add_all.Given as goal
 
 -- the items so far

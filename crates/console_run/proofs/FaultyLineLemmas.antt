@@ -1,0 +1,190 @@
+-- A script whose lines are all of the grammar has no faulty line.
+use Rattle.std.proofs.Common.{◌≡◌, ℕ, Bool, ◌+◌, ◌<◌, ◌≤◌, true, false, cond, List, [], ◌∷◌, ◌++◌, Option, length, sym, refl, ap, ◌∙◌, arith, inl, inr}
+use Rattle.std.specs.Prelude.{◌⊎◌, nat_le, is_some, Some, None}
+use Rattle.std.specs.List.{fold, list_any, list_all}
+use Rattle.std.proofs.lemmas.Bool.{cases_Bool, cases_lt, lt-ltb, or_parts, and_parts, ne_eqb, leb-true, false≢true}
+use Rattle.std.proofs.lemmas.List.{append_assoc, append-nil, length-append}
+use Rattle.std.proofs.lemmas.List.Folds.{list_all-append}
+use Rattle.std.proofs.lemmas.List.Sums.{fold-append}
+use Rattle.group_model.specs.declared.entries.Entry.{Entry}
+use Rattle.group_model.specs.declared.entries.Asked.{Asked}
+use Rattle.script_text.specs.Lines.{line_of, line_of_words}
+use Rattle.script_text.specs.Words.{words_of}
+use Rattle.console_run.specs.Scripts.{ends_line, EndsLine, unfinished, script_lines, is_line, are_lines}
+use Rattle.console_run.specs.Causes.{Given, CameFrom, IsOver, IsStopped}
+use Rattle.console_run.specs.Promises.{ShowsScript}
+use Rattle.console_run.specs.Private.Cuts.{Cut, cut_more, cut_of}
+use Rattle.console_run.proofs.CutLemmas.{cut_of-more, lines_cut, unfinished-some}
+
+-- the lines of a cut, and what has come of the next
+abbrev lines_at : Cut → List (List ℕ)
+lines_at cut = cut.lines ++ unfinished cut.rest
+
+-- octets add lines to those there are
+more_lines : (lines : List (List ℕ)) (rest octets : List ℕ) → (more : List (List ℕ)) × ((fold cut_more (record { lines = lines; rest = rest }) octets).lines ≡ lines ++ more)
+more_lines lines rest [] = ([], sym (append-nil lines))
+more_lines lines rest (octet ∷ octets) =
+    let ended : Cut = record { lines = lines ++ rest ∷ []; rest = [] } in
+    let kept : Cut = record { lines = lines; rest = rest ++ octet ∷ [] } in
+    elim (cases_Bool (ends_line octet)) [
+      | inl ends ↦ (
+          let others = more_lines (lines ++ rest ∷ []) [] octets in
+          (rest ∷ others.0, ap (λ b. (fold cut_more (cond b ended kept) octets).lines) ends ∙ others.1 ∙ append_assoc lines (rest ∷ []) others.0)
+          )
+      | inr goes ↦ (
+          let others = more_lines lines (rest ++ octet ∷ []) octets in
+          (others.0, ap (λ b. (fold cut_more (cond b ended kept) octets).lines) goes ∙ others.1)
+          )
+    ]
+
+-- a line that ends here is among them
+ended_line : (lines : List (List ℕ)) (rest octets : List ℕ) → (more : List (List ℕ)) × (lines_at (fold cut_more (record { lines = lines; rest = rest }) (10 ∷ octets)) ≡ lines ++ rest ∷ more)
+ended_line lines rest octets =
+    let cut = fold cut_more (record { lines = lines ++ rest ∷ []; rest = [] }) octets in
+    let others = more_lines (lines ++ rest ∷ []) [] octets in
+    (others.0 ++ unfinished cut.rest, ap (λ ls. ls ++ unfinished cut.rest) (others.1 ∙ append_assoc lines (rest ∷ []) others.0) ∙ append_assoc lines (rest ∷ others.0) (unfinished cut.rest))
+
+-- and so is one with octets, however it goes on
+begun_line : (lines : List (List ℕ)) (rest octets : List ℕ) → 0 < length rest → (others : List ℕ) × (more : List (List ℕ)) × (lines_at (fold cut_more (record { lines = lines; rest = rest }) octets) ≡ lines ++ (rest ++ others) ∷ more)
+begun_line lines rest [] some = ([], [], ap (λ last. lines ++ last) (unfinished-some rest some ∙ ap (λ line. line ∷ []) (sym (append-nil rest))))
+begun_line lines rest (octet ∷ octets) some =
+    let ended : Cut = record { lines = lines ++ rest ∷ []; rest = [] } in
+    let kept : Cut = record { lines = lines; rest = rest ++ octet ∷ [] } in
+    elim (cases_Bool (ends_line octet)) [
+      | inl ends ↦ (
+          let others = ended_line lines rest octets in
+          ([], others.0, ap (λ b. lines_at (fold cut_more (cond b ended kept) octets)) ends ∙ others.1 ∙ ap (λ line. lines ++ line ∷ others.0) (sym (append-nil rest)))
+          )
+      | inr goes ↦ (
+          let others = begun_line lines (rest ++ octet ∷ []) octets (omega (arith, length-append rest (octet ∷ []))) in
+          (octet ∷ others.0, others.1, ap (λ b. lines_at (fold cut_more (cond b ended kept) octets)) goes ∙ others.2 ∙ ap (λ line. lines ++ line ∷ others.1) (append_assoc rest (octet ∷ []) others.0))
+          )
+    ]
+
+-- with octets there is a line more
+one_more_line : (lines : List (List ℕ)) (rest octets : List ℕ) → 0 < length octets → length lines + 1 ≤ length (lines_at (fold cut_more (record { lines = lines; rest = rest }) octets))
+one_more_line lines rest [] some = absurd (omega (arith, some))
+one_more_line lines rest (octet ∷ octets) some =
+    let ended : Cut = record { lines = lines ++ rest ∷ []; rest = [] } in
+    let kept : Cut = record { lines = lines; rest = rest ++ octet ∷ [] } in
+    elim (cases_Bool (ends_line octet)) [
+      | inl ends ↦ (
+          let others = ended_line lines rest octets in
+          let whole = ap (λ b. length (lines_at (fold cut_more (cond b ended kept) octets))) ends ∙ ap length others.1 in
+          omega (arith, whole, length-append lines (rest ∷ others.0))
+          )
+      | inr goes ↦ (
+          let others = begun_line lines (rest ++ octet ∷ []) octets (omega (arith, length-append rest (octet ∷ []))) in
+          let whole = ap (λ b. length (lines_at (fold cut_more (cond b ended kept) octets))) goes ∙ ap length others.2 in
+          omega (arith, whole, length-append lines (((rest ++ octet ∷ []) ++ others.0) ∷ others.1))
+          )
+    ]
+
+-- octets that end no line are kept
+kept_octets : (lines : List (List ℕ)) (rest text : List ℕ) → list_any ends_line text ≡ false → fold cut_more (record { lines = lines; rest = rest }) text ≡ record { lines = lines; rest = rest ++ text }
+kept_octets lines rest [] h = ap (λ rest. record { lines = lines; rest = rest }) (sym (append-nil rest))
+kept_octets lines rest (octet ∷ text) h =
+    let ended : Cut = record { lines = lines ++ rest ∷ []; rest = [] } in
+    let kept : Cut = record { lines = lines; rest = rest ++ octet ∷ [] } in
+    let parts = or_parts (ends_line octet) (list_any ends_line text) h in
+    ap (λ b. fold cut_more (cond b ended kept) text) parts.0 ∙ kept_octets lines (rest ++ octet ∷ []) text parts.1
+    ∙ ap (λ rest. record { lines = lines; rest = rest }) (append_assoc rest (octet ∷ []) text)
+
+some_or_none : (octets : List ℕ) → (octets ≡ []) ⊎ (0 < length octets)
+some_or_none [] = inl refl
+some_or_none (octet ∷ octets) = inr (omega arith)
+
+nothing_left : (before : List ℕ) → EndsLine before → (cut_of before).rest ≡ []
+nothing_left before h = elim h [
+  | inl none ↦ ap (λ octets. (cut_of octets).rest) none
+  | inr front ↦ ap (λ octets. (cut_of octets).rest) front.1 ∙ ap (λ (cut : Cut). cut.rest) (cut_of-more front.0 10)
+]
+
+-- the lines of a script that has come to some text
+lines_from : (before text others : List ℕ) → EndsLine before → list_any ends_line text ≡ false → script_lines (before ++ (text ++ others)) ≡ lines_at (fold cut_more (record { lines = script_lines before; rest = text }) others)
+lines_from before text others ends one_line =
+    let none = nothing_left before ends in
+    let lines : script_lines before ≡ (cut_of before).lines = lines_cut before ∙ ap (λ rest. (cut_of before).lines ++ unfinished rest) none ∙ append-nil (cut_of before).lines in
+    let cut : cut_of before ≡ record { lines = script_lines before; rest = [] } =
+    ap (λ rest. record { lines = (cut_of before).lines; rest = rest }) none ∙ ap (λ lines. record { lines = lines; rest = [] }) (sym lines) in
+    lines_cut (before ++ (text ++ others))
+    ∙ ap lines_at (fold-append cut_more (record { lines = []; rest = [] }) before (text ++ others)
+    ∙ fold-append cut_more (cut_of before) text others
+    ∙ ap (λ cut. fold cut_more (fold cut_more cut text) others) cut
+    ∙ ap (λ cut. fold cut_more cut others) (kept_octets (script_lines before) [] text one_line))
+
+-- a line of the grammar has at most 200 octets
+short_line : (text : List ℕ) → is_line text ≡ true → length text ≤ 200
+unfolding line_of
+short_line text h = elim (cases_lt 200 (length text)) [
+  | inl long ↦ absurd (false≢true (sym (ap (λ b. is_some (cond b None (line_of_words (words_of text)))) (lt-ltb 200 (length text) long)) ∙ h))
+  | inr short ↦ short
+]
+
+empty_line : is_line [] ≡ true
+unfolding line_of words_of
+empty_line = refl
+
+good_line : (lines more : List (List ℕ)) (line : List ℕ) → list_all is_line (lines ++ line ∷ more) ≡ true → is_line line ≡ true
+good_line lines more line h = (and_parts (is_line line) (list_all is_line more) (and_parts (list_all is_line lines) (list_all is_line (line ∷ more)) (sym (list_all-append is_line lines (line ∷ more)) ∙ h)).1).0
+
+module _ (octets before text after : List ℕ) (ended : Bool) (ends : EndsLine before) (one_line : list_any ends_line text ≡ false) (good : are_lines (script_lines octets) ≡ true) where
+  all_good : (nat_le (length (script_lines octets)) 16384 ≡ true) × (list_all is_line (script_lines octets) ≡ true)
+  all_good = and_parts (nat_le (length (script_lines octets)) 16384) (list_all is_line (script_lines octets)) good
+
+  not_bad : (lines more : List (List ℕ)) (line : List ℕ) → script_lines octets ≡ lines ++ line ∷ more → is_line line ≡ true
+  not_bad lines more line same = good_line lines more line (ap (list_all is_line) (sym same) ∙ all_good.1)
+
+  -- the text is a line, which was over
+  no_bad_line : IsOver ended after → (ended ≡ true → octets ≡ before ++ (text ++ after)) → (others : List ℕ) → octets ≡ before ++ (text ++ (after ++ others)) → is_line text ≡ false → ⊥
+  no_bad_line over taken others whole bad = elim over [
+    | inl here ↦ (
+        let from = lines_from before text (after ++ others) ends one_line ∙ ap (λ octets. lines_at (fold cut_more (record { lines = script_lines before; rest = text }) (octets ++ others))) here.1 in
+        let more = ended_line (script_lines before) text (here.0 ++ others) in
+        false≢true (sym bad ∙ not_bad (script_lines before) more.0 text (ap script_lines whole ∙ from ∙ more.1))
+        )
+    | inr end ↦ elim (some_or_none text) [
+      | inl none ↦ false≢true (sym bad ∙ ap is_line none ∙ empty_line)
+      | inr some ↦ (
+          let all : octets ≡ before ++ (text ++ []) = taken end.1 ∙ ap (λ after. before ++ (text ++ after)) end.0 in
+          false≢true (sym bad ∙ not_bad (script_lines before) [] text (ap script_lines all ∙ lines_from before text [] ends one_line ∙ ap (λ last. script_lines before ++ last) (unfinished-some text some)))
+          )
+    ]
+  ]
+
+  -- the text is no line that goes on behind 200 octets
+  no_long_line : length text ≡ 200 → (octet : ℕ) (later : List ℕ) → (octet ≡ 10 → ⊥) → octets ≡ before ++ (text ++ (octet ∷ later)) → ⊥
+  no_long_line long octet later other whole =
+      let lines = script_lines before in
+      let ended : Cut = record { lines = lines ++ text ∷ []; rest = [] } in
+      let kept : Cut = record { lines = lines; rest = text ++ octet ∷ [] } in
+      let more = begun_line lines (text ++ octet ∷ []) later (omega (arith, length-append text (octet ∷ []))) in
+      let from = lines_from before text (octet ∷ later) ends one_line ∙ ap (λ b. lines_at (fold cut_more (cond b ended kept) later)) (ne_eqb octet 10 other) in
+      let line = (text ++ octet ∷ []) ++ more.0 in
+      omega (arith, long, length-append text (octet ∷ []), length-append (text ++ octet ∷ []) more.0, short_line line (not_bad lines more.1 line (ap script_lines whole ∙ from ∙ more.2)))
+
+  -- there are no more lines than there may be
+  no_late_line : (others : List ℕ) → 0 < length others → octets ≡ before ++ (text ++ others) → length (script_lines before) < 16384
+  no_late_line others some whole =
+      let lines = script_lines before in
+      let more = one_more_line lines text others some in
+      let same = ap (λ octets. length (script_lines octets)) whole ∙ ap length (lines_from before text others ends one_line) in
+      omega (arith, more, same, leb-true (length (script_lines octets)) 16384 all_good.0)
+
+-- no line of such a script is faulty
+module _ (given : Given) (request : Asked) (number : ℕ) (entries : List Entry) where
+  pub no_faulty_line : (had left : Option (List ℕ)) → ShowsScript had → CameFrom had left given → IsStopped given request number entries → ⊥
+  no_faulty_line None left good came h = good
+  no_faulty_line (Some octets) None good came h = came.consumed
+  no_faulty_line (Some octets) (Some others) good came h =
+      let taken : octets ≡ (h.before ++ (h.text ++ h.after)) ++ others = came.consumed ∙ ap (λ taken. taken ++ others) h.cut.parts in
+      let whole : octets ≡ h.before ++ (h.text ++ (h.after ++ others)) =
+      taken ∙ append_assoc h.before (h.text ++ h.after) others ∙ ap (λ octets. h.before ++ octets) (append_assoc h.text h.after others) in
+      elim h.faulty [
+        | inl late ↦ omega (arith, late.0, h.counted, no_late_line octets h.before h.text h.after given.ended h.cut.whole_lines h.cut.one_line good (h.after ++ others) (omega (arith, late.1, length-append h.after others)) whole)
+        | inr (inl long) ↦ (
+            let next = long.1 in
+            no_long_line octets h.before h.text h.after given.ended h.cut.whole_lines h.cut.one_line good long.0 next.0 (next.1 ++ others) next.3 (whole ∙ ap (λ after. h.before ++ (h.text ++ (after ++ others))) next.2)
+            )
+        | inr (inr bad) ↦ no_bad_line octets h.before h.text h.after given.ended h.cut.whole_lines h.cut.one_line good bad.1 (λ all. came.whole all ∙ h.cut.parts) others whole bad.0
+      ]

@@ -1,0 +1,40 @@
+use Rattle.std.proofs.Common.{◌≡◌, ℕ, zero, suc, ◌<◌, false, eqb, Err, length, sym, ap, ◌∙◌, subst, arith}
+use Rattle.std.proofs.lemmas.Bool.{eqb-true, false≢true}
+use Rattle.std.proofs.lemmas.List.{nil_from_length}
+use Rattle.console_run.specs.Scripts.{is_line}
+use Rattle.console_run.specs.Private.Follows.{at}
+use Rattle.console_run.specs.Private.Runs.{Runs, Stops, by_text, begun_by_text}
+use Rattle.console_run.proofs.ErrorLemmas.{if_error}
+use Rattle.console_run.proofs.StopLemmas.{whole_script, whole_with_last, stopped_at_end}
+use Rattle.console_run.proofs.script_run.ScriptRun.finish.Goals as goal
+
+-- a number that is not 0
+some_of : (n : ℕ) → false ≡ eqb n 0 → 0 < n
+some_of zero h = absurd (false≢true h)
+some_of (suc n) h = omega arith
+
+pub returns-then-is_empty-clause-ends : goal.returns-then-is_empty-clause-ends
+returns-then-is_empty-clause-ends g c = λ start before so.
+    whole_script start before (at c.args.self.now (g.K.Sink.shows c.args.out.now)) so
+    (nil_from_length c.args.self.now.line.items (eqb-true (length c.args.self.now.line.items) 0 (sym c.if-is_empty.ensures)))
+
+pub returns-clause-ends : goal.returns-clause-ends
+returns-clause-ends g c = λ start before so.
+    let was = c.args.self.now in
+    let seen = g.K.Sink.shows in
+    let some = some_of (length was.line.items) c.if-is_empty.ensures in
+    whole_with_last start before was.group c.run_line.new.group was.line.items was.count (seen c.args.out.now) (seen c.run_line.new.out) so some (c.requires.ready.begun some)
+    (subst (λ text. Runs (by_text text) was.group c.run_line.new.group (seen c.args.out.now) (seen c.run_line.new.out)) c.as_slice.ensures.value c.in_ok-run_line.ensures.ok)
+
+pub returns-in_err-run_line-clause-stops : goal.returns-in_err-run_line-clause-stops
+returns-in_err-run_line-clause-stops g c =
+    let was = c.args.self.now in
+    let seen = g.K.Sink.shows in
+    let stop = c.in_err-run_line.field-0.0 in
+    let text = c.as_slice.ensures.value in
+    if_error _ _ _ c.from_residual.ensures.1
+    (λ start before so.
+    stopped_at_end start before stop was.group c.run_line.new.group was.line.items was.count (seen c.args.out.now) (seen c.run_line.new.out) so c.requires.ready.short
+    (c.requires.ready.begun (some_of (length was.line.items) c.if-is_empty.ensures))
+    (λ line. ap is_line (sym text) ∙ c.run_line.ensures.faulty (c.in_err-run_line.was ∙ ap Err line))
+    (subst (λ text. Stops (begun_by_text text) stop was.group c.run_line.new.group (seen c.args.out.now) (seen c.run_line.new.out)) text c.in_err-run_line.ensures.stops))
