@@ -2,7 +2,7 @@
 use Rattle.std.specs.Prelude.{ℕ, List, Bool, codes}
 use Rattle.std.specs.Str.{bytes_eq}
 use Rattle.gd_cipher.specs.Macs.{hmac}
-use Rattle.gd_edges.specs.declared.signatures.SignKind.{SignKind}
+use Rattle.group_terms.specs.declared.signatures.SignKind.{SignKind}
 
 abbrev pub test_key : List ℕ
 test_key = codes "gdoi test signer"

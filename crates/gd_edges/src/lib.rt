@@ -3,7 +3,8 @@
 #![tactic(auto)]
 
 pub use faults::Failed;
-pub use signatures::{SigBytes, SignKind};
+pub use group_terms::SignKind;
+pub use signatures::SigBytes;
 pub use signers::Signer;
 pub use sinks::Sink;
 pub use sources::Source;

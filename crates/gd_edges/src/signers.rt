@@ -1,5 +1,5 @@
 ghost use Rattle.std.specs.Prelude.{◌≡◌, ◌<◌, ◌≤◌, ℕ, List, length};
-ghost use Rattle.gd_edges.specs.declared.signatures.SignKind.{SignKind};
+ghost use Rattle.group_terms.specs.declared.signatures.SignKind.{SignKind};
 
 use crate::{SigBytes, SignKind};
 

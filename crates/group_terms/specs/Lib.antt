@@ -2,4 +2,5 @@ pub mod Changes
 pub mod Lends
 pub mod Logs
 pub mod Names
+pub mod Octets
 pub mod Positions

@@ -12,7 +12,8 @@ pub use memory::NoMemory;
 pub use names::MemberName;
 pub use paths::{Keyed, LONGEST_PATH, Path, PathKey};
 pub use positions::LkhId;
-pub use values::{NodeValue, TrafficValue};
+pub use signatures::SignKind;
+pub use values::{IV_OCTETS, KEY_OCTETS, NodeValue, TrafficValue};
 pub use wires::{WireFault, WireWhat};
 
 mod changes;
@@ -25,6 +26,7 @@ mod memory;
 mod names;
 mod paths;
 mod positions;
+mod signatures;
 #[cfg(test)]
 mod tests;
 mod values;

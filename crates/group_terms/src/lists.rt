@@ -117,6 +117,25 @@ impl<T: Drop> List<T> {
     {
         self.items.truncate(n);
     }
+
+    /// Keeps what was appended after the first `n` items, or takes it off again where there was no memory for all of it; answers which.
+    pub fn keep_or_truncate(
+        &mut self,
+        n: usize,
+        appended: Result<(), NoMemory>,
+    ) -> Result<(), NoMemory>
+        ensures same { result ≡ appended }
+        ensures ok { OnOk appended (self.new ≡ self.old) }
+        ensures err { OnErr appended (self.new ≡ take n self.old) }
+    {
+        match appended {
+            Ok(()) => Ok(()),
+            Err(NoMemory) => {
+                self.truncate(n);
+                Err(NoMemory)
+            }
+        }
+    }
 }
 
 impl<T: Copy> List<T> {

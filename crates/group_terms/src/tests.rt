@@ -1,4 +1,6 @@
-use crate::{Batch, Change, List, Log, MOST_CHANGES, MemberName, marks_above};
+use crate::{
+    Batch, Change, List, Log, MOST_CHANGES, MemberName, NoMemory, WireFault, WireWhat, marks_above,
+};
 use std::test::Fail;
 
 #[test]
@@ -14,6 +16,13 @@ fn lists_and_logs_take_what_there_is_memory_for(rt: HostRuntime) -> Result<(), F
     assert_eq!(rt; list.pop(), Some(10));
     list.truncate(1);
     assert_eq!(rt; (list.len(), list.is_empty()), (1, false));
+    assert_eq!(rt; list.keep_or_truncate(0, Ok(())), Ok(()));
+    assert_eq!(rt;
+        (list.len(), list.keep_or_truncate(0, Err(NoMemory))),
+        (1, Err(NoMemory))
+    );
+    assert!(rt; list.is_empty());
+    list.push(8)?;
 
     let mut log = Log::of(list);
     log.reserve(2)?;
@@ -49,6 +58,20 @@ fn marks_stand_above_a_marked_leaf(rt: HostRuntime) -> Result<(), Fail> {
     assert_eq!(rt;
         marks.as_slice(),
         [off, on, on, off, off, on, off, off].as_slice()
+    );
+    Ok(())
+}
+
+#[test]
+fn faults_have_a_text_for_people(rt: HostRuntime) -> Result<(), Fail> {
+    let fault = WireFault {
+        what: WireWhat::Kind { number: 17 },
+        at: 40,
+    };
+    let text = format!(in rt.alloc(); "{fault}")?;
+    assert_eq!(rt;
+        text.as_str(),
+        "octet 40: kind 17, where another kind or another form of it is due"
     );
     Ok(())
 }

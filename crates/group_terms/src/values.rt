@@ -1,16 +1,21 @@
 //! The octets of keys.
 
+/// How many octets an IV of AES has, and how many a key with 128 bits (FIPS 197).
+pub const IV_OCTETS: usize = 16;
+
+pub const KEY_OCTETS: usize = 16;
+
 /// The value of a position's key: a key of AES with 128 bits, and the IV with which what it encrypts begins (RFC 6407 section 5.6.3.1).
 #[derive(Clone, Copy, Debug, Default, PartialEq, Eq)]
 pub struct NodeValue {
-    pub iv: [u8; 16],
-    pub key: [u8; 16],
+    pub iv: [u8; IV_OCTETS],
+    pub key: [u8; KEY_OCTETS],
 }
 
 /// The value of a traffic key: the key of AES, that of HMAC with SHA-256, and the SPI by which it goes (RFC 6407 section 5.6.1).
 #[derive(Clone, Copy, Debug, PartialEq, Eq)]
 pub struct TrafficValue {
-    pub cipher_key: [u8; 16],
+    pub cipher_key: [u8; KEY_OCTETS],
     pub integrity_key: [u8; 32],
     pub spi: [u8; 4],
 }

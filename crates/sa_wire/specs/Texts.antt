@@ -3,7 +3,7 @@ use Rattle.std.specs.Prelude.{◌≡◌, ℕ, ◌+◌, ◌<◌, ◌⊎◌, List,
 use Rattle.byteorder.specs.Endian.{big_bytes}
 use Rattle.gd_wire.specs.Attributes.{short_text, long_text}
 use Rattle.gd_wire.specs.Chains.{Payload, first_kind, payloads_text}
-use Rattle.gd_edges.specs.declared.signatures.SignKind.{SignKind}
+use Rattle.group_terms.specs.declared.signatures.SignKind.{SignKind}
 use Rattle.sa_wire.specs.declared.policies.SaPolicy.{SaPolicy}
 use Rattle.sa_wire.specs.declared.policies.KekPolicy.{KekPolicy}
 use Rattle.sa_wire.specs.declared.policies.TekPolicy.{TekPolicy}

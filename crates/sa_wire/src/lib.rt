@@ -1,7 +1,7 @@
 //! The SA payload of GDOI (RFC 6407 section 5.2): the policies of the KEK and the TEK, read and written exactly.
 #![tactic(auto)]
 
-pub use gd_edges::SignKind;
+pub use group_terms::SignKind;
 pub use group_terms::{WireFault, WireWhat};
 pub use laws::{
     a_fault_is_there_from_any_base, written_policies_are_read, written_policies_have_their_size,

@@ -5,7 +5,7 @@ ghost use Rattle.sa_wire.specs.Policies.{sa_fault, sa_fields, policy_at, kek_at,
 
 use crate::places::{KekPlaces, SaPlaces, TekPlaces, find_places};
 use byteorder::{BigEndian, ByteOrder};
-use gd_edges::SignKind;
+use group_terms::SignKind;
 use group_terms::WireFault;
 
 /// The kinds of the payloads of policies (RFC 6407 section 5): for the KEK and for the TEK.
