@@ -1,10 +1,13 @@
 //! Data attributes.
-ghost use Rattle.std.specs.Prelude.{◌≡◌, ◌+◌, ◌≤◌, ◌++◌, length, IfOk, OnOk, OnErr};
+ghost use Rattle.std.specs.Prelude.{◌≡◌, ◌+◌, ◌≤◌, ◌++◌, length, Ok, IfOk, OnOk, OnErr};
 ghost use Rattle.gd_wire.specs.Faults.{first_fault, answer};
+ghost use Rattle.gd_wire.specs.AttributeReadings.{attribute_type, short_value, long_value, long_place, attribute, next_has_kind, other_attribute, no_more_attributes};
+ghost use Rattle.gd_wire.specs.Readings.{Gives};
 ghost use Rattle.gd_wire.specs.Attributes.{kind_at, is_short, no_more_tests, attribute_fault, attribute_fields, short_text, long_text};
 
 use crate::faults::fault;
 use crate::fields::skip;
+use crate::readers::Reader;
 use byteorder::{BigEndian, ByteOrder};
 use group_terms::{NoMemory, Octets, WireFault, WireWhat};
 
@@ -28,6 +31,105 @@ pub enum AttrValue {
     Short { number: u16 },
     /// Octets of the text.
     Long { start: usize, length: usize },
+}
+
+/// The type of an attribute.
+#[derive(Clone, Copy, Debug, PartialEq, Eq)]
+pub struct AttributeType {
+    pub kind: u16,
+    /// Whether a number comes next, in the short form.
+    pub is_short: bool,
+}
+
+impl<'a> Reader<'a> {
+    /// The type of the next attribute; else `Short`.
+    #[tactic(auto, unfolding(crate::specs::AttributeReadings::attribute_type))]
+    pub fn attribute_type(&mut self) -> Result<AttributeType, WireFault>
+        ensures { Gives result self.new (attribute_type self.old) }
+    {
+        let number = self.number()?;
+        Ok(AttributeType {
+            kind: number % SHORT_FORM,
+            is_short: number >= SHORT_FORM,
+        })
+    }
+
+    /// The value of an attribute in the long form, as a text of its own; else `Short`.
+    #[tactic(auto, unfolding(crate::specs::AttributeReadings::long_value))]
+    pub fn long_value(&mut self) -> Result<Reader<'a>, WireFault>
+        ensures { Gives result self.new (long_value self.old) }
+    {
+        let size = usize::from(self.number()?);
+        let at = self.here();
+        let value = self.part(size, WireWhat::Short, at)?;
+        Ok(value)
+    }
+
+    #[tactic(auto, unfolding(crate::specs::AttributeReadings::short_value))]
+    fn short_value(&mut self) -> Result<AttrValue, WireFault>
+        ensures { Gives result self.new (short_value self.old) }
+    {
+        let number = self.number()?;
+        Ok(AttrValue::Short { number })
+    }
+
+    #[tactic(auto, unfolding(crate::specs::AttributeReadings::long_place))]
+    fn long_place(&mut self) -> Result<AttrValue, WireFault>
+        ensures { Gives result self.new (long_place self.old) }
+    {
+        let value = self.long_value()?;
+        Ok(AttrValue::Long {
+            start: value.place(),
+            length: value.left().len(),
+        })
+    }
+
+    /// The next attribute; else `Short`, where the first field that is missing would begin.
+    #[tactic(auto, unfolding(crate::specs::AttributeReadings::attribute))]
+    pub fn attribute(&mut self) -> Result<Attribute, WireFault>
+        ensures { Gives result self.new (attribute self.old) }
+    {
+        let attribute_type = self.attribute_type()?;
+        let value = if attribute_type.is_short {
+            self.short_value()?
+        } else {
+            self.long_place()?
+        };
+        Ok(Attribute {
+            kind: attribute_type.kind,
+            value,
+            next: self.place(),
+        })
+    }
+
+    /// Whether the next two octets are the type of an attribute of this kind.
+    pub fn next_has_kind(&self, kind: u16) -> bool
+        ensures { next_has_kind kind self.now ≡ Ok (result, self.now) }
+    {
+        let left = self.left();
+        left.len() >= 2 && BigEndian::read_u16(left) % SHORT_FORM == kind
+    }
+
+    /// An attribute that is not awaited.
+    #[tactic(auto, unfolding(crate::specs::AttributeReadings::other_attribute))]
+    fn other_attribute(&mut self) -> Result<(), WireFault>
+        ensures { Gives result self.new (other_attribute self.old) }
+    {
+        let at = self.here();
+        let number = self.attribute_type()?.kind;
+        Err(fault(WireWhat::Kind { number }, at))
+    }
+
+    /// Finds that no attribute is left; else `Short` where only a part of a type is left, and `Kind` at a type.
+    #[tactic(auto, unfolding(crate::specs::AttributeReadings::no_more_attributes))]
+    pub fn no_more_attributes(&mut self) -> Result<(), WireFault>
+        ensures { Gives result self.new (no_more_attributes self.old) }
+    {
+        if self.is_at_end() {
+            return Ok(());
+        }
+        self.other_attribute()
+    }
 }
 
 /// Reads the attribute at a place of a text whose first octet has the place `base` in its datagram; else `Short`, where the first field

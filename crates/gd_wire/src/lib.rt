@@ -15,6 +15,7 @@ pub use laws::{
     a_written_header_is_read, an_attribute_has_one_text, tests_are_gone_through_in_order,
     what_is_read_can_be_written, written_payloads_are_read,
 };
+pub use readers::Reader;
 pub use sections::{Section, read_section};
 
 mod attributes;
@@ -23,6 +24,7 @@ mod faults;
 mod fields;
 mod headers;
 mod laws;
+mod readers;
 mod sections;
 #[cfg(test)]
 mod tests;

@@ -1,0 +1,60 @@
+-- Data attributes (RFC 2408 section 3.3): a kind of 15 bits after a bit for the form. The short form goes on with a number of 2 octets, the
+-- long form with a value of any size, after the size of that in 2 octets.
+use Rattle.std.specs.Prelude.{ℕ, ◌+◌, ◌%◌, ◌==◌, ◌&&◌, nat_le, length, Bool, Ok, if◌then◌else◌}
+use Rattle.byteorder.specs.Endian.{big_from}
+use Rattle.group_terms.specs.declared.wires.WireWhat.TheVariants.{Short, Kind}
+use Rattle.gd_wire.specs.declared.attributes.Attribute.{Attribute}
+use Rattle.gd_wire.specs.declared.attributes.AttrValue.{AttrValue}
+use Rattle.gd_wire.specs.declared.attributes.AttrValue.TheVariants as Values
+use Rattle.gd_wire.specs.declared.attributes.AttributeType.{AttributeType}
+use Rattle.gd_wire.specs.Readings.{Cursor, Reading, ◌>>=◌, ◌>>◌, give, place, here, ended, fail, part, number}
+
+-- the first two octets: the form and the kind
+unfoldable pub attribute_type : Reading AttributeType
+attribute_type = do
+  type ← number
+  give (record { kind = type % 32768; is_short = nat_le 32768 type })
+
+-- after the type: a number
+unfoldable pub short_value : Reading AttrValue
+short_value = do
+  value ← number
+  give (Values.Short value)
+
+-- or a value as a text of its own
+unfoldable pub long_value : Reading Cursor
+long_value = do
+  size ← number
+  at ← here
+  part size Short at
+
+-- where that text is in the whole one
+unfoldable pub long_place : Reading AttrValue
+long_place = do
+  value ← long_value
+  give (Values.Long value.at (length value.left))
+
+-- what an attribute says, and the place after it
+unfoldable pub attribute : Reading Attribute
+attribute = do
+  type ← attribute_type
+  value ← (if type.is_short then short_value else long_place)
+  next ← place
+  give (record { kind = type.kind; value = value; next = next })
+
+-- whether the next two octets are the type of an attribute of this kind
+abbrev pub next_has_kind : ℕ → Reading Bool
+next_has_kind kind cursor = Ok (nat_le 2 (length cursor.left) && (big_from 0 2 cursor.left % 32768 == kind), cursor)
+
+-- an attribute that is not awaited
+unfoldable pub other_attribute : Reading (Unit {0})
+other_attribute = do
+  at ← here
+  type ← attribute_type
+  fail (Kind type.kind) at
+
+-- After the last attribute the text ends: an octet left over is a type that is not whole, and two are a type that is not awaited.
+unfoldable pub no_more_attributes : Reading (Unit {0})
+no_more_attributes = do
+  nothing ← ended
+  if nothing then give tt else other_attribute
