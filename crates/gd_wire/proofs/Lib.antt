@@ -1,9 +1,9 @@
-pub mod AnswerLemmas
-pub mod AttributeLemmas
-pub mod ChainLemmas
-pub mod FaultLemmas
+pub mod AttributeLaws
+pub mod ChainLaws
+pub mod ChainReadings
+pub mod FieldLemmas
 pub mod HeaderLemmas
 pub mod NumberLemmas
-pub mod PayloadLemmas
-pub mod SteadyLemmas
-pub mod TextLemmas
+pub mod OctetLemmas
+pub mod PartLemmas
+pub mod ReadingLemmas

@@ -1,44 +1,16 @@
--- Numbers as octets, the highest first: where a number is read in a part of a text, and that its octets and the number tell each other.
-use Rattle.std.proofs.Common.{◌≡◌, ℕ, zero, suc, ◌+◌, ◌-◌, ◌*◌, ◌/◌, ◌%◌, ◌^◌, ◌<◌, ◌≤◌, List, ◌∷◌, ◌++◌, length, take, drop, get_or, slice_index, sym, refl, ap, ◌∙◌, inl, inr, arith}
+-- Numbers as octets, the highest first: its octets and the number tell each other.
+use Rattle.std.proofs.Common.{◌≡◌, ℕ, zero, suc, ◌+◌, ◌*◌, ◌/◌, ◌%◌, ◌^◌, ◌<◌, ◌≤◌, List, ◌∷◌, length, take, drop, get_or}
+use Rattle.std.proofs.Common.{slice_index, sym, refl, ap, ◌∙◌, inl, inr, arith}
 use Rattle.std.specs.List.{All}
 use Rattle.std.specs.Int.{byte_at}
-use Rattle.std.proofs.Math.Nat.{mul-add-mod_self_right, mul-add-div_right, div-eq_of_lt, mod-eq_of_lt, mul_assoc, div-one, one-le-pow, pow-succ'}
+use Rattle.std.proofs.Math.Nat.{mul-add-mod_self_right, mul-add-div_right, div-eq_of_lt, mod-eq_of_lt, mul_assoc, div-one, one-le-pow}
+use Rattle.std.proofs.Math.Nat.{pow-succ'}
 use Rattle.std.proofs.Math.Seq.{drop-cons}
 use Rattle.std.proofs.lemmas.Bool.{cases_lt}
-use Rattle.std.proofs.lemmas.List.{get_or-drop, get_or-append-add, get_or_past, take_at, take_rest}
+use Rattle.std.proofs.lemmas.List.{get_or_past}
 use Rattle.std.proofs.lemmas.List.Elements.{All-get_or}
 use Rattle.byteorder.specs.Endian.{big_from, big_bytes}
-use Rattle.byteorder.specs.Numbers.{big_from-lt, big_from-take, big_number-reads_back}
-
--- the number at a place of what is left of a text
-pub big_from-drop : (m i j n : ℕ) (text : List ℕ) → j ≡ m + i → big_from i n (drop m text) ≡ big_from j n text
-big_from-drop m i j zero text e = refl
-big_from-drop m i j (suc n) text e =
-    let octet : get_or (drop m text) i 0 ≡ get_or text j 0 = get_or-drop m text i 0 ∙ ap (λ k. get_or text k 0) (sym e) in
-    let rest = big_from-drop m (suc i) (suc j) n text (omega arith) in
-    rw (octet, rest) refl
-
--- the same in the form in which a slice from a place to the end is written
-pub big_from-rest : (m i j n : ℕ) (text : List ℕ) → j ≡ m + i → big_from i n (take (length text - m) (drop m text)) ≡ big_from j n text
-big_from-rest m i j n text e = ap (big_from i n) (take_rest text m) ∙ big_from-drop m i j n text e
-
--- the number at a place of what stands behind other octets
-pub big_from-behind : (before text : List ℕ) (i j n : ℕ) → j ≡ length before + i → big_from j n (before ++ text) ≡ big_from i n text
-big_from-behind before text i j zero e = refl
-big_from-behind before text i j (suc n) e =
-    let octet : get_or (before ++ text) j 0 ≡ get_or text i 0 = ap (λ k. get_or (before ++ text) k 0) e ∙ get_or-append-add before text i 0 in
-    let rest = big_from-behind before text (suc i) (suc j) n (omega arith) in
-    rw (octet, rest) refl
-
--- octets behind the number change nothing
-pub big_from-before : (i n : ℕ) (text after : List ℕ) → i + n ≤ length text → big_from i n (text ++ after) ≡ big_from i n text
-big_from-before i n text after within =
-    sym (big_from-take i n (length text) (text ++ after) within) ∙ ap (big_from i n) (take_at text after (length text) refl)
-
--- a number that is written behind other octets is read there
-pub big_from-written : (before after : List ℕ) (at n number : ℕ) → at ≡ length before → number < 256 ^ n → big_from at n (before ++ (big_bytes n number ++ after)) ≡ number
-big_from-written before after at n number e small =
-    big_from-behind before (big_bytes n number ++ after) 0 at n (omega arith) ∙ big_number-reads_back n number after small
+use Rattle.byteorder.specs.Numbers.{big_from-lt}
 
 -- each place of octets has a number below 256, those past the end too
 each_small : (text : List ℕ) → All (λ octet. octet < 256) text → (k : ℕ) → slice_index text k < 256
@@ -69,7 +41,8 @@ big_bytes-low (suc n) high low =
     rw moved (λ i. octet i ∷ big_bytes-low n (high * 256) low i)
 
 -- the octets of a number that is read are those that it was read from
-pub big_bytes-big_from : (n i : ℕ) (text : List ℕ) → All (λ octet. octet < 256) text → i + n ≤ length text → big_bytes n (big_from i n text) ≡ take n (drop i text)
+pub big_bytes-big_from : (n i : ℕ) (text : List ℕ) → All (λ octet. octet < 256) text → i + n ≤ length text
+    → big_bytes n (big_from i n text) ≡ take n (drop i text)
 big_bytes-big_from zero i text small within = refl
 big_bytes-big_from (suc n) i text small within =
     let first : ℕ = get_or text i 0 in

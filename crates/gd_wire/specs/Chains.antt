@@ -1,13 +1,18 @@
 -- Payloads one after the other (RFC 2408 section 3.2): each begins with a header of four octets, the kind of the next one or 0, a reserved
 -- octet, and the length of all of it in 2. After the last one zeros fill the last block of 16 octets (RFC 2409 appendix B).
-use Rattle.std.specs.Prelude.{◌≡◌, ℕ, ◌+◌, ◌-◌, ◌%◌, ◌≤◌, ◌==◌, ◌&&◌, nat_le, nat_lt, not, Bool, List, [], ◌∷◌, ◌++◌, length, map, take, drop, replicate, All, Option, Result, Ok, Err, None, Some, is_none, if◌then◌else◌}
-use Rattle.std.specs.List.{list_all, position_or_len}
-use Rattle.byteorder.specs.Endian.{big_from, big_bytes}
+use Rattle.std.specs.Prelude.{◌≡◌, ℕ, ◌+◌, ◌-◌, ◌%◌, ◌≤◌, ◌==◌, nat_le, nat_lt, not, List, [], ◌∷◌, ◌++◌, length, map, take, drop}
+use Rattle.std.specs.Prelude.{replicate, All, Option, None, Some, Result, Ok, Err}
+use Rattle.std.specs.List.{position}
+use Rattle.byteorder.specs.Endian.{big_bytes}
 use Rattle.group_terms.specs.declared.wires.WireFault.{WireFault}
 use Rattle.group_terms.specs.declared.wires.WireWhat.TheVariants.{Short, Length, Reserved, Padding, Kind}
 use Rattle.gd_wire.specs.declared.chains.ChainFault.{ChainFault}
+use Rattle.gd_wire.specs.declared.chains.Named.{Named}
 use Rattle.gd_wire.specs.declared.chains.Part.{Part}
-use Rattle.gd_wire.specs.Faults.{octet_at, Test, test, first_fault, or_else}
+use Rattle.gd_wire.specs.Readings.{Cursor, Reading, ◌>>=◌, ◌>>◌, value_of, give, place, here, fail, check, octets_left, rest, part, octet}
+use Rattle.gd_wire.specs.Readings.{number, due_octet}
+
+-- ---- texts
 
 -- the text of a payload
 abbrev pub payload_text : ℕ → List ℕ → List ℕ
@@ -31,73 +36,94 @@ payloads_text (payload ∷ payloads) = payload_text (first_kind payloads) payloa
 abbrev pub padded : List ℕ → List ℕ
 padded text = text ++ replicate ((16 - length text % 16) % 16) 0
 
-abbrev pub is_zero : ℕ → Bool
-is_zero octet = octet == 0
+-- payloads whose lengths can be written
+abbrev pub PayloadsFit : List Payload → Type 0
+PayloadsFit payloads = All (λ (payload : Payload). length payload.body ≤ 65531) payloads
 
--- the length of the payload at this place of a text
-abbrev pub size_at : List ℕ → ℕ → ℕ
-size_at text at = big_from (at + 2) 2 text
+-- ---- readings
 
-module _ (text : List ℕ) (base : ℕ) where
-  -- A payload of this kind is due at this place; `named` is the kind that was named before it, in the field at `field`. Places of faults
-  -- count from base on.
-  abbrev pub payload_tests : ℕ → ℕ → ℕ → ℕ → List Test
-  payload_tests kind named field at =
-      test (named == kind) (Kind named) field
-      ∷ test (nat_le (at + 4) (length text)) Short (base + at)
-      ∷ test (octet_at text (at + 1) == 0) Reserved (base + at + 1)
-      ∷ test (nat_le 4 (size_at text at) && nat_le (at + size_at text at) (length text)) Length (base + at + 2)
-      ∷ []
+-- the kind that is due was named, else another one is told where it was named
+abbrev pub due_named : ℕ → Named → Reading (Unit {0})
+due_named kind named = check (named.kind == kind) (Kind named.kind) named.at
 
-  -- none is due any more
-  abbrev pub end_tests : ℕ → ℕ → ℕ → List Test
-  end_tests named field at =
-      test (named == 0) (Kind named) field
-      ∷ test (nat_lt (length text) (at + 16)) Length (base + at)
-      ∷ test (list_all is_zero (drop at text)) Padding (base + at + position_or_len (λ octet. not (is_zero octet)) (drop at text))
-      ∷ []
+-- A payload of a kind, which was named before it: where it is, and which kind it names. Its header is there whole, and its length counts
+-- the header and stays in the text; the body is passed over.
+unfoldable pub payload : ℕ → Named → Reading (Part × Named)
+payload kind named = do
+  due_named kind named
+  at ← here
+  left ← octets_left
+  check (nat_le 4 left) Short at
+  next ← octet
+  due_octet 0 Reserved
+  length_at ← here
+  size ← number
+  check (nat_le 4 size) Length length_at
+  start ← place
+  body ← part (size - 4) Length length_at
+  give (record { kind = kind; at = at; start = start; length = size - 4 }, record { kind = next; at = at })
 
-  -- the first fault of a chain of these kinds
-  abbrev pub chain_fault_from : List ℕ → ℕ → ℕ → ℕ → Option WireFault
-  chain_fault_from [] named field at = first_fault (end_tests named field at)
-  chain_fault_from (kind ∷ due) named field at =
-      or_else (first_fault (payload_tests kind named field at)) (chain_fault_from due (octet_at text at) (base + at) (at + size_at text at))
+-- the first octet that is no zero is wrong, where there is one
+abbrev pub no_other : ℕ → Option ℕ → Reading (Unit {0})
+no_other at None = give tt
+no_other at (Some other) = fail Padding (at + other)
 
-  abbrev pub part_at : ℕ → ℕ → Part
-  part_at kind at = record { kind = kind; at = base + at; start = at + 4; length = size_at text at - 4 }
+-- padding has zeros alone
+abbrev pub padding_end : Reading (Unit {0})
+padding_end = do
+  at ← here
+  padding ← rest
+  no_other at (position (λ octet. not (octet == 0)) padding)
 
-  -- the payloads that stand before the first fault
-  abbrev pub parts_from : List ℕ → ℕ → ℕ → ℕ → List Part
-  parts_from [] named field at = []
-  parts_from (kind ∷ due) named field at =
-      if is_none (first_fault (payload_tests kind named field at))
-      then part_at kind at ∷ parts_from due (octet_at text at) (base + at) (at + size_at text at)
-      else []
+-- after the last payload: none was named, and zeros fill a block
+unfoldable pub chain_end : Named → Reading (Unit {0})
+chain_end named = do
+  due_named 0 named
+  at ← here
+  left ← octets_left
+  check (nat_lt left 16) Length at
+  padding_end
 
-  -- the first kind is named in the header of the datagram, at place 16
-  abbrev pub chain_fault : List ℕ → ℕ → Option WireFault
-  chain_fault due first = chain_fault_from due first 16 0
+-- A chain gives its payloads, or the first fault and the payloads before that: here after some that were read before.
+abbrev pub after_parts : List Part → Result (List Part) ChainFault → Result (List Part) ChainFault
+after_parts before (Ok parts) = Ok (before ++ parts)
+after_parts before (Err stop) = Err (record { fault = stop.fault; before = before ++ stop.before })
 
-  abbrev pub chain_parts : List ℕ → ℕ → List Part
-  chain_parts due first = parts_from due first 16 0
+-- a payload was read, and the chain goes on with what it names
+abbrev pub payload_then : Result ((Part × Named) × Cursor) WireFault → (Named → Cursor → Result (List Part) ChainFault)
+    → Result (List Part) ChainFault
+payload_then (Ok read) later = after_parts (read.0.0 ∷ []) (later read.0.1 read.1)
+payload_then (Err fault) later = Err (record { fault = fault; before = [] })
+
+abbrev pub no_payload : Result (Unit {0}) WireFault → Result (List Part) ChainFault
+no_payload (Ok read) = Ok []
+no_payload (Err fault) = Err (record { fault = fault; before = [] })
+
+-- a chain of just these kinds, whose first one was named
+abbrev pub chain_from : List ℕ → Named → Cursor → Result (List Part) ChainFault
+chain_from [] named cursor = no_payload (value_of (chain_end named cursor))
+chain_from (kind ∷ due) named cursor = payload_then (payload kind named cursor) (chain_from due)
+
+-- the first kind is named in the header of the datagram, at place 16
+abbrev pub chain : ℕ → List ℕ → Cursor → Result (List Part) ChainFault
+chain first due cursor = chain_from due (record { kind = first; at = 16 }) cursor
+
+-- ---- what was read
 
 -- a payload lies within its text, and its two places agree
 pub record PartFits (text : List ℕ) (base : ℕ) (part : Part) : Type 0 where
   pub within : part.start + part.length ≤ length text
   pub place : part.at + 4 ≡ base + part.start
 
+-- its body
+abbrev pub body_of : List ℕ → Part → List ℕ
+body_of text part = take part.length (drop part.start text)
+
 -- the payloads at these places of a text
 abbrev pub payloads_at : List ℕ → List Part → List Payload
-payloads_at text parts = map (λ (part : Part). record { kind = part.kind; body = take part.length (drop part.start text) }) parts
+payloads_at text parts = map (λ (part : Part). record { kind = part.kind; body = body_of text part }) parts
 
 abbrev pub kinds_of : List Payload → List ℕ
 kinds_of payloads = map (λ (payload : Payload). payload.kind) payloads
 
--- payloads whose lengths can be written
-abbrev pub PayloadsFit : List Payload → Type 0
-PayloadsFit payloads = All (λ (payload : Payload). length payload.body ≤ 65531) payloads
-
--- the payloads where there is no fault; and else the fault with the payloads before it
-abbrev pub chain_answer : Option WireFault → List Part → Result (List Part) ChainFault
-chain_answer None parts = Ok parts
-chain_answer (Some fault) parts = Err (record { fault = fault; before = parts })
+-- ---- for readers by places

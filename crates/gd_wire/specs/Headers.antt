@@ -2,12 +2,12 @@
 -- flags, a message id of 4 octets, and the length of the datagram in 4. The exchange is 32 for GROUPKEY-PULL (RFC 6407 section 3) and 33
 -- for GROUPKEY-PUSH (section 4); of the flags that of encryption is set (sections 3.2 and 4.2), and by our choice no other. UDP over IPv4
 -- holds 65,507 octets.
-use Rattle.std.specs.Prelude.{◌≡◌, ℕ, ◌+◌, ◌-◌, ◌%◌, ◌<◌, ◌≤◌, ◌==◌, ◌&&◌, nat_le, nat_lt, not, Bool, true, List, [], ◌∷◌, ◌++◌, length, take, drop, Option, if◌then◌else◌, All}
+use Rattle.std.specs.Prelude.{◌≡◌, ℕ, ◌+◌, ◌-◌, ◌%◌, ◌<◌, ◌≤◌, ◌==◌, ◌&&◌, nat_le, nat_lt, not, Bool, true, List, [], ◌∷◌, ◌++◌, length}
+use Rattle.std.specs.Prelude.{if◌then◌else◌, All}
 use Rattle.byteorder.specs.Endian.{big_from, big_bytes}
-use Rattle.group_terms.specs.declared.wires.WireFault.{WireFault}
-use Rattle.group_terms.specs.declared.wires.WireWhat.TheVariants.{Short, Length, Version, Kind, Value}
+use Rattle.group_terms.specs.declared.wires.WireWhat.TheVariants.{Short, Length, Version, Value}
 use Rattle.gd_wire.specs.declared.headers.Header.{Header}
-use Rattle.gd_wire.specs.Faults.{octet_at, Test, test, first_fault}
+use Rattle.gd_wire.specs.Readings.{Reading, ◌>>=◌, ◌>>◌, give, here, check, octets_left, octets, octet, long_number, due_octet, due_kind}
 
 -- the text of a header
 abbrev pub header_text : Header → List ℕ
@@ -26,30 +26,41 @@ suits_exchange exchange message =
 abbrev pub is_due_length : ℕ → ℕ → Bool
 is_due_length told long = told == long && nat_lt 28 long && ((long - 28) % 16 == 0)
 
-module _ (exchange : ℕ) (datagram : List ℕ) where
-  abbrev pub header_tests : List Test
-  header_tests =
-      test (nat_le 28 (length datagram)) Short (length datagram)
-      ∷ test (nat_le (length datagram) 65507) Length 65507
-      ∷ test (octet_at datagram 17 == 16) Version 17
-      ∷ test (octet_at datagram 18 == exchange) (Kind (octet_at datagram 18)) 18
-      ∷ test (octet_at datagram 19 == 1) Value 19
-      ∷ test (suits_exchange exchange (big_from 20 4 datagram)) Value 20
-      ∷ test (is_due_length (big_from 24 4 datagram) (length datagram)) Length 24
-      ∷ []
+-- the message id, which has to suit the exchange
+unfoldable pub message_id : ℕ → Reading (List ℕ)
+message_id exchange = do
+  at ← here
+  message ← octets 4
+  check (suits_exchange exchange (big_from 0 4 message)) Value at
+  give message
 
-  abbrev pub header_fault : Option WireFault
-  header_fault = first_fault header_tests
+-- the length, in a datagram of so many octets
+unfoldable pub told_length : ℕ → Reading ℕ
+told_length size = do
+  at ← here
+  told ← long_number
+  check (is_due_length told size) Length at
+  give told
 
--- the fields of a header without fault
-abbrev pub header_fields : List ℕ → Header
-header_fields datagram = record {
-  cookies = take 16 datagram;
-  next = octet_at datagram 16;
-  exchange = octet_at datagram 18;
-  message = take 4 (drop 20 datagram);
-  length = big_from 24 4 datagram;
-}
+-- the fields of a header
+unfoldable pub header_fields : ℕ → ℕ → Reading Header
+header_fields exchange size = do
+  cookies ← octets 16
+  next ← octet
+  due_octet 16 Version
+  kind ← due_kind (exchange ∷ [])
+  due_octet 1 Value
+  message ← message_id exchange
+  told ← told_length size
+  give (record { cookies = cookies; next = next; exchange = kind; message = message; length = told })
+
+-- the header of a datagram that is read from its start: it is not cut off, and the datagram is no longer than UDP holds
+unfoldable pub header : ℕ → Reading Header
+header exchange = do
+  size ← octets_left
+  check (nat_le 28 size) Short size
+  check (nat_le size 65507) Length 65507
+  header_fields exchange size
 
 -- a header that suits what is after it
 pub record HeaderFits (header : Header) (body : List ℕ) : Type 0 where

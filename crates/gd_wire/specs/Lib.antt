@@ -1,8 +1,9 @@
-pub mod AttributeReadings
 pub mod Attributes
+pub mod Bodies
 pub mod Chains
 pub mod Faults
-pub mod Fields
 pub mod Headers
-pub mod Sections
 pub mod Readings
+pub mod Payloads
+pub mod RoomViews
+pub mod Rooms

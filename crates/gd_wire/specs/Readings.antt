@@ -1,11 +1,13 @@
 -- How the octets of a text are read: one field after the other. Each reading gives a value and the place where the next one goes on, or the
 -- first fault. A grammar is a list of readings, each line of which goes on where the line before it ended.
-use Rattle.std.specs.Prelude.{◌≡◌, ℕ, ◌+◌, ◌-◌, ◌==◌, nat_le, Bool, List, [], ◌∷◌, length, take, drop, slice_index_or, Result, Ok, Err, if◌then◌else◌}
+use Rattle.std.specs.Prelude.{◌≡◌, ℕ, ◌+◌, ◌-◌, ◌==◌, nat_le, Bool, List, length, take, drop, slice_index_or, Result, Ok, Err}
+use Rattle.std.specs.Prelude.{if◌then◌else◌}
 use Rattle.std.specs.List.{list_any}
 use Rattle.byteorder.specs.Endian.{big_from}
 use Rattle.group_terms.specs.declared.wires.WireFault.{WireFault}
 use Rattle.group_terms.specs.declared.wires.WireWhat.{WireWhat}
 use Rattle.group_terms.specs.declared.wires.WireWhat.TheVariants.{Short, Length, Reserved, Kind}
+use Rattle.gd_wire.specs.Faults.{fault_at}
 
 -- What is left of a text: its place in the text, whose first octet has the place `base` in the datagram, and the octets from there on.
 pub record Cursor : Type 0 where
@@ -54,9 +56,6 @@ place cursor = Ok (cursor.at, cursor)
 
 abbrev pub here : Reading ℕ
 here cursor = Ok (cursor.base + cursor.at, cursor)
-
-abbrev pub fault_at : WireWhat → ℕ → WireFault
-fault_at what at = record { what = what; at = at }
 
 abbrev pub fail : {A : Type 0} → WireWhat → ℕ → Reading A
 fail what at cursor = Err (fault_at what at)
@@ -107,11 +106,15 @@ octets size = do
 abbrev pub rest : Reading (List ℕ)
 rest cursor = Ok (cursor.left, after (length cursor.left) cursor)
 
+-- an octet of a list, by its place
+abbrev pub octet_at : List ℕ → ℕ → ℕ
+octet_at octets at = slice_index_or octets at 0
+
 -- numbers in 1, 2 and 4 octets, the highest first
 unfoldable pub octet : Reading ℕ
 octet = do
   field ← octets 1
-  give (slice_index_or field 0 0)
+  give (octet_at field 0)
 
 unfoldable pub number : Reading ℕ
 number = do
@@ -186,3 +189,12 @@ Gives (Err fault) now reading = reading ≡ Err fault
 abbrev pub Shows : {A B : Type 0} → (B → A) → Result B WireFault → Cursor → Result (A × Cursor) WireFault → Type 0
 Shows view (Ok value) now reading = reading ≡ Ok (view value, now)
 Shows view (Err fault) now reading = reading ≡ Err fault
+
+-- what is left of a text from a place on
+abbrev pub from_place : ℕ → ℕ → List ℕ → Cursor
+from_place base at text = record { base = base; at = at; left = drop at text }
+
+-- a call that answered this gave the value that a reading gives, seen by `view`, or told the fault; it does not say where reading goes on
+abbrev pub Answers : {A B : Type 0} → (B → A) → Result B WireFault → Result (A × Cursor) WireFault → Type 0
+Answers view (Ok value) reading = value_of reading ≡ Ok (view value)
+Answers view (Err fault) reading = reading ≡ Err fault

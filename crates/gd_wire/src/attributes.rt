@@ -1,12 +1,11 @@
 //! Data attributes.
 ghost use Rattle.std.specs.Prelude.{◌≡◌, ◌+◌, ◌≤◌, ◌++◌, length, Ok, IfOk, OnOk, OnErr};
-ghost use Rattle.gd_wire.specs.Faults.{first_fault, answer};
-ghost use Rattle.gd_wire.specs.AttributeReadings.{attribute_type, short_value, long_value, long_place, attribute, next_has_kind, other_attribute, no_more_attributes};
-ghost use Rattle.gd_wire.specs.Readings.{Gives};
-ghost use Rattle.gd_wire.specs.Attributes.{kind_at, is_short, no_more_tests, attribute_fault, attribute_fields, short_text, long_text};
+ghost use Rattle.gd_wire.specs.Attributes.{attribute_type, short_value, long_value, long_place, attribute, next_has_kind};
+ghost use Rattle.gd_wire.specs.Attributes.{other_attribute, no_more_attributes};
+ghost use Rattle.gd_wire.specs.Readings.{Gives, value_of, from_place};
+ghost use Rattle.gd_wire.specs.Attributes.{short_text, long_text};
 
 use crate::faults::fault;
-use crate::fields::skip;
 use crate::readers::Reader;
 use byteorder::{BigEndian, ByteOrder};
 use group_terms::{NoMemory, Octets, WireFault, WireWhat};
@@ -43,7 +42,7 @@ pub struct AttributeType {
 
 impl<'a> Reader<'a> {
     /// The type of the next attribute; else `Short`.
-    #[tactic(auto, unfolding(crate::specs::AttributeReadings::attribute_type))]
+    #[tactic(auto, unfolding(crate::specs::Attributes::attribute_type))]
     pub fn attribute_type(&mut self) -> Result<AttributeType, WireFault>
         ensures { Gives result self.new (attribute_type self.old) }
     {
@@ -55,7 +54,7 @@ impl<'a> Reader<'a> {
     }
 
     /// The value of an attribute in the long form, as a text of its own; else `Short`.
-    #[tactic(auto, unfolding(crate::specs::AttributeReadings::long_value))]
+    #[tactic(auto, unfolding(crate::specs::Attributes::long_value))]
     pub fn long_value(&mut self) -> Result<Reader<'a>, WireFault>
         ensures { Gives result self.new (long_value self.old) }
     {
@@ -65,7 +64,7 @@ impl<'a> Reader<'a> {
         Ok(value)
     }
 
-    #[tactic(auto, unfolding(crate::specs::AttributeReadings::short_value))]
+    #[tactic(auto, unfolding(crate::specs::Attributes::short_value))]
     fn short_value(&mut self) -> Result<AttrValue, WireFault>
         ensures { Gives result self.new (short_value self.old) }
     {
@@ -73,7 +72,7 @@ impl<'a> Reader<'a> {
         Ok(AttrValue::Short { number })
     }
 
-    #[tactic(auto, unfolding(crate::specs::AttributeReadings::long_place))]
+    #[tactic(auto, unfolding(crate::specs::Attributes::long_place))]
     fn long_place(&mut self) -> Result<AttrValue, WireFault>
         ensures { Gives result self.new (long_place self.old) }
     {
@@ -85,7 +84,7 @@ impl<'a> Reader<'a> {
     }
 
     /// The next attribute; else `Short`, where the first field that is missing would begin.
-    #[tactic(auto, unfolding(crate::specs::AttributeReadings::attribute))]
+    #[tactic(auto, unfolding(crate::specs::Attributes::attribute))]
     pub fn attribute(&mut self) -> Result<Attribute, WireFault>
         ensures { Gives result self.new (attribute self.old) }
     {
@@ -111,7 +110,7 @@ impl<'a> Reader<'a> {
     }
 
     /// An attribute that is not awaited.
-    #[tactic(auto, unfolding(crate::specs::AttributeReadings::other_attribute))]
+    #[tactic(auto, unfolding(crate::specs::Attributes::other_attribute))]
     fn other_attribute(&mut self) -> Result<(), WireFault>
         ensures { Gives result self.new (other_attribute self.old) }
     {
@@ -121,7 +120,7 @@ impl<'a> Reader<'a> {
     }
 
     /// Finds that no attribute is left; else `Short` where only a part of a type is left, and `Kind` at a type.
-    #[tactic(auto, unfolding(crate::specs::AttributeReadings::no_more_attributes))]
+    #[tactic(auto, unfolding(crate::specs::Attributes::no_more_attributes))]
     pub fn no_more_attributes(&mut self) -> Result<(), WireFault>
         ensures { Gives result self.new (no_more_attributes self.old) }
     {
@@ -137,68 +136,11 @@ impl<'a> Reader<'a> {
 pub fn read_attribute(text: &[u8], at: usize, base: u32) -> Result<Attribute, WireFault>
     requires within { at ≤ length text.now }
     requires small { base + length text.now ≤ 4294967295 }
-    ensures answer { result ≡ answer (attribute_fault text.now at base) (attribute_fields text.now at) }
+    ensures answer { result ≡ value_of (attribute (from_place base at text.now)) }
     ensures within { IfOk result (λ attribute. (at + 4 ≤ attribute.next) × (attribute.next ≤ length text.now)) }
 {
-    let place = base + at as u32;
-    let left = &text[at..];
-    if left.len() < 2 {
-        return Err(fault(WireWhat::Short, place));
-    }
-    let kind = BigEndian::read_u16(left);
-    if left.len() < 4 {
-        return Err(fault(WireWhat::Short, place + 2));
-    }
-    let number = BigEndian::read_u16(&left[2..]);
-    if kind >= SHORT_FORM {
-        return Ok(Attribute {
-            kind: kind - SHORT_FORM,
-            value: AttrValue::Short { number },
-            next: at + 4,
-        });
-    }
-    let length = usize::from(number);
-    if left.len() < 4 + length {
-        return Err(fault(WireWhat::Short, place + 4));
-    }
-    Ok(Attribute {
-        kind,
-        value: AttrValue::Long {
-            start: at + 4,
-            length,
-        },
-        next: at + 4 + length,
-    })
-}
-
-/// The kind of the attribute whose type begins at this place, without the bit of the form.
-pub fn attribute_kind(text: &[u8], at: usize) -> u16
-    requires { at + 2 ≤ length text.now }
-    ensures { result ≡ kind_at text.now at }
-{
-    BigEndian::read_u16(&text[at..]) % SHORT_FORM
-}
-
-/// Whether that attribute has the short form.
-pub fn is_short(text: &[u8], at: usize) -> bool
-    requires { at + 2 ≤ length text.now }
-    ensures { result ≡ is_short text.now at }
-{
-    BigEndian::read_u16(&text[at..]) >= SHORT_FORM
-}
-
-/// Finds that no attribute begins at this place; else `Short` where only a part of a type is left, and `Kind` at a type.
-pub fn read_no_more(text: &[u8], at: usize, base: u32) -> Result<(), WireFault>
-    requires within { at ≤ length text.now }
-    requires small { base + length text.now ≤ 4294967295 }
-    ensures { result ≡ answer (first_fault (no_more_tests text.now at base)) tt }
-{
-    if at == text.len() {
-        return Ok(());
-    }
-    skip(text, at, 2, base)?;
-    let number = attribute_kind(text, at);
-    Err(fault(WireWhat::Kind { number }, base + at as u32))
+    let mut reader = Reader::at_place(text, at, base);
+    reader.attribute()
 }
 
 /// Appends an attribute in the short form.
@@ -233,11 +175,6 @@ pub(crate) fn append(head: &[u8], value: &[u8], out: &mut Octets) -> Result<(), 
 {
     let before = out.len();
     out.extend(head)?;
-    match out.extend(value) {
-        Ok(()) => Ok(()),
-        Err(NoMemory) => {
-            out.truncate(before);
-            Err(NoMemory)
-        }
-    }
+    let appended = out.extend(value);
+    out.keep_or_truncate(before, appended)
 }

@@ -1,12 +1,12 @@
 //! Payloads one after the other.
-ghost use Rattle.std.specs.Prelude.{◌≡◌, ◌+◌, ◌≤◌, ◌<◌, ◌++◌, [], ◌∷◌, length, not, OnOk, OnErr, IfOk, IfErr, IfSome, All};
+ghost use Rattle.std.specs.Prelude.{◌≡◌, ◌+◌, ◌≤◌, ◌<◌, ◌==◌, ◌++◌, [], ◌∷◌, length, not, OnOk, OnErr, IfOk, IfErr, IfSome, All};
 ghost use Rattle.std.specs.List.{position};
-ghost use Rattle.group_terms.specs.declared.wires.WireWhat.TheVariants.{Kind};
-ghost use Rattle.gd_wire.specs.Faults.{octet_at, fault_at, first_fault, answer};
-ghost use Rattle.gd_wire.specs.Chains.{is_zero, payload_tests, end_tests, part_at, size_at, chain_fault, chain_parts, chain_answer, payload_text, PartFits};
+ghost use Rattle.gd_wire.specs.Readings.{Cursor, Gives, value_of, from_start};
+ghost use Rattle.gd_wire.specs.Chains.{due_named, payload, padding_end, chain_end, chain, payload_text, PartFits, body_of};
 
 use crate::attributes::append;
 use crate::faults::fault;
+use crate::readers::Reader;
 use arrayvec::ArrayVec;
 use byteorder::{BigEndian, ByteOrder};
 use group_terms::{NoMemory, Octets, WireFault, WireWhat};
@@ -14,6 +14,12 @@ use std::marker::Model;
 
 /// How many payloads a chain has at the most.
 pub const MOST_PAYLOADS: usize = 8;
+
+/// The size of a payload's header.
+const HEADER: usize = 4;
+
+/// The zeros after a chain are fewer than a block of the cipher has.
+const BLOCK: usize = 16;
 
 /// Where a payload stands.
 #[derive(Clone, Copy, Debug, Default, PartialEq, Eq)]
@@ -24,6 +30,16 @@ pub struct Part {
     /// Where its body begins in the text, and how many octets that has.
     pub start: usize,
     pub length: usize,
+}
+
+impl Part {
+    /// Its body, in the text in which it was found.
+    pub fn body<'a>(&self, text: &'a [u8]) -> &'a [u8]
+        requires { self.now.start + self.now.length ≤ length text.now }
+        ensures { result.now ≡ body_of text.now self.now }
+    {
+        &text[self.start..][..self.length]
+    }
 }
 
 /// The payloads of a chain, in their order: at most 8.
@@ -80,108 +96,115 @@ pub fn read_chain(first: u8, due: &[u8], text: &[u8], base: u32) -> Result<Chain
     requires some { 0 < length due.now }
     requires few { length due.now ≤ MOST_PAYLOADS }
     requires small { base + length text.now ≤ 4294967295 }
-    ensures answer { result ≡ chain_answer (chain_fault text.now base due.now first) (chain_parts text.now base due.now first) }
+    ensures answer { result ≡ chain first due.now (from_start base text.now) }
     ensures within { IfOk result (λ parts. All (PartFits text.now base) parts) }
     ensures before { IfErr result (λ error. All (PartFits text.now base) error.before) }
 {
-    let mut walk = Walk {
-        named: first,
-        field: 16,
-        at: 0,
-    };
-    let mut before = Chain::new();
-    for kind in due {
-        match walk.payload(*kind, text, base) {
-            Ok(part) => before.push(part),
-            Err(fault) => return Err(ChainFault { fault, before }),
-        }
-    }
-    match walk.end(text, base) {
-        Ok(()) => Ok(before),
-        Err(fault) => Err(ChainFault { fault, before }),
-    }
+    let mut reader = Reader::new(text, base);
+    reader.chain(first, due)
 }
 
-/// How far a chain was read.
-#[derive(Clone, Copy)]
-struct Walk {
-    /// The kind that was named last, and the place of the octet that names it.
-    named: u8,
-    field: u32,
-    /// The place in the text of what comes next.
-    at: usize,
+/// The kind that was named for the next payload, 0 for none, and the place of the octet that names it.
+#[derive(Clone, Copy, Debug)]
+struct Named {
+    kind: u8,
+    at: u32,
 }
 
-impl Walk {
-    /// Reads the generic header of a payload of this kind, and goes on after its body.
-    fn payload(&mut self, kind: u8, text: &[u8], base: u32) -> Result<Part, WireFault>
-        requires within { self.old.at ≤ length text.now }
-        requires small { base + length text.now ≤ 4294967295 }
-        ensures answer { result ≡ answer (first_fault (payload_tests text.now base kind self.old.named self.old.field self.old.at)) (part_at text.now base kind self.old.at) }
-        ensures next { OnOk result (self.new ≡ record { named = octet_at text.now self.old.at; field = base + self.old.at; at = self.old.at + size_at text.now self.old.at }) }
-        ensures within { OnOk result (self.new.at ≤ length text.now) }
+impl Named {
+    /// Finds that this kind was named; else `Kind`, where another one is.
+    fn due(&self, kind: u8) -> Result<(), WireFault>
+        ensures { (cursor : Cursor) → Gives result cursor (due_named kind self.now cursor) }
     {
-        if self.named != kind {
-            return Err(self.other_kind());
+        if self.kind != kind {
+            let number = u16::from(self.kind);
+            return Err(fault(WireWhat::Kind { number }, self.at));
         }
-        let place = base + self.at as u32;
-        let left = &text[self.at..];
-        if left.len() < 4 {
-            return Err(fault(WireWhat::Short, place));
+        Ok(())
+    }
+}
+
+impl<'a> Reader<'a> {
+    /// A chain of just these kinds.
+    fn chain(&mut self, first: u8, due: &[u8]) -> Result<Chain, ChainFault>
+        requires { length due.now ≤ MOST_PAYLOADS }
+        ensures { result ≡ chain first due.now self.old }
+    {
+        let mut named = Named {
+            kind: first,
+            at: 16,
+        };
+        let mut before = Chain::new();
+        for kind in due {
+            match self.payload(*kind, named) {
+                Ok((part, next)) => {
+                    before.push(part);
+                    named = next;
+                }
+                Err(fault) => return Err(ChainFault { fault, before }),
+            }
         }
-        if left[1] != 0 {
-            return Err(fault(WireWhat::Reserved, place + 1));
+        match self.chain_end(named) {
+            Ok(()) => Ok(before),
+            Err(fault) => Err(ChainFault { fault, before }),
         }
-        let size = usize::from(BigEndian::read_u16(&left[2..]));
-        if size < 4 || left.len() < size {
-            return Err(fault(WireWhat::Length, place + 2));
+    }
+
+    /// The generic header of a payload of this kind, which was named before; goes on after its body.
+    #[tactic(auto, unfolding(crate::specs::Chains::payload))]
+    fn payload(&mut self, kind: u8, named: Named) -> Result<(Part, Named), WireFault>
+        ensures { Gives result self.new (payload kind named self.old) }
+    {
+        named.due(kind)?;
+        let at = self.here();
+        if self.left().len() < HEADER {
+            return Err(fault(WireWhat::Short, at));
         }
+        let next = self.octet()?;
+        self.due_octet(0, WireWhat::Reserved)?;
+        let length_at = self.here();
+        let size = usize::from(self.number()?);
+        if size < HEADER {
+            return Err(fault(WireWhat::Length, length_at));
+        }
+        let start = self.place();
+        let length = size - HEADER;
+        self.part(length, WireWhat::Length, length_at)?;
         let part = Part {
             kind,
-            at: place,
-            start: self.at + 4,
-            length: size - 4,
+            at,
+            start,
+            length,
         };
-        *self = Walk {
-            named: left[0],
-            field: place,
-            at: self.at + size,
-        };
-        Ok(part)
+        Ok((part, Named { kind: next, at }))
     }
 
-    /// Reads what comes after the last payload.
-    fn end(&self, text: &[u8], base: u32) -> Result<(), WireFault>
-        requires within { self.now.at ≤ length text.now }
-        requires small { base + length text.now ≤ 4294967295 }
-        ensures { result ≡ answer (first_fault (end_tests text.now base self.now.named self.now.field self.now.at)) tt }
+    /// What comes after the last payload.
+    #[tactic(auto, unfolding(crate::specs::Chains::chain_end))]
+    fn chain_end(&self, named: Named) -> Result<(), WireFault>
+        ensures { result ≡ value_of (chain_end named self.now) }
     {
-        if self.named != 0 {
-            return Err(self.other_kind());
+        named.due(0)?;
+        if self.left().len() >= BLOCK {
+            return Err(fault(WireWhat::Length, self.here()));
         }
-        let place = base + self.at as u32;
-        let left = &text[self.at..];
-        if left.len() >= 16 {
-            return Err(fault(WireWhat::Length, place));
-        }
-        match first_other(left) {
-            Some(other) => Err(fault(WireWhat::Padding, place + other as u32)),
+        self.padding_end()
+    }
+
+    /// Zeros alone are left.
+    fn padding_end(&self) -> Result<(), WireFault>
+        ensures { result ≡ value_of (padding_end self.now) }
+    {
+        match first_other(self.left()) {
+            Some(other) => Err(fault(WireWhat::Padding, self.here_after(other))),
             None => Ok(()),
         }
-    }
-
-    /// Another kind was named than is due.
-    fn other_kind(&self) -> WireFault
-        ensures { result ≡ fault_at (Kind self.now.named) self.now.field }
-    {
-        let number = u16::from(self.named);
-        fault(WireWhat::Kind { number }, self.field)
     }
 }
 
 /// Where the first octet stands that is not zero.
 fn first_other(octets: &[u8]) -> Option<usize>
-    ensures place { result ≡ position (λ octet. not (is_zero octet)) octets.now }
+    ensures place { result ≡ position (λ octet. not (octet == 0)) octets.now }
     ensures within { IfSome result (λ place. place < length octets.now) }
 {
     octets.iter().position(|octet| *octet != 0)

@@ -1,12 +1,19 @@
 //! The header of a datagram.
-ghost use Rattle.std.specs.Prelude.{◌≡◌, ◌≤◌, length};
-ghost use Rattle.byteorder.specs.Endian.{big_from};
-ghost use Rattle.gd_wire.specs.Faults.{answer};
-ghost use Rattle.gd_wire.specs.Headers.{header_text, header_fault, header_fields, suits_exchange, is_due_length};
+ghost use Rattle.std.specs.Prelude.{◌≡◌};
+ghost use Rattle.gd_wire.specs.Readings.{Gives, value_of, from_start};
+ghost use Rattle.gd_wire.specs.Headers.{header_text, header, header_fields, message_id, told_length, suits_exchange, is_due_length};
 
 use crate::faults::fault;
+use crate::readers::Reader;
+use arrayvec::ArrayVec;
 use byteorder::{BigEndian, ByteOrder};
 use group_terms::{WireFault, WireWhat};
+
+/// The size of a header.
+const HEADER: usize = 28;
+
+/// The octets that UDP over IPv4 holds.
+const MOST: usize = 65_507;
 
 /// The exchange of a GROUPKEY-PULL (RFC 6407 section 3).
 const PULL: u8 = 32;
@@ -31,33 +38,67 @@ pub struct Header {
 
 /// Reads the header of a datagram of this exchange; else the first fault: a header that is cut off is a fault at the datagram's end, a
 /// datagram of more than 65,507 octets at that place, and anything else at its field.
+#[tactic(auto, unfolding(crate::specs::Headers::header))]
 pub fn read_header(datagram: &[u8], exchange: u8) -> Result<Header, WireFault>
-    ensures { result ≡ answer (header_fault exchange datagram.now) (header_fields datagram.now) }
+    ensures { result ≡ value_of (header exchange (from_start 0 datagram.now)) }
 {
-    if datagram.len() < 28 {
-        return Err(fault(WireWhat::Short, datagram.len() as u32));
+    let size = datagram.len();
+    if size < HEADER {
+        return Err(fault(WireWhat::Short, size as u32));
     }
-    if datagram.len() > 65_507 {
-        return Err(fault(WireWhat::Length, 65_507));
+    if size > MOST {
+        return Err(fault(WireWhat::Length, MOST as u32));
     }
-    if datagram[17] != 0x10 {
-        return Err(fault(WireWhat::Version, 17));
+    Reader::new(datagram, 0).header_fields(exchange, size)
+}
+
+impl<'a> Reader<'a> {
+    /// The fields of a header of a datagram of so many octets.
+    #[tactic(auto, unfolding(crate::specs::Headers::header_fields))]
+    fn header_fields(&mut self, exchange: u8, size: usize) -> Result<Header, WireFault>
+        ensures { Gives result self.new (header_fields exchange size self.old) }
+    {
+        let cookies = self.array()?;
+        let next = self.octet()?;
+        self.due_octet(0x10, WireWhat::Version)?;
+        let kind = self.due_kind(&[exchange])?;
+        self.due_octet(0x01, WireWhat::Value)?;
+        let message = self.message_id(exchange)?;
+        let length = self.told_length(size)?;
+        Ok(Header {
+            cookies,
+            next,
+            exchange: kind,
+            message,
+            length,
+        })
     }
-    if datagram[18] != exchange {
-        let number = u16::from(datagram[18]);
-        return Err(fault(WireWhat::Kind { number }, 18));
+
+    /// The message id, which has to suit the exchange; else `Value`.
+    #[tactic(auto, unfolding(crate::specs::Headers::message_id))]
+    fn message_id(&mut self, exchange: u8) -> Result<[u8; 4], WireFault>
+        ensures { Gives result self.new (message_id exchange self.old) }
+    {
+        let at = self.here();
+        let message = self.array()?;
+        if !suits_exchange(exchange, BigEndian::read_u32(&message)) {
+            return Err(fault(WireWhat::Value, at));
+        }
+        Ok(message)
     }
-    if datagram[19] != 0x01 {
-        return Err(fault(WireWhat::Value, 19));
+
+    /// The length, which has to be that of a datagram of so many octets; else `Length`.
+    #[tactic(auto, unfolding(crate::specs::Headers::told_length))]
+    fn told_length(&mut self, size: usize) -> Result<u32, WireFault>
+        ensures { Gives result self.new (told_length size self.old) }
+    {
+        let at = self.here();
+        let told = self.long_number()?;
+        if !is_due_length(told, size) {
+            return Err(fault(WireWhat::Length, at));
+        }
+        Ok(told)
     }
-    if !suits_exchange(exchange, BigEndian::read_u32(&datagram[20..])) {
-        return Err(fault(WireWhat::Value, 20));
-    }
-    let length = BigEndian::read_u32(&datagram[24..]);
-    if !is_due_length(length, datagram.len()) {
-        return Err(fault(WireWhat::Length, 24));
-    }
-    Ok(fields(datagram, length))
 }
 
 /// Whether a message id suits an exchange: that of a pull is not zero, that of a push is; of others nothing is asked.
@@ -73,41 +114,21 @@ fn suits_exchange(exchange: u8, message: u32) -> bool
 
 /// Whether a datagram has the length in its header, and whole blocks after its header.
 fn is_due_length(told: u32, long: usize) -> bool
-    requires { 28 ≤ long }
     ensures { result ≡ is_due_length told long }
 {
-    told as usize == long && long > 28 && (long - 28) % 16 == 0
-}
-
-fn fields(datagram: &[u8], told: u32) -> Header
-    requires long { 28 ≤ length datagram.now }
-    requires told { told ≡ big_from 24 4 datagram.now }
-    ensures { result ≡ header_fields datagram.now }
-{
-    let mut cookies = [0; 16];
-    cookies.copy_from_slice(&datagram[..16]);
-    let mut message = [0; 4];
-    message.copy_from_slice(&datagram[20..24]);
-    Header {
-        cookies,
-        next: datagram[16],
-        exchange: datagram[18],
-        message,
-        length: told,
-    }
+    told as usize == long && long > HEADER && (long - HEADER) % 16 == 0
 }
 
 /// The 28 octets of a header.
 pub fn write_header(header: &Header) -> [u8; 28]
     ensures { result ≡ header_text header.now }
 {
-    let mut text = [0; 28];
-    text[..16].copy_from_slice(&header.cookies);
-    text[16] = header.next;
-    text[17] = 0x10;
-    text[18] = header.exchange;
-    text[19] = 0x01;
-    text[20..24].copy_from_slice(&header.message);
-    BigEndian::write_u32(&mut text[24..], header.length);
-    text
+    let mut text = ArrayVec::<u8, HEADER>::new();
+    text.try_extend_from_slice(&header.cookies).unwrap();
+    text.try_extend_from_slice(&[header.next, 0x10, header.exchange, 0x01])
+        .unwrap();
+    text.try_extend_from_slice(&header.message).unwrap();
+    text.try_extend_from_slice(&header.length.to_be_bytes())
+        .unwrap();
+    text.into_inner().unwrap()
 }

@@ -2,29 +2,37 @@
 #![tactic(auto)]
 
 pub use attributes::{
-    AttrValue, Attribute, attribute_kind, is_short, read_attribute, read_no_more, write_long,
-    write_short,
+    AttrValue, Attribute, AttributeType, read_attribute, write_long, write_short,
 };
+pub use bodies::{HASH_OCTETS, Identification, write_identification, write_sequence};
 pub use chains::{Chain, ChainFault, MOST_PAYLOADS, Part, read_chain, write_payload};
 pub use faults::fault;
-pub use fields::{read_long_number, read_number, read_octet, skip};
 pub use group_terms::{WireFault, WireWhat};
 pub use headers::{Header, read_header, write_header};
 pub use laws::{
     a_chain_has_one_text, a_header_has_one_text, a_written_attribute_is_read,
-    a_written_header_is_read, an_attribute_has_one_text, tests_are_gone_through_in_order,
-    what_is_read_can_be_written, written_payloads_are_read,
+    a_written_body_is_read, a_written_field_is_read, a_written_header_is_read,
+    an_attribute_has_one_text, parts_of_octets_are_octets, what_is_read_can_be_written,
+    written_payloads_are_read,
 };
+pub use payloads::write_payload_head;
 pub use readers::Reader;
-pub use sections::{Section, read_section};
+pub use rooms::Room;
+pub use text_laws::{a_payload_is_its_head_and_its_body, written_framing_is_octets};
 
 mod attributes;
+mod bodies;
+#[cfg(test)]
+mod body_tests;
 mod chains;
 mod faults;
-mod fields;
 mod headers;
 mod laws;
+#[cfg(test)]
+mod payload_tests;
+mod payloads;
 mod readers;
-mod sections;
+mod rooms;
 #[cfg(test)]
 mod tests;
+mod text_laws;

@@ -1,6 +1,7 @@
 //! A cursor over the octets of a text: its fields are read one after the other.
 ghost use Rattle.std.specs.Prelude.{◌≡◌, ◌+◌, ◌≤◌, ◌↔◌, [], length, IsTrue, IfOk, Ok};
-ghost use Rattle.gd_wire.specs.Readings.{Gives, Shows, from_start, part, octets, rest, octet, number, long_number, due_octet, due_number, due_long_number, due_kind, due_long_kind, end, section};
+ghost use Rattle.gd_wire.specs.Readings.{Gives, Shows, from_start, from_place, octets_left, part, octets, rest, octet, number, long_number};
+ghost use Rattle.gd_wire.specs.Readings.{due_octet, due_number, due_long_number, due_kind, due_long_kind, end, section};
 
 use crate::faults::fault;
 use byteorder::{BigEndian, ByteOrder};
@@ -64,6 +65,24 @@ impl<'a> Reader<'a> {
         ensures { result.now ≡ self.now.left }
     {
         self.left
+    }
+
+    /// How many octets are left.
+    pub fn octets_left(&self) -> u32
+        ensures { octets_left self.now ≡ Ok (result, self.now) }
+    {
+        self.left.len() as u32
+    }
+
+    /// Another reader of the octets that are left, at the same place.
+    pub fn again(&self) -> Reader<'a>
+        ensures { result ≡ self.now }
+    {
+        Reader {
+            base: self.base,
+            at: self.at,
+            left: self.left,
+        }
     }
 
     /// Whether nothing is left.
@@ -236,5 +255,23 @@ impl<'a> Reader<'a> {
         }
         let body = self.part(size - HEADER, WireWhat::Length, at)?;
         Ok((kind, body))
+    }
+
+    /// What is left of a text from a place on, the place of whose first octet in its datagram is `base`.
+    pub fn at_place(text: &'a [u8], at: usize, base: u32) -> Self
+        requires within { at ≤ length text.now }
+        requires small { base + length text.now ≤ 4294967295 }
+        ensures { result ≡ from_place base at text.now }
+    {
+        let (_, left) = text.split_at(at);
+        Reader { base, at, left }
+    }
+
+    /// The place in the datagram of the octet after so many more.
+    pub fn here_after(&self, size: usize) -> u32
+        requires { size ≤ length self.now.left }
+        ensures { result ≡ self.now.base + self.now.at + size }
+    {
+        self.base + (self.at + size) as u32
     }
 }

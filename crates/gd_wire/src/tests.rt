@@ -47,6 +47,45 @@ fn headers_are_read_up_to_their_first_fault(rt: HostRuntime) {
     );
 }
 
+/// A header that is cut off at each length, and with each of its octets changed in turn: the first and the last place, and what is told of
+/// them.
+#[test]
+fn each_octet_of_a_header_is_looked_at(rt: HostRuntime) {
+    let mut datagram = [0; 44];
+    datagram[..28].copy_from_slice(&write_header(&PUSH));
+    for end in 0..28 {
+        let fault = read_header(&datagram[..end], 33).err();
+        assert_eq!(rt; fault, told(WireWhat::Short, end as u32));
+    }
+    let number = 32;
+    let table = [
+        (0, 16, None),
+        (17, 17, told(WireWhat::Version, 17)),
+        (18, 18, told(WireWhat::Kind { number }, 18)),
+        (19, 19, told(WireWhat::Value, 19)),
+        (20, 23, told(WireWhat::Value, 20)),
+        (24, 27, told(WireWhat::Length, 24)),
+        (28, 43, None),
+    ];
+    for (first, last, fault) in table {
+        for at in first..last + 1 {
+            assert_eq!(rt; changed_header(datagram, at), fault);
+        }
+    }
+}
+
+fn told(what: WireWhat, at: u32) -> Option<WireFault> {
+    Some(WireFault { what, at })
+}
+
+/// What is told of a datagram of a push with the lowest bit of one octet changed.
+fn changed_header(mut datagram: [u8; 44], at: usize) -> Option<WireFault> {
+    if let Some(octet) = datagram.get_mut(at) {
+        *octet ^= 1;
+    }
+    read_header(&datagram, 33).err()
+}
+
 /// A datagram has at most 65,507 octets.
 #[test]
 fn datagrams_are_as_long_as_udp_holds(rt: HostRuntime) -> Result<(), Fail> {
@@ -88,6 +127,58 @@ fn attributes_are_written_and_read(rt: HostRuntime) -> Result<(), Fail> {
         assert_eq!(rt; read_attribute(&octets[..end], 4, 10).err(), Some(fault));
     }
     Ok(())
+}
+
+/// Each octet of an attribute of either form is changed: the place, what it gets, and what is read, or told, of the attribute.
+#[test]
+fn each_octet_of_an_attribute_is_looked_at(rt: HostRuntime) {
+    let short = [
+        (0, 0x00, Err(14)),
+        (0, 0x81, Ok((0x0101, 4))),
+        (1, 0x02, Ok((2, 4))),
+        (2, 0x01, Ok((1, 4))),
+        (3, 0x00, Ok((1, 4))),
+    ];
+    for (at, octet, answer) in short {
+        assert_eq!(rt;
+            changed_attribute([0x80, 1, 0, 1, 0, 0, 0, 0], 4, at, octet),
+            answer
+        );
+    }
+    let long = [
+        (0, 0x80, Ok((4, 4))),
+        (0, 0x01, Ok((0x0104, 8))),
+        (1, 0x05, Ok((5, 8))),
+        (2, 0x01, Err(14)),
+        (3, 0x05, Err(14)),
+        (3, 0x03, Ok((4, 7))),
+        (3, 0x00, Ok((4, 4))),
+        (4, 0xff, Ok((4, 8))),
+        (7, 0xff, Ok((4, 8))),
+    ];
+    for (at, octet, answer) in long {
+        assert_eq!(rt;
+            changed_attribute([0, 4, 0, 4, 0, 1, 0x51, 0x80], 8, at, octet),
+            answer
+        );
+    }
+}
+
+/// The kind that is read of an attribute with one octet changed, and the place after it; or else the place of its fault.
+fn changed_attribute(
+    mut text: [u8; 8],
+    size: usize,
+    at: usize,
+    octet: u8,
+) -> Result<(u16, usize), u32> {
+    if let Some(place) = text.get_mut(at) {
+        *place = octet;
+    }
+    let (text, _) = text.split_at(size.min(8));
+    match read_attribute(text, 0, 10) {
+        Ok(read) => Ok((read.kind, read.next)),
+        Err(fault) => Err(fault.at),
+    }
 }
 
 /// A chain of two payloads and four zeros, and then with one octet changed: the place, what it gets, and what is told. Where the last

@@ -1,152 +1,105 @@
--- The body that is written for a member that registers is read again: what stands before the path is written out octet by octet, and the path is
--- read key by key.
-use Rattle.std.proofs.Common.{◌≡◌, ℕ, ◌+◌, ◌*◌, List, [], ◌∷◌, map, length, take, drop, None, Some, refl, ap, ◌∙◌, subst, arith}
-use Rattle.std.specs.List.{All, range_with_len}
-use Rattle.std.proofs.lemmas.Bool.{eq-eqb}
-use Rattle.std.proofs.lemmas.List.{take_all}
-use Rattle.byteorder.specs.Numbers.{big_number-reads_back}
-use Rattle.gd_wire.specs.Attributes.{attribute_number}
-use Rattle.gd_wire.specs.Chains.{size_at}
-use Rattle.gd_wire.specs.Faults.{octet_at, first_fault, or_else}
-use Rattle.gd_wire.specs.Sections.{section_tests, section_end, up_to_end}
-use Rattle.gd_wire.proofs.AnswerLemmas.{behind_none}
+-- The body that is written for a member that registers is read again.
+use Rattle.std.proofs.Common.{◌≡◌, ℕ, ◌+◌, ◌*◌, List, [], ◌∷◌, ◌++◌, length, None, Some, Result, Ok, refl, ap, ◌∙◌, subst, length-append}
+use Rattle.std.proofs.Common.{arith}
+use Rattle.byteorder.specs.Endian.{big_bytes}
 use Rattle.group_terms.specs.declared.paths.Keyed.{Keyed}
 use Rattle.group_terms.specs.declared.paths.PathKey.{PathKey}
-use Rattle.kd_wire.specs.declared.arrays.ArrayKind.TheVariants.{Download}
-use Rattle.kd_wire.specs.Arrays.{key_count, arrays_fault, array_places}
-use Rattle.kd_wire.specs.Keys.{place_of_key, path_key, path_tests}
-use Rattle.kd_wire.specs.Spis.{spi_tests}
-use Rattle.kd_wire.specs.Traffic.{traffic_fault}
-use Rattle.kd_wire.specs.Bodies.{head_tests, keys_at, lkh_places, kd_fault, kd_fields, two_fault, lkh_fault, surplus_fault}
-use Rattle.kd_wire.specs.Texts.{reply_kd, download_text, path_text, PathKeyFits, IsPath, KeyedFits}
-use Rattle.kd_wire.proofs.DownloadLemmas.{DownloadStands, arrays_faultless, one_place}
-use Rattle.kd_wire.proofs.HeadLemmas.{section_faultless, spi_faultless, head_faultless}
+use Rattle.group_terms.specs.declared.values.TrafficValue.{TrafficValue}
+use Rattle.group_terms.specs.declared.wires.WireFault.{WireFault}
+use Rattle.gd_wire.specs.Readings.{octet_at}
+use Rattle.gd_wire.specs.Attributes.{long_text}
+use Rattle.gd_wire.specs.Attributes.{attribute_type, no_more_attributes}
+use Rattle.gd_wire.specs.Readings.{Cursor, Reading, and_then, back_to, ◌>>=◌, ◌>>◌, value_of, mapped, end, inside, give, part, octets}
+use Rattle.gd_wire.specs.Readings.{octet, number, due_octet, section}
+use Rattle.kd_wire.specs.Arrays.{long_type, download}
+use Rattle.kd_wire.specs.Bodies.{Kd, kd_view, two_packets, download_packet}
+use Rattle.kd_wire.specs.Spis.{spi_place}
+use Rattle.kd_wire.specs.Texts.{packet_text, traffic_text, download_text, reply_kd, TrafficFits, KeyedFits}
+use Rattle.kd_wire.specs.Traffic.{traffic, traffic_keys, key_kind, cipher_key_first}
+use Rattle.kd_wire.proofs.ReadsLemmas.{cursor, section_read}
 use Rattle.kd_wire.proofs.SizeLemmas.{path_size}
-use Rattle.kd_wire.proofs.WrittenPaths.{path_read, path_faultless}
-use Rattle.gd_wire.proofs.TextLemmas.{written_out}
+use Rattle.kd_wire.proofs.WrittenArrays.{download_read}
+use Rattle.kd_wire.proofs.WrittenBodies.{two_of, lkh_body, lkh_text, lkh_read}
 use Rattle.kd_wire.proofs.WrittenTraffic.{traffic_of, traffic_out}
 
--- what is read of the body that is written for these keys: no fault, and the keys
-pub record ReadsKeyed (keyed : Keyed) : Type 0 where
-  pub fault : (base : ℕ) → kd_fault (reply_kd keyed) base ≡ None
-  pub fields : kd_fields (reply_kd keyed) ≡ record { tek = Some keyed.traffic; lkh_spi = Some keyed.spi; download = keyed.path; updates = None }
+-- what stands in the packet of a traffic key after its header
+abbrev traffic_body : TrafficValue → List ℕ
+traffic_body value = 4 ∷ value.spi ++ long_text 1 value.cipher_key ++ long_text 2 value.integrity_key
 
--- A path behind a traffic key and a SPI by their octets. The packet of the traffic key begins at 4, the LKH packet at 69, its download array at 90,
--- and the first key at 98.
-module _ (cipher_key integrity_key spi lkh_spi : ℕ → ℕ) (epoch sequence : ℕ) (path : List PathKey) where
-  abbrev keyed_of : Keyed
-  keyed_of = record {
-    traffic = traffic_of cipher_key integrity_key spi;
-    spi = map lkh_spi (range_with_len 0 16);
-    path = path;
-    epoch = epoch;
-    sequence = sequence;
-  }
+-- a traffic key of which this is so: its packet has a header that fits, and then the place of its SPI and it are read
+record IsRead (value : TrafficValue) : Type 0 where
+  pub long : length (traffic_body value) ≡ 61
+  pub text : (rest : List ℕ) → traffic_text value ++ rest ≡ 1 ∷ 0 ∷ big_bytes 2 (4 + length (traffic_body value))
+      ++ (traffic_body value ++ rest)
+  pub reads : (base : ℕ) → traffic (cursor base 8 (traffic_body value)) ≡ Ok ((base + 9, value), cursor base 69 [])
 
-  abbrev body : List ℕ
-  body = reply_kd keyed_of
+out_is_read : (cipher_key integrity_key spi : ℕ → ℕ) → IsRead (traffic_of cipher_key integrity_key spi)
+unfolding traffic traffic_keys key_kind cipher_key_first long_type spi_place attribute_type no_more_attributes due_octet number octet octets part
+out_is_read cipher_key integrity_key spi = record { long = refl; text = λ rest. refl; reads = λ base. refl }
 
-  -- what stands before the path
-  abbrev before : List ℕ
-  before = take 98 body
+is_read : (value : TrafficValue) → TrafficFits value → IsRead value
+is_read value fits = subst IsRead (traffic_out value fits) (out_is_read (octet_at value.cipher_key) (octet_at value.integrity_key)
+    (octet_at value.spi))
 
-  module _ (is_path : IsPath path) (fit : All PathKeyFits path) where
-    count : length (path_text path) ≡ 48 * length path
-    count = path_size path fit
-
-    -- the three numbers that hang on how many keys there are
-    size_is : size_at body 69 ≡ 29 + 48 * length path
-    size_is =
-        let most = is_path.most in
-        big_number-reads_back 2 (5 + 16 + length (download_text path)) [] (omega (arith, count)) ∙ omega (arith, count)
-
-    number_is : attribute_number body 90 ≡ 4 + 48 * length path
-    number_is =
-        let most = is_path.most in
-        big_number-reads_back 2 (length (1 ∷ 0 ∷ length path ∷ 0 ∷ path_text path)) [] (omega (arith, count)) ∙ omega (arith, count)
-
-    counted : key_count body 90 ≡ length path
-    counted = let most = is_path.most in big_number-reads_back 2 (length path) [] (omega arith)
-
-    long : length body ≡ 98 + 48 * length path
-    long = omega (arith, count)
-
-    stands : DownloadStands body 90 (length path)
-    stands = record {
-      long = long;
-      type = refl;
-      number = number_is;
-      version = refl;
-      counted = counted;
-      least = is_path.least;
-      most = is_path.most;
-      clear = refl;
-    }
-
-    -- the LKH packet ends where the body does
-    whole : up_to_end body 69 ≡ body
-    whole = take_all (69 + size_at body 69) body (omega (arith, size_is, long))
-
-    -- each part passes its tests
-    module _ (base : ℕ) where
-      traffic_section : first_fault (section_tests body base (1 ∷ []) 4) ≡ None
-      traffic_section = section_faultless body base (1 ∷ []) 4 refl refl (omega arith) (omega (arith, long))
-
-      lkh_section : first_fault (section_tests body base (3 ∷ []) 69) ≡ None
-      lkh_section = section_faultless body base (3 ∷ []) 69 refl refl (omega (arith, size_is)) (omega (arith, size_is, long))
-
-      path_passes : first_fault (path_tests body base 98 (length path)) ≡ None
-      path_passes = path_faultless path before is_path.up fit base
-
-      lkh_passes : lkh_fault body base Download 69 ≡ None
-      lkh_passes =
-          ap (λ text. or_else (first_fault (spi_tests text base 16 73)) (arrays_fault text base (length text) Download None 90)) whole
-          ∙ behind_none (first_fault (spi_tests body base 16 73)) _ None (spi_faultless body base 16 73 refl (omega (arith, long)))
-          (arrays_faultless body 90 (length path) stands base path_passes (length (drop 1 body)))
-
-      surplus_passes : surplus_fault body base (section_end body 69) ≡ None
-      surplus_passes = let last = eq-eqb (section_end body 69) (length body) (omega (arith, size_is, long)) in rw last refl
-
-      two_passes : two_fault body base ≡ None
-      two_passes =
-          behind_none (first_fault (section_tests body base (1 ∷ []) 4)) _ None traffic_section
-          (behind_none (traffic_fault (up_to_end body 4) base 4) _ None refl
-          (behind_none (first_fault (section_tests body base (3 ∷ []) 69)) _ None lkh_section
-          (behind_none (lkh_fault body base Download 69) _ None lkh_passes surplus_passes)))
-
-      reply_passes : kd_fault body base ≡ None
-      reply_passes = behind_none (first_fault (head_tests body base)) _ None (head_faultless body base (omega (arith, long)) refl refl) two_passes
-
-    -- and the keys of the array are the path
-    download_is : keys_at body (lkh_places body 69) ≡ path
-    download_is =
-        ap (λ text. keys_at body (array_places text (length text) 90)) whole
-        ∙ ap (keys_at body) (one_place body 90 (length path) stands (length (drop 1 body)))
-        ∙ ap (λ count. map (λ k. path_key body (place_of_key 98 k)) (range_with_len 0 count)) counted
-        ∙ path_read path before fit
-
-    reply_fields : kd_fields body ≡ record { tek = Some keyed_of.traffic; lkh_spi = Some keyed_of.spi; download = path; updates = None }
-    reply_fields = λ i. record { tek = Some keyed_of.traffic; lkh_spi = Some keyed_of.spi; download = download_is i; updates = None }
-
--- keys that fit are some that are written out
-keyed_out : (keyed : Keyed) → KeyedFits keyed
-    → keyed_of (octet_at keyed.traffic.cipher_key) (octet_at keyed.traffic.integrity_key) (octet_at keyed.traffic.spi) (octet_at keyed.spi) keyed.epoch keyed.sequence keyed.path
-    ≡ keyed
-keyed_out keyed fits = λ i. record {
-  traffic = traffic_out keyed.traffic fits.traffic i;
-  spi = written_out 16 keyed.spi fits.spi i;
-  path = keyed.path;
-  epoch = keyed.epoch;
-  sequence = keyed.sequence;
+-- what is read of the whole body
+abbrev replied : ℕ → Keyed → Kd
+replied base keyed = record {
+  view = record {
+    tek = Some keyed.traffic;
+    lkh_spi = Some keyed.spi;
+    download = keyed.path;
+    updates = None;
+    spis =
+        record { tek = Some (base + 9); lkh = Some (base + 74) };
+  };
+  arrays = [];
 }
 
-pub reply_reads : (keyed : Keyed) → KeyedFits keyed → ReadsKeyed keyed
-reply_reads keyed fits =
-    let cipher_key : ℕ → ℕ = octet_at keyed.traffic.cipher_key in
-    let integrity_key : ℕ → ℕ = octet_at keyed.traffic.integrity_key in
-    let spi : ℕ → ℕ = octet_at keyed.traffic.spi in
-    let lkh_spi : ℕ → ℕ = octet_at keyed.spi in
-    subst ReadsKeyed (keyed_out keyed fits) (record {
-      fault = reply_passes cipher_key integrity_key spi lkh_spi keyed.epoch keyed.sequence keyed.path fits.path fits.keys;
-      fields = reply_fields cipher_key integrity_key spi lkh_spi keyed.epoch keyed.sequence keyed.path fits.path fits.keys;
-    })
+pub reply_reads : (keyed : Keyed) (base : ℕ) → KeyedFits keyed → kd_view base (reply_kd keyed) ≡ Ok (replied base keyed).view
+unfolding two_packets download_packet end
+reply_reads keyed base fits =
+    let tek = is_read keyed.traffic fits.traffic in
+    let attributes : List ℕ = download_text keyed.path in
+    let body : List ℕ = lkh_body keyed.spi attributes in
+    let packet : List ℕ = packet_text 3 keyed.spi attributes in
+    let most = fits.path.most in
+    let spi = fits.spi in
+    let size : length body ≡ 25 + 48 * length keyed.path = omega (
+      arith,
+      spi,
+      path_size keyed.path fits.keys,
+      length-append keyed.spi
+          attributes,
+    ) in
+    let after : Cursor = cursor base (73 + length body) [] in
+    let given : ℕ × TrafficValue → ℕ × (List ℕ × List PathKey) → Kd = λ tek lkh. record {
+      view = record {
+        tek = Some tek.1;
+        lkh_spi = Some lkh.1.0;
+        download = lkh.1.1;
+        updates = None;
+        spis =
+            record { tek = Some tek.0; lkh = Some lkh.0 };
+      };
+      arrays = [];
+    } in
+    let to_end : ℕ × TrafficValue → ℕ × (List ℕ × List PathKey) → Reading Kd = λ tek lkh. end >> give (given tek lkh) in
+    let to_second : ℕ × TrafficValue → ℕ × Cursor → Reading Kd = λ tek second. inside second.1 download_packet >>= to_end tek in
+    let to_section : ℕ × TrafficValue → Reading Kd = λ tek. section (3 ∷ []) >>= to_second tek in
+    let to_first : ℕ × Cursor → Reading Kd = λ first. inside first.1 traffic >>= to_section in
+    let whole =
+    two_of (traffic_text keyed.traffic ++ packet) base
+    ∙ ap (λ left. two_packets (cursor base 4 left)) (tek.text packet)
+    ∙ ap (λ (read : Result ((ℕ × Cursor) × Cursor) WireFault). and_then read to_first)
+    (section_read (1 ∷ []) 1 (traffic_body keyed.traffic) base 4 packet refl (let long = tek.long in omega arith))
+    ∙ ap (λ size. and_then (back_to (cursor base (8 + size) packet) (traffic (cursor base 8 (traffic_body keyed.traffic)))) to_section)
+    tek.long
+    ∙ ap (λ (read : Result ((ℕ × TrafficValue) × Cursor) WireFault). and_then (back_to (cursor base 69 packet) read) to_section)
+    (tek.reads base)
+    ∙ ap (λ left. to_section (base + 9, keyed.traffic) (cursor base 69 left)) (lkh_text keyed.spi attributes spi)
+    ∙ ap (λ (read : Result ((ℕ × Cursor) × Cursor) WireFault). and_then read (to_second (base + 9, keyed.traffic)))
+    (section_read (3 ∷ []) 3 body base 69 [] refl (omega (arith, size, most)))
+    ∙ ap (λ (read : Result ((ℕ × (List ℕ × List PathKey)) × Cursor) WireFault). and_then (back_to after read)
+    (to_end (base + 9, keyed.traffic)))
+    (lkh_read download keyed.spi attributes keyed.path base 73 _ spi (download_read keyed.path fits.keys fits.path base 90)) in
+    ap (λ read. value_of (mapped (λ (given : Kd). given.view) read)) whole

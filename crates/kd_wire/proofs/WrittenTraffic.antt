@@ -1,16 +1,28 @@
--- A traffic key that is written is read again: its text is written out octet by octet, and then each test computes.
-use Rattle.std.proofs.Common.{◌≡◌, ℕ, [], map, None, Some, refl, subst}
+-- A traffic key that is written is read again: its text is written out octet by octet, and then the readings compute.
+use Rattle.std.proofs.Common.{◌≡◌, ℕ, ◌+◌, [], map, None, Some, Ok, refl, subst}
 use Rattle.std.specs.List.{range_with_len}
-use Rattle.gd_wire.specs.Faults.{octet_at}
-use Rattle.gd_wire.proofs.TextLemmas.{written_out}
+use Rattle.gd_wire.specs.Readings.{octet_at}
+use Rattle.gd_wire.specs.Readings.{part, octets, octet, number, long_number, due_octet, due_number, due_kind, section, end}
+use Rattle.gd_wire.specs.Attributes.{attribute_type, no_more_attributes}
+use Rattle.kd_wire.proofs.TextLemmas.{written_out}
 use Rattle.group_terms.specs.declared.values.TrafficValue.{TrafficValue}
-use Rattle.kd_wire.specs.Bodies.{kd_fault, kd_fields}
+use Rattle.kd_wire.specs.Arrays.{long_type}
+use Rattle.kd_wire.specs.Bodies.{kd, one_packet, traffic_alone, kd_view}
+use Rattle.kd_wire.specs.Spis.{spi_place}
 use Rattle.kd_wire.specs.Texts.{traffic_kd, TrafficFits}
+use Rattle.kd_wire.specs.Traffic.{traffic, traffic_keys, key_kind, cipher_key_first}
 
--- what is read of the body that is written for a traffic key: no fault, and that key
-pub record ReadsTraffic (traffic : TrafficValue) : Type 0 where
-  pub fault : (base : ℕ) → kd_fault (traffic_kd traffic) base ≡ None
-  pub fields : kd_fields (traffic_kd traffic) ≡ record { tek = Some traffic; lkh_spi = None; download = []; updates = None }
+-- what is read of the body that is written for a traffic key
+abbrev ReadsTraffic : TrafficValue → Type 0
+ReadsTraffic value =
+    (base : ℕ) → kd_view base (traffic_kd value) ≡ Ok (record {
+      tek = Some value;
+      lkh_spi = None;
+      download = [];
+      updates = None;
+      spis =
+          record { tek = Some (base + 9); lkh = None };
+    })
 
 -- a traffic key and its SPI by their octets
 abbrev pub traffic_of : (ℕ → ℕ) → (ℕ → ℕ) → (ℕ → ℕ) → TrafficValue
@@ -21,17 +33,27 @@ traffic_of cipher_key integrity_key spi = record {
 }
 
 written_reads : (cipher_key integrity_key spi : ℕ → ℕ) → ReadsTraffic (traffic_of cipher_key integrity_key spi)
-written_reads cipher_key integrity_key spi = record { fault = λ base. refl; fields = refl }
+unfolding kd one_packet traffic_alone traffic traffic_keys key_kind cipher_key_first long_type spi_place attribute_type no_more_attributes section due_kind due_number due_octet number octet octets part end
+written_reads cipher_key integrity_key spi base = refl
 
 -- each traffic key that fits is one that is written out
-pub traffic_out : (traffic : TrafficValue) → TrafficFits traffic
-    → traffic_of (octet_at traffic.cipher_key) (octet_at traffic.integrity_key) (octet_at traffic.spi) ≡ traffic
-traffic_out traffic fits = λ i. record {
-  cipher_key = written_out 16 traffic.cipher_key fits.cipher_key i;
-  integrity_key = written_out 32 traffic.integrity_key fits.integrity_key i;
-  spi = written_out 4 traffic.spi fits.spi i;
+pub traffic_out : (value : TrafficValue) → TrafficFits value → traffic_of (octet_at value.cipher_key) (octet_at value.integrity_key)
+    (octet_at value.spi) ≡ value
+traffic_out value fits = λ i. record {
+  cipher_key = written_out 16 value.cipher_key fits.cipher_key i;
+  integrity_key = written_out 32 value.integrity_key fits.integrity_key i;
+  spi = written_out 4 value.spi fits.spi i;
 }
 
-pub traffic_reads : (traffic : TrafficValue) → TrafficFits traffic → ReadsTraffic traffic
-traffic_reads traffic fits =
-    subst ReadsTraffic (traffic_out traffic fits) (written_reads (octet_at traffic.cipher_key) (octet_at traffic.integrity_key) (octet_at traffic.spi))
+pub traffic_reads : (value : TrafficValue) (base : ℕ) → TrafficFits value
+    → kd_view base (traffic_kd value) ≡ Ok (record {
+      tek = Some value;
+      lkh_spi = None;
+      download = [];
+      updates = None;
+      spis =
+          record { tek = Some (base + 9); lkh = None };
+    })
+traffic_reads value base fits =
+    subst ReadsTraffic (traffic_out value fits) (written_reads (octet_at value.cipher_key) (octet_at value.integrity_key)
+    (octet_at value.spi)) base

@@ -1,140 +1,181 @@
--- Update arrays that are written one behind the other up to the end of a text, and what is read of them.
-use Rattle.std.proofs.Common.{◌≡◌, ℕ, zero, suc, ◌+◌, ◌*◌, ◌≤◌, ◌==◌, ◌||◌, List, [], ◌∷◌, map, length, drop, Option, None, Some, refl, sym, ap, ◌∙◌, arith, length-drop}
-use Rattle.std.specs.List.{All, list_any, flat_map}
-use Rattle.std.proofs.lemmas.Bool.{false≢true}
+-- The arrays of jobs, written one after the other, are read again.
+use Rattle.std.proofs.Common.{◌≡◌, ℕ, zero, suc, ◌+◌, ◌-◌, ◌*◌, ◌≤◌, Bool, true, false, List, [], ◌∷◌, ◌++◌, map, length, Option, None}
+use Rattle.std.proofs.Common.{Some, Result, Ok, if◌then◌else◌, refl, sym, ap, ◌∙◌, length-append, arith}
+use Rattle.std.specs.Prelude.{◌==◌, ◌||◌, nat_le}
+use Rattle.std.specs.List.{All, list_any}
+use Rattle.std.proofs.lemmas.Bool.{ne_eqb, eq-eqb, false≢true}
 use Rattle.std.proofs.lemmas.List.Elements.{All-head, All-tail}
-use Rattle.gd_wire.proofs.AnswerLemmas.{behind_none, chosen, not_chosen}
-use Rattle.kd_wire.specs.declared.arrays.ArrayKind.TheVariants.{Update}
-use Rattle.kd_wire.specs.Keys.{key_id, key_made, key_data, place_of_key}
-use Rattle.kd_wire.specs.Arrays.{first_key, first_or, item_fault, arrays_fault, array_places, place_after, arrays_at, end_of, span_of}
-use Rattle.kd_wire.specs.Bodies.{is_root, array_keys}
-use Rattle.kd_wire.specs.Texts.{Sealed, SealedFits, AreOfOnePush, updates_text, arrays_of, key_of}
-use Rattle.kd_wire.proofs.WrittenArrays.{IsThere, is_there, is_behind, rest_behind, item_passes}
+use Rattle.group_terms.specs.declared.wires.WireFault.{WireFault}
+use Rattle.gd_wire.specs.Readings.{Cursor, Reading, and_then, mapped, ◌>>=◌, ◌>>◌, give, place, ended, octets_left}
+use Rattle.gd_wire.specs.Attributes.{attribute, next_has_kind}
+use Rattle.kd_wire.specs.declared.updates.UpdateArray.{UpdateArray}
+use Rattle.kd_wire.specs.Arrays.{signature_keys, update_attribute, next_update, PlacedArray, arrays_of, end_after, go_on, more_updates}
+use Rattle.kd_wire.specs.Arrays.{PlacedUpdates, updates, gives_root}
+use Rattle.kd_wire.specs.Keys.{is_of}
+use Rattle.kd_wire.specs.Seals.{handle_after}
+use Rattle.kd_wire.specs.Texts.{Sealed, SealedFits, AreOfOnePush, update_text, updates_text}
+use Rattle.kd_wire.specs.UpdateTexts.{AreUpdates, array_of}
+use Rattle.kd_wire.proofs.ReadsLemmas.{cursor}
+use Rattle.kd_wire.proofs.WrittenArrays.{none_of, and_false, attribute_reads}
 
--- the arrays of these jobs stand one behind the other from a place to the end
-abbrev pub AreThere : List ℕ → ℕ → List Sealed → Type 0
-AreThere text at [] = length text ≡ at
-AreThere text at (update ∷ updates) = IsThere text at update × AreThere text (at + 64) updates
+-- ---- no signature keys
 
-pub are_there : (text : List ℕ) (at : ℕ) (updates : List Sealed) → All SealedFits updates → at ≤ length text → drop at text ≡ updates_text updates
-    → AreThere text at updates
-are_there text at [] fit within same = omega (arith, ap length same, length-drop at text)
-are_there text at (update ∷ updates) fit within same =
-    let fits = All-head SealedFits update updates fit in
-    let here = is_there text at update (updates_text updates) fits same in
-    let long = here.long in (
-      here,
-      are_there text (at + 64) updates (All-tail SealedFits update updates fit) long (rest_behind text at update (updates_text updates) fits same),
-    )
+-- where an array begins, none comes before it
+pub no_keys : (base at : ℕ) (left : List ℕ) → signature_keys (cursor base at (0 ∷ 2 ∷ left)) ≡ Ok (tt, cursor base at (0 ∷ 2 ∷ left))
+unfolding signature_keys
+no_keys base at left =
+    none_of (length (0 ∷ 2 ∷ left)) (cursor base at (0 ∷ 2 ∷ left)) (ap (λ (has : Bool). Ok (has, cursor base at (0 ∷ 2 ∷ left)))
+    (and_false (nat_le 2 (length (0 ∷ 2 ∷ left)))))
 
--- a job that gives a key of this epoch
-abbrev IsOf : ℕ → Sealed → Type 0
+-- and none where nothing comes any more
+pub no_keys_at_end : (base at : ℕ) → signature_keys (cursor base at []) ≡ Ok (tt, cursor base at [])
+unfolding signature_keys
+no_keys_at_end base at = refl
+
+abbrev pub text_of : Sealed → List ℕ
+text_of update = update_text update.job update.octets
+
+pub text_long : (update : Sealed) → SealedFits update → length (text_of update) ≡ 64
+text_long update fits = let long = fits.octets in omega arith
+
+-- ---- one after the other
+
+module _ (handle : Option ℕ) (base at : ℕ) where
+  pub next_reads : (update : Sealed) (rest : List ℕ) → SealedFits update → is_of handle update.job.gives.made ≡ true
+      → next_update handle (cursor base at (text_of update ++ rest)) ≡ Ok (Some (array_of update), cursor base (at + 64) rest)
+  unfolding next_update
+  next_reads update rest fits same =
+      let left : List ℕ = text_of update ++ rest in
+      let some : (length left == 0) ≡ false = ne_eqb (length left) 0 (λ e. omega
+      (arith, length-append (text_of update) rest, text_long update fits)) in
+      let place : at + length (text_of update) ≡ at + 64 = ap (λ size. at + size) (text_long update fits) in
+      let after : Bool → Cursor → Result (Option UpdateArray × Cursor) WireFault =
+      λ nothing. if nothing then give None else (update_attribute handle >>= λ array. give (Some array)) in
+      ap (λ (read : Result (Unit {0} × Cursor) WireFault). and_then read (λ done. ended >>= after)) (no_keys base at _)
+      ∙ ap (λ nothing. after nothing (cursor base at left)) some
+      ∙ ap (λ (read : Result (UpdateArray × Cursor) WireFault). and_then read (λ array. give (Some array)))
+      ((attribute_reads handle update fits same).reads base at rest)
+      ∙ ap (λ place. Ok (Some (array_of update), cursor base place rest)) place
+
+  pub none_reads : next_update handle (cursor base at []) ≡ Ok (None, cursor base at [])
+  unfolding next_update
+  none_reads = ap (λ (read : Result (Unit {0} × Cursor) WireFault). and_then read
+      (λ done. ended >>= λ nothing. if nothing then give None else (update_attribute handle >>= λ array. give (Some array))))
+      (no_keys_at_end base at)
+
+-- the arrays of some jobs with the places after them
+abbrev pub placed_from : ℕ → List Sealed → List PlacedArray
+placed_from at [] = []
+placed_from at (update ∷ updates) = record { array = array_of update; end = at + 64 } ∷ placed_from (at + 64) updates
+
+abbrev pub IsOf : ℕ → Sealed → Type 0
 IsOf epoch update = update.job.gives.made ≡ epoch
 
--- the places of the arrays of these jobs, of which the first is here
-abbrev pub places_from : ℕ → List Sealed → List ℕ
-places_from at [] = []
-places_from at (update ∷ updates) = at ∷ places_from (at + 64) updates
+refl_eqb : (n : ℕ) → (n == n) ≡ true
+refl_eqb n = eq-eqb n n refl
 
-how_many : (at : ℕ) (updates : List Sealed) → length (places_from at updates) ≡ length updates
-how_many at [] = refl
-how_many at (update ∷ updates) = ap suc (how_many (at + 64) updates)
+pub more_read : (epoch most base at : ℕ) (jobs : List Sealed) → length jobs ≤ most → All SealedFits jobs → All (IsOf epoch) jobs
+    → more_updates most (Some epoch) (cursor base at (updates_text jobs)) ≡ Ok (placed_from at jobs, cursor base (at + 64 * length jobs) [])
+more_read epoch zero base at [] enough fit made = ap (λ place. Ok ([], cursor base place [])) (omega arith)
+more_read epoch zero base at (update ∷ jobs) enough fit made = absurd (omega arith)
+more_read epoch (suc more) base at [] enough fit made =
+    ap (λ (read : Result (Option UpdateArray × Cursor) WireFault). and_then read (λ (next : Option UpdateArray). λ (cursor : Cursor).
+    go_on next (λ array. more_updates more (handle_after (Some epoch) array.keys)
+    >>= λ arrays. give (record { array = array; end = cursor.at } ∷ arrays)) cursor)) (none_reads (Some epoch) base at)
+    ∙ ap (λ place. Ok ([], cursor base place [])) (omega arith)
+more_read epoch (suc more) base at (update ∷ jobs) enough fit made =
+    let same = All-head (IsOf epoch) update jobs made in
+    let due : is_of (Some epoch) update.job.gives.made ≡ true = ap (λ made. made == epoch) same ∙ refl_eqb epoch in
+    let rest = more_read epoch more base (at + 64) jobs (omega arith) (All-tail SealedFits update jobs fit)
+    (All-tail (IsOf epoch) update jobs made) in
+    let place : at + 64 + 64 * length jobs ≡ at + 64 * suc (length jobs) = omega arith in
+    ap (λ (read : Result (Option UpdateArray × Cursor) WireFault). and_then read (λ (next : Option UpdateArray). λ (cursor : Cursor).
+    go_on next (λ array. more_updates more (handle_after (Some epoch) array.keys)
+    >>= λ arrays. give (record { array = array; end = cursor.at } ∷ arrays)) cursor))
+    (next_reads (Some epoch) base at update (updates_text jobs) (All-head SealedFits update jobs fit) due)
+    ∙ ap (λ handle. and_then (more_updates more (Some handle) (cursor base (at + 64) (updates_text jobs)))
+    (λ (arrays : List PlacedArray). give (record { array = array_of update; end = at + 64 } ∷ arrays))) same
+    ∙ ap (λ (read : Result (List PlacedArray × Cursor) WireFault). and_then read
+    (λ (arrays : List PlacedArray). give (record { array = array_of update; end = at + 64 } ∷ arrays))) rest
+    ∙ ap (λ place. Ok (placed_from at (update ∷ jobs), cursor base place [])) place
 
-module _ (text : List ℕ) where
-  -- all jobs have been read where the text ends
-  pub ends_at : (at : ℕ) (updates : List Sealed) → AreThere text at updates → length text ≡ at + 64 * length updates
-  ends_at at [] there = omega arith
-  ends_at at (update ∷ updates) there = let rest = ends_at (at + 64) updates there.1 in omega arith
+-- ---- all of one push
 
-  not_at_end : (at : ℕ) (update : Sealed) → IsThere text at update → at ≡ length text → ⊥
-  not_at_end at update there = let long = there.long in λ e. omega arith
+arrays_same : (at : ℕ) (jobs : List Sealed) → arrays_of (placed_from at jobs) ≡ map array_of jobs
+arrays_same at [] = refl
+arrays_same at (update ∷ jobs) = ap (λ arrays. array_of update ∷ arrays) (arrays_same (at + 64) jobs)
 
-  -- ---- the faults
+end_same : (at : ℕ) (jobs : List Sealed) → end_after at (placed_from at jobs) ≡ at + 64 * length jobs
+end_same at [] = omega arith
+end_same at (update ∷ jobs) = end_same (at + 64) jobs ∙ omega arith
 
-  module _ (base : ℕ) where
-    -- an array is gone through, and then those behind it
-    goes_through : (more : ℕ) (first : Option ℕ) (at : ℕ) (update : Sealed) → SealedFits update → IsThere text at update
-        → key_made text (first_key Update (first_or first at)) ≡ update.job.gives.made
-        → arrays_fault text base (suc more) Update first at ≡ arrays_fault text base more Update (Some (first_or first at)) (at + 64)
-    goes_through more first at update fits there epoch =
-        not_chosen at (length text) _ _ (not_at_end at update there)
-        ∙ behind_none (item_fault text base Update first at) _ _ (item_passes text at update there base first fits epoch)
-        (rw there.kind (ap (arrays_fault text base more Update (Some (first_or first at))) (is_behind text at update there)))
+count_same : (at : ℕ) (jobs : List Sealed) → length (placed_from at jobs) ≡ length jobs
+count_same at [] = refl
+count_same at (update ∷ jobs) = ap suc (count_same (at + 64) jobs)
 
-    -- behind a first array whose first key is of their epoch, arrays have no fault
-    later_pass : (epoch more first at : ℕ) (updates : List Sealed) → length updates ≤ more → All SealedFits updates → AreThere text at updates
-        → key_made text (first_key Update first) ≡ epoch → All (IsOf epoch) updates
-        → arrays_fault text base more Update (Some first) at ≡ None
-    later_pass epoch zero first at [] enough fit there handle made = refl
-    later_pass epoch (suc more) first at [] enough fit there handle made = chosen at (length text) _ _ (sym there)
-    later_pass epoch zero first at (update ∷ updates) enough fit there handle made = absurd (omega arith)
-    later_pass epoch (suc more) first at (update ∷ updates) enough fit there handle made =
-        let same = All-head (IsOf epoch) update updates made in
-        goes_through more (Some first) at update (All-head SealedFits update updates fit) there.0 (handle ∙ sym same)
-        ∙ later_pass epoch more first (at + 64) updates (omega arith) (All-tail SealedFits update updates fit) there.1 handle (All-tail (IsOf epoch) update updates made)
+or_false : (a b : Bool) → ((a || false) || b) ≡ (a || b)
+or_false true b = refl
+or_false false b = refl
 
-    -- nor have those of one push, of which there is a first one
-    pub all_pass : (more : ℕ) (at : ℕ) (updates : List Sealed) → length updates ≤ more → AreOfOnePush updates → AreThere text at updates
-        → arrays_fault text base more Update None at ≡ None
-    all_pass more at [] enough push there = absurd (false≢true push.root)
-    all_pass zero at (update ∷ updates) enough push there = absurd (omega arith)
-    all_pass (suc more) at (update ∷ updates) enough push there =
-        let same = All-head (IsOf push.epoch) update updates push.made in
-        goes_through more None at update (All-head SealedFits update updates push.fit) there.0 there.0.made
-        ∙ later_pass push.epoch more at (at + 64) updates (omega arith) (All-tail SealedFits update updates push.fit) there.1 (there.0.made ∙ same)
-        (All-tail (IsOf push.epoch) update updates push.made)
+pub root_same : (jobs : List Sealed) → gives_root (map array_of jobs) ≡ list_any (λ (update : Sealed). update.job.gives.id == 1) jobs
+root_same [] = refl
+root_same (update ∷ jobs) = or_false (update.job.gives.id == 1) (gives_root (map array_of jobs))
+    ∙ ap (λ later. (update.job.gives.id == 1) || later) (root_same jobs)
 
-  -- ---- the arrays
+pub jobs_long : (jobs : List Sealed) → All SealedFits jobs → length (updates_text jobs) ≡ 64 * length jobs
+jobs_long [] fit = omega arith
+jobs_long (update ∷ jobs) fit =
+    let first = text_long update (All-head SealedFits update jobs fit) in
+    let rest = jobs_long jobs (All-tail SealedFits update jobs fit) in
+    omega (arith, length-append (text_of update) (updates_text jobs))
 
-  -- the places of the arrays, and what is read at them
-  pub at_places : (more at : ℕ) (updates : List Sealed) → length updates ≤ more → AreThere text at updates → array_places text more at ≡ places_from at updates
-  at_places zero at [] enough there = refl
-  at_places (suc more) at [] enough there = chosen at (length text) _ _ (sym there)
-  at_places zero at (update ∷ updates) enough there = absurd (omega arith)
-  at_places (suc more) at (update ∷ updates) enough there =
-      let rest = ap (array_places text more) (is_behind text at update there.0) ∙ at_places more (at + 64) updates (omega arith) there.1 in
-      not_chosen at (length text) _ _ (not_at_end at update there.0) ∙ rw there.0.kind (ap (λ places. at ∷ places) rest)
+-- what is read of them
+abbrev pub placed_of : ℕ → List Sealed → PlacedUpdates
+placed_of at jobs = record { arrays = map array_of jobs; span = record { start = at; end = at + 64 * length jobs; arrays = length jobs } }
 
-  -- behind an array the next one stands, or the end
-  goes_on_at : (at : ℕ) (update : Sealed) (updates : List Sealed) → IsThere text at update → place_after text at (places_from (at + 64) updates) ≡ at + 64
-  goes_on_at at update [] there = is_behind text at update there
-  goes_on_at at update (next ∷ updates) there = refl
+pub updates_read : (base at : ℕ) (jobs : List Sealed) → AreOfOnePush jobs → updates (cursor base at (updates_text jobs))
+    ≡ Ok (placed_of at jobs, cursor base (at + 64 * length jobs) [])
+unfolding updates
+updates_read base at [] push = absurd (false≢true push.root)
+updates_read base at (update ∷ jobs) push =
+    let fits = All-head SealedFits update jobs push.fit in
+    let later = All-tail SealedFits update jobs push.fit in
+    let same = All-head (IsOf push.epoch) update jobs push.made in
+    let rest : List ℕ = updates_text jobs in
+    let left : List ℕ = text_of update ++ rest in
+    let long : length left ≡ 64 + 64 * length jobs = length-append (text_of update) rest
+    ∙ (λ i. text_long update fits i + jobs_long jobs later i) in
+    let given : ℕ → UpdateArray → ℕ → List PlacedArray → PlacedUpdates = λ start first end more. record {
+      arrays = first ∷ arrays_of more;
+      span = record { start = start; end = end_after end more; arrays = suc (length more) };
+    } in
+    let after_first : ℕ → ℕ → UpdateArray → Reading PlacedUpdates = λ start most first. place
+    >>= λ end. more_updates (most - 1) (handle_after None first.keys) >>= λ more. give (given start first end more) in
+    let more = more_read push.epoch (length left - 1) base (at + 64) jobs (omega (arith, long)) later
+    (All-tail (IsOf push.epoch) update jobs push.made) in
+    let place_same : at + length (text_of update) ≡ at + 64 = ap (λ size. at + size) (text_long update fits) in
+    let end : at + 64 + 64 * length jobs ≡ at + 64 * suc (length jobs) = omega arith in
+    ap (λ (read : Result (Unit {0} × Cursor) WireFault). and_then read (λ done. place >>= λ start. octets_left
+    >>= λ most. update_attribute None >>= after_first start most)) (no_keys base at _)
+    ∙ ap (λ (read : Result (UpdateArray × Cursor) WireFault). and_then read (after_first at (length left)))
+    ((attribute_reads None update fits refl).reads base at rest)
+    ∙ (λ i. and_then (more_updates (length left - 1) (Some (same i)) (cursor base (place_same i) rest))
+    (λ (more : List PlacedArray). give (given at (array_of update) (place_same i) more)))
+    ∙ ap (λ (read : Result (List PlacedArray × Cursor) WireFault). and_then read
+    (λ (more : List PlacedArray). give (given at (array_of update) (at + 64) more))) more
+    ∙ (λ i. Ok (
+      record {
+        arrays = array_of update ∷ arrays_same (at + 64) jobs i;
+        span = record { start = at; end = (end_same (at + 64) jobs ∙ end) i; arrays = suc (count_same (at + 64) jobs i) };
+      },
+      cursor base (end i) [],
+    ))
 
-  pub are_arrays : (at : ℕ) (updates : List Sealed) → AreThere text at updates → arrays_at text (places_from at updates) ≡ arrays_of at updates
-  are_arrays at [] there = refl
-  are_arrays at (update ∷ updates) there =
-      let first : first_key Update at ≡ at + 16 = omega arith in
-      let next = goes_on_at at update updates there.0 in
-      let rest = are_arrays (at + 64) updates there.1 in
-      λ i. record { by = there.0.by i; by_made = there.0.by_made i; keys = there.0.count i; first = first i; next = next i } ∷ rest i
-
-  -- from the first array to the end of the last one
-  last_end : (at : ℕ) (update : Sealed) (updates : List Sealed) → AreThere text at (update ∷ updates)
-      → end_of text at (places_from (at + 64) updates) ≡ at + 64 + 64 * length updates
-  last_end at update [] there = is_behind text at update there.0 ∙ omega arith
-  last_end at update (next ∷ updates) there = last_end (at + 64) next updates there.1 ∙ omega arith
-
-  pub is_span : (at : ℕ) (updates : List Sealed) → AreOfOnePush updates → AreThere text at updates
-      → span_of text (places_from at updates) ≡ Some (record { start = at; end = at + 64 * length updates; arrays = length updates })
-  is_span at [] push there = absurd (false≢true push.root)
-  is_span at (update ∷ updates) push there =
-      let end : end_of text at (places_from (at + 64) updates) ≡ at + 64 * suc (length updates) = last_end at update updates there ∙ omega arith in
-      λ i. Some (record { start = at; end = end i; arrays = suc (how_many (at + 64) updates i) })
-
-  -- ---- the keys
-
-  -- each array gives the key of its job
-  pub are_keys : (at : ℕ) (updates : List Sealed) → AreThere text at updates → flat_map (array_keys text) (arrays_of at updates) ≡ map key_of updates
-  are_keys at [] there = refl
-  are_keys at (update ∷ updates) there =
-      let place : place_of_key (at + 16) 0 ≡ first_key Update at = omega arith in
-      let id = ap (key_id text) place ∙ there.0.id in
-      let made = ap (key_made text) place ∙ there.0.made in
-      let octets = ap (key_data text) place ∙ there.0.octets in
-      let rest = are_keys (at + 64) updates there.1 in
-      λ i. record { id = id i; made = made i; sealed = octets i } ∷ rest i
-
--- the root's key is among those that are given
-pub gives_root : (updates : List Sealed) → list_any is_root (map key_of updates) ≡ list_any (λ (update : Sealed). update.job.gives.id == 1) updates
-gives_root [] = refl
-gives_root (update ∷ updates) = ap (λ later. (update.job.gives.id == 1) || later) (gives_root updates)
+pub jobs_are_updates : (jobs : List Sealed) → AreOfOnePush jobs → AreUpdates (map array_of jobs) (updates_text jobs)
+jobs_are_updates jobs push = record {
+  reads = λ base at.
+      let long : 64 * length jobs ≡ length (updates_text jobs) = sym (jobs_long jobs push.fit) in
+      ap (mapped (λ (placed : PlacedUpdates). placed.arrays)) (updates_read base at jobs push)
+      ∙ ap (λ size. Ok (map array_of jobs, cursor base (at + size) [])) long;
+  root = root_same jobs ∙ push.root;
+}

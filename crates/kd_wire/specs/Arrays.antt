@@ -1,29 +1,50 @@
 -- The attributes of an LKH packet (RFC 6407 section 5.6.3): a download array (1, section 5.6.3.1) or update arrays (2, section 5.6.3.2), in
 -- the long form. An attribute of kind 3, which holds the key that checks signatures (section 5.6.3.3), is passed over, wherever it stands
 -- and in either form.
-use Rattle.std.specs.Prelude.{◌≡◌, ℕ, ◌<◌, ◌≤◌, zero, suc, ◌+◌, ◌*◌, ◌==◌, ◌&&◌, ◌||◌, nat_le, not, List, [], ◌∷◌, ◌++◌, length, take, Option, None, Some, if◌then◌else◌}
+use Rattle.std.specs.Prelude.{ℕ, zero, suc, ◌+◌, ◌-◌, ◌*◌, ◌==◌, ◌&&◌, nat_le, not, Bool, List, [], ◌∷◌, length, Option, None, Some}
+use Rattle.std.specs.Prelude.{if◌then◌else◌}
 use Rattle.std.specs.List.{list_any}
-use Rattle.byteorder.specs.Endian.{big_from}
-use Rattle.group_terms.specs.declared.wires.WireFault.{WireFault}
+use Rattle.group_terms.specs.declared.paths.PathKey.{PathKey}
 use Rattle.group_terms.specs.declared.wires.WireWhat.TheVariants.{Length, Reserved, Version, Kind, Value}
-use Rattle.gd_wire.specs.Faults.{octet_at, Test, test, first_fault, or_else}
-use Rattle.gd_wire.specs.Fields.{there}
-use Rattle.gd_wire.specs.Attributes.{kind_at, is_short, attribute_number, attribute_fault, attribute_fields}
+use Rattle.gd_wire.specs.Readings.{Cursor, Reading, ◌>>=◌, ◌>>◌, give, place, here, check, ended, octets_left, inside, number, long_number}
+use Rattle.gd_wire.specs.Readings.{due_octet, due_number}
+use Rattle.gd_wire.specs.Attributes.{attribute_type, long_value, attribute, next_has_kind, no_more_attributes}
 use Rattle.kd_wire.specs.declared.arrays.ArrayKind.{ArrayKind}
 use Rattle.kd_wire.specs.declared.arrays.ArrayKind.TheVariants.{Download, Update}
 use Rattle.kd_wire.specs.declared.updates.UpdateArray.{UpdateArray}
-use Rattle.kd_wire.specs.declared.updates.UpdateSpan.{UpdateSpan}
-use Rattle.kd_wire.specs.Keys.{key_made, path_tests, given_tests}
+use Rattle.kd_wire.specs.declared.spans.UpdateSpan.{UpdateSpan}
+use Rattle.kd_wire.specs.Keys.{path_keys, given_keys}
+use Rattle.kd_wire.specs.Widths.{lkh_key_octets}
+use Rattle.kd_wire.specs.Seals.{sealed_under, handle_after, is_root}
 
--- Of each kind of array: how many octets stand before its keys, after the header of its attribute; where the first key stands when that
--- attribute begins here; and the least and the most of them, which are our choice. A download array has the keys of a path, and an update
--- array one at least.
+-- the type of an attribute of one of these kinds, in the long form
+unfoldable pub long_type : List ℕ → Reading ℕ
+long_type kinds = do
+  at ← here
+  type ← attribute_type
+  check (list_any (λ kind. kind == type.kind) kinds && not type.is_short) (Kind type.kind) at
+  give type.kind
+
+-- attributes of kind 3, as many as there are, of which no more than so many are looked at
+abbrev pub signature_keys_of : ℕ → Reading (Unit {0})
+signature_keys_of zero = give tt
+signature_keys_of (suc more) = do
+  is_one ← next_has_kind 3
+  if is_one then (attribute >> signature_keys_of more) else give tt
+
+-- no text has more of them than octets
+unfoldable pub signature_keys : Reading (Unit {0})
+signature_keys = do
+  most ← octets_left
+  signature_keys_of most
+
+-- ---- the head of an array
+
+-- Of each kind of array: how many octets stand before its keys, after the header of its attribute; and the least and the most of them,
+-- which are our choice. A download array has the keys of a path, and an update array one at least.
 abbrev pub head_size : ArrayKind → ℕ
 head_size Download = 4
 head_size Update = 12
-
-abbrev pub first_key : ArrayKind → ℕ → ℕ
-first_key kind at = at + 4 + head_size kind
 
 abbrev pub least_keys : ArrayKind → ℕ
 least_keys Download = 2
@@ -33,162 +54,122 @@ abbrev pub most_keys : ArrayKind → ℕ
 most_keys Download = 16
 most_keys Update = 65535
 
--- the kinds of attribute of which one is due as an array, given the array that came first: one download array, and any number of update
--- arrays
-abbrev pub due_kinds : ArrayKind → Option ℕ → List ℕ
-due_kinds Download None = 1 ∷ []
-due_kinds Download (Some first) = []
-due_kinds Update first = 2 ∷ []
+-- An array begins with its version, which is 1, the number of its keys, to which the attribute's length has to be due, which stands at this
+-- place, and a reserved octet.
+unfoldable pub array_head : ArrayKind → ℕ → Reading ℕ
+array_head kind length_at = do
+  size ← octets_left
+  due_octet 1 Version
+  at ← here
+  count ← number
+  check (nat_le (least_keys kind) count && nat_le count (most_keys kind)) Value at
+  check (size == head_size kind + lkh_key_octets * count) Length length_at
+  due_octet 0 Reserved
+  give count
 
--- the array that came first, or else this one
-abbrev pub first_or : Option ℕ → ℕ → ℕ
-first_or None at = at
-first_or (Some first) at = first
+-- ---- update arrays
 
-module _ (text : List ℕ) where
-  -- the place after an attribute, and the text up to there
-  abbrev pub behind : ℕ → ℕ
-  behind at = (attribute_fields text at).next
+-- the LKH ID of the key under which the first key of an array is sealed, 2 reserved octets, and the handle of that key
+unfoldable pub sealer : Reading (ℕ × ℕ)
+sealer = do
+  at ← here
+  by ← number
+  check (not (by == 0)) Value at
+  due_number 0 Reserved
+  made ← long_number
+  give (by, made)
 
-  abbrev pub up_to_behind : ℕ → List ℕ
-  up_to_behind at = take (behind at) text
+-- All keys that the update arrays of a packet give have one handle: that of the first one in the first array.
+unfoldable pub update_array : Option ℕ → ℕ → Reading UpdateArray
+update_array handle length_at = do
+  count ← array_head Update length_at
+  by ← sealer
+  keys ← given_keys count handle
+  give (record { by = by.0; by_made = by.1; keys = sealed_under by.0 by.1 keys })
 
-  -- how many keys an array has
-  abbrev pub key_count : ℕ → ℕ
-  key_count at = big_from (at + 5) 2 text
+unfoldable pub update_attribute : Option ℕ → Reading UpdateArray
+update_attribute handle = do
+  long_type (2 ∷ [])
+  length_at ← here
+  value ← long_value
+  inside value (update_array handle length_at)
 
-  -- the array that came first when this attribute is read
-  abbrev pub first_after : Option ℕ → ℕ → Option ℕ
-  first_after first at = if kind_at text at == 3 then first else Some (first_or first at)
+-- after an array, the next one, or none at the end
+unfoldable pub next_update : Option ℕ → Reading (Option UpdateArray)
+next_update handle = do
+  signature_keys
+  nothing ← ended
+  if nothing then give None else (do
+    array ← update_attribute handle
+    give (Some array))
 
-  module _ (base : ℕ) where
-    -- an attribute is of one of these kinds and in the long form, or of kind 3
-    abbrev pub kind_tests : List ℕ → ℕ → List Test
-    kind_tests kinds at =
-        there text base at 2
-        ∷ test (kind_at text at == 3 || (list_any (λ kind. kind == kind_at text at) kinds && not (is_short text at))) (Kind (kind_at text at)) (base + at)
-        ∷ []
+-- an array, and the place in the text after it
+pub record PlacedArray : Type 0 where
+  pub array : UpdateArray
+  pub end : ℕ
 
-    -- An array begins with its version, which is 1, the number of its keys, to which the attribute's length has to be due, and a reserved
-    -- octet.
-    abbrev pub version_tests : ℕ → List Test
-    version_tests at = there (up_to_behind at) base (at + 4) 1 ∷ test (octet_at text (at + 4) == 1) Version (base + at + 4) ∷ []
+-- what follows an array, where it is one
+abbrev pub go_on : {A : Type 0} → Option UpdateArray → (UpdateArray → Reading (List A)) → Reading (List A)
+go_on None more = give []
+go_on (Some array) more = more array
 
-    abbrev pub count_tests : ArrayKind → ℕ → List Test
-    count_tests kind at =
-        there (up_to_behind at) base (at + 5) 2
-        ∷ test (nat_le (least_keys kind) (key_count at) && nat_le (key_count at) (most_keys kind)) Value (base + at + 5)
-        ∷ test (attribute_number text at == head_size kind + 48 * key_count at) Length (base + at + 2)
-        ∷ test (octet_at text (at + 7) == 0) Reserved (base + at + 7)
-        ∷ []
+-- the arrays up to the end, no more than so many
+abbrev pub more_updates : ℕ → Option ℕ → Reading (List PlacedArray)
+more_updates zero handle = give []
+more_updates (suc more) handle = do
+  next ← next_update handle
+  end ← place
+  go_on next (λ array. do
+    arrays ← more_updates more (handle_after handle array.keys)
+    give (record { array = array; end = end } ∷ arrays))
 
-    -- In an update array there follow the LKH ID of the key under which its first key is sealed, 2 reserved octets, and the handle of that
-    -- key.
-    abbrev pub sealer_tests : ℕ → List Test
-    sealer_tests at =
-        test (not (big_from (at + 8) 2 text == 0)) Value (base + at + 8)
-        ∷ test (big_from (at + 10) 2 text == 0) Reserved (base + at + 10)
-        ∷ []
+-- the arrays of a packet, and where they stand
+pub record PlacedUpdates : Type 0 where
+  pub arrays : List UpdateArray
+  pub span : UpdateSpan
 
-    -- After this stand the keys. All those that the update arrays of a packet give have the handle of the first one in the first array.
-    abbrev pub update_tests : ℕ → ℕ → ℕ → List Test
-    update_tests first count at = sealer_tests at ++ given_tests text base (key_made text (first_key Update first)) (first_key Update at) count
+abbrev pub arrays_of : List PlacedArray → List UpdateArray
+arrays_of [] = []
+arrays_of (placed ∷ more) = placed.array ∷ arrays_of more
 
-    abbrev pub keys_tests : ArrayKind → Option ℕ → ℕ → List Test
-    keys_tests Download first at = path_tests text base (first_key Download at) (key_count at)
-    keys_tests Update first at = update_tests (first_or first at) (key_count at) at
+-- the place after the last of some arrays, or this one where there is none
+abbrev pub end_after : ℕ → List PlacedArray → ℕ
+end_after end [] = end
+end_after end (placed ∷ more) = end_after placed.end more
 
-    abbrev pub array_fault : ArrayKind → Option ℕ → ℕ → Option WireFault
-    array_fault kind first at =
-        or_else (first_fault (version_tests at))
-        (or_else (first_fault (count_tests kind at))
-        (first_fault (keys_tests kind first at)))
+-- one array at least; a text has fewer of them after that than octets
+unfoldable pub updates : Reading PlacedUpdates
+updates = do
+  signature_keys
+  start ← place
+  most ← octets_left
+  first ← update_attribute None
+  end ← place
+  more ← more_updates (most - 1) (handle_after None first.keys)
+  give (record {
+    arrays = first ∷ arrays_of more;
+    span = record { start = start; end = end_after end more; arrays = suc (length more) };
+  })
 
-    -- the first fault of an attribute, given the array that came first
-    abbrev pub item_fault : ArrayKind → Option ℕ → ℕ → Option WireFault
-    item_fault kind first at =
-        or_else (first_fault (kind_tests (due_kinds kind first) at))
-        (or_else (attribute_fault text at base)
-        (if kind_at text at == 3 then None else array_fault kind first at))
+-- whether one of the keys that some arrays give is that of the root
+abbrev pub gives_root : List UpdateArray → Bool
+gives_root arrays = list_any (λ (array : UpdateArray). list_any is_root array.keys) arrays
 
-    -- at the end an array is missing where none came
-    abbrev pub missing_fault : Option ℕ → ℕ → Option WireFault
-    missing_fault None at = first_fault (there text base at 2 ∷ [])
-    missing_fault (Some first) at = None
+-- ---- a download array
 
-    -- the first fault of the attributes from here to the end of the text, of which there are at most so many: no more than it has octets
-    abbrev pub arrays_fault : ℕ → ArrayKind → Option ℕ → ℕ → Option WireFault
-    arrays_fault zero kind first at = missing_fault first at
-    arrays_fault (suc more) kind first at =
-        if at == length text
-        then missing_fault first at
-        else or_else (item_fault kind first at) (arrays_fault more kind (first_after first at) (behind at))
+unfoldable pub download_array : ℕ → Reading (List PathKey)
+download_array length_at = do
+  count ← array_head Download length_at
+  path_keys count None
 
-  -- the places of the arrays among these attributes
-  abbrev pub array_places : ℕ → ℕ → List ℕ
-  array_places zero at = []
-  array_places (suc more) at =
-      if at == length text
-      then []
-      else (if kind_at text at == 3 then array_places more (behind at) else at ∷ array_places more (behind at))
-
-  -- where a walk goes on from an array, given the places of those that follow: at the next one, and after the last one it ends
-  abbrev pub place_after : ℕ → List ℕ → ℕ
-  place_after at [] = behind at
-  place_after at (next ∷ places) = next
-
-  -- what an update array has
-  abbrev pub update_array : ℕ → List ℕ → UpdateArray
-  update_array at places = record {
-    by = big_from (at + 8) 2 text;
-    by_made = big_from (at + 12) 4 text;
-    keys = key_count at;
-    first = first_key Update at;
-    next = place_after at places;
-  }
-
-  abbrev pub arrays_at : List ℕ → List UpdateArray
-  arrays_at [] = []
-  arrays_at (at ∷ places) = update_array at places ∷ arrays_at places
-
-  -- the place after the last of some arrays
-  abbrev pub end_of : ℕ → List ℕ → ℕ
-  end_of at [] = behind at
-  end_of at (next ∷ places) = end_of next places
-
-  -- from the first of some arrays to the end of the last one
-  abbrev pub span_of : List ℕ → Option UpdateSpan
-  span_of [] = None
-  span_of (at ∷ places) = Some (record { start = at; end = end_of at places; arrays = length (at ∷ places) })
-
--- where a span starts, and the span with an array after it that stands between two places
-abbrev pub start_of : Option UpdateSpan → Option ℕ
-start_of None = None
-start_of (Some span) = Some span.start
-
-abbrev pub with_array : Option UpdateSpan → ℕ → ℕ → UpdateSpan
-with_array None at next = record { start = at; end = next; arrays = 1 }
-with_array (Some span) at next = record { start = span.start; end = next; arrays = span.arrays + 1 }
-
--- the first of some places
-abbrev pub first_place : List ℕ → Option ℕ
-first_place [] = None
-first_place (at ∷ places) = Some at
-
--- attributes without fault from here to the end of a text, of which there are at most so many, after update arrays or none
-pub record AreWhole (text : List ℕ) (at : ℕ) : Type 0 where
-  pub base : ℕ
-  pub more : ℕ
-  pub first : Option ℕ
-  pub within : at ≤ length text
-  pub enough : length text ≤ at + more
-  pub faultless : arrays_fault text base more Update first at ≡ None
-
--- an update array without fault stands here, and after it such attributes
-pub record ArrayStands (text : List ℕ) (at : ℕ) : Type 0 where
-  pub within : at < length text
-  pub array : kind_at text at ≡ 3 → ⊥
-  pub base : ℕ
-  pub first : Option ℕ
-  pub faultless : item_fault text base Update first at ≡ None
-  pub rest : AreWhole text (behind text at)
+-- just one
+unfoldable pub download : Reading (List PathKey)
+download = do
+  signature_keys
+  long_type (1 ∷ [])
+  length_at ← here
+  value ← long_value
+  path ← inside value (download_array length_at)
+  signature_keys
+  no_more_attributes
+  give path

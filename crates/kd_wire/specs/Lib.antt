@@ -1,7 +1,12 @@
 pub mod Arrays
 pub mod Bodies
 pub mod Keys
+pub mod Private
+pub mod Seals
+pub mod Spans
 pub mod Spis
 pub mod Texts
 pub mod Traffic
+pub mod UpdateTexts
 pub mod Views
+pub mod Widths

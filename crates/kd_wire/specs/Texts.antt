@@ -1,16 +1,17 @@
 -- The text of a key download payload's body (RFC 6407 section 5.6). Both dates of a key are left open, which is 0.
-use Rattle.std.specs.Prelude.{◌≡◌, ℕ, ◌+◌, ◌*◌, ◌/◌, ◌<◌, ◌≤◌, ◌==◌, true, List, [], ◌∷◌, ◌++◌, length, All}
+use Rattle.std.specs.Prelude.{◌≡◌, ℕ, ◌+◌, ◌*◌, ◌/◌, ◌<◌, ◌≤◌, ◌==◌, true, List, [], ◌∷◌, ◌++◌, length, map, All}
 use Rattle.std.specs.List.{flat_map, list_any}
 use Rattle.byteorder.specs.Endian.{big_bytes}
 use Rattle.gd_cipher.specs.Chains.{IsSealed}
 use Rattle.gd_wire.specs.Attributes.{long_text}
+use Rattle.group_terms.specs.Octets.{AreOctets, iv_octets, key_octets, data_octets, integrity_octets, rekey_spi_octets, traffic_spi_octets}
 use Rattle.group_terms.specs.declared.paths.Keyed.{Keyed}
 use Rattle.group_terms.specs.declared.values.NodeValue.{NodeValue}
 use Rattle.group_terms.specs.declared.paths.PathKey.{PathKey}
 use Rattle.group_terms.specs.declared.values.TrafficValue.{TrafficValue}
 use Rattle.kd_wire.specs.declared.sealing.WrapJob.{WrapJob}
-use Rattle.kd_wire.specs.declared.updates.UpdateArray.{UpdateArray}
 use Rattle.kd_wire.specs.declared.updates.UpdateKey.{UpdateKey}
+use Rattle.kd_wire.specs.Widths.{update_octets}
 
 -- what stands before the attributes of a packet, of which there are so many octets: its header, and its SPI after the size of that
 abbrev pub packet_head : ℕ → List ℕ → ℕ → List ℕ
@@ -49,12 +50,21 @@ download_text path = long_text 1 (1 ∷ big_bytes 2 (length path) ++ 0 ∷ path_
 -- which has the IV too.
 abbrev pub update_text : WrapJob → List ℕ → List ℕ
 update_text job sealed =
-    long_text 2 (1 ∷ big_bytes 2 1 ++ 0 ∷ big_bytes 2 job.by.id ++ big_bytes 2 0 ++ big_bytes 4 job.by.made ++ key_text job.gives.id job.gives.made sealed)
+    long_text 2 (1 ∷ big_bytes 2 1 ++ 0 ∷ big_bytes 2 job.by.id ++ big_bytes 2 0 ++ big_bytes 4 job.by.made
+    ++ key_text job.gives.id job.gives.made sealed)
 
 pub record IsUpdate (job : WrapJob) (text : List ℕ) : Type 0 where
   pub sealed : List ℕ
   pub is_sealed : IsSealed job.by.value.key job.by.value.iv (data_of job.gives.value) sealed
+  pub octets : length sealed ≡ data_octets
+  pub small_octets : AreOctets sealed
   pub is_text : text ≡ update_text job sealed
+
+-- The text of jobs: one update array after the other, each that of a job, in their order.
+abbrev pub AreUpdateTexts : List WrapJob → List ℕ → Type 0
+AreUpdateTexts [] text = text ≡ []
+AreUpdateTexts (job ∷ jobs) text =
+    (first : List ℕ) × (rest : List ℕ) × IsUpdate job first × AreUpdateTexts jobs rest × (text ≡ first ++ rest)
 
 -- the body with a traffic key alone, that with update arrays alone, and that for a member that registers
 abbrev pub traffic_kd : TrafficValue → List ℕ
@@ -66,18 +76,24 @@ update_kd spi arrays = body_text 1 (packet_text 3 spi arrays)
 abbrev pub reply_kd : Keyed → List ℕ
 reply_kd keyed = body_text 2 (traffic_text keyed.traffic ++ packet_text 3 keyed.spi (download_text keyed.path))
 
--- values that can be written: a key with a position that has a number of 2 octets, an epoch of 4, and 16 octets each for its IV and itself
+-- Values that can be written: a key with a position that has a number of 2 octets, an epoch of 4, and as many octets as are due for its IV
+-- and itself.
 pub record PathKeyFits (key : PathKey) : Type 0 where
   pub some : 0 < key.id
   pub id : key.id < 65536
   pub made : key.made < 4294967296
-  pub iv : length key.value.iv ≡ 16
-  pub octets : length key.value.key ≡ 16
+  pub iv : length key.value.iv ≡ iv_octets
+  pub octets : length key.value.key ≡ key_octets
+  pub small_iv : AreOctets key.value.iv
+  pub small_octets : AreOctets key.value.key
 
 pub record TrafficFits (traffic : TrafficValue) : Type 0 where
-  pub cipher_key : length traffic.cipher_key ≡ 16
-  pub integrity_key : length traffic.integrity_key ≡ 32
-  pub spi : length traffic.spi ≡ 4
+  pub cipher_key : length traffic.cipher_key ≡ key_octets
+  pub integrity_key : length traffic.integrity_key ≡ integrity_octets
+  pub spi : length traffic.spi ≡ traffic_spi_octets
+  pub small_cipher_key : AreOctets traffic.cipher_key
+  pub small_integrity_key : AreOctets traffic.integrity_key
+  pub small_spi : AreOctets traffic.spi
 
 -- keys from any position up to the root
 abbrev pub LeadsUp : List PathKey → Type 0
@@ -94,8 +110,13 @@ pub record IsPath (path : List PathKey) : Type 0 where
 pub record KeyedFits (keyed : Keyed) : Type 0 where
   pub path : IsPath keyed.path
   pub keys : All PathKeyFits keyed.path
-  pub spi : length keyed.spi ≡ 16
+  pub spi : length keyed.spi ≡ rekey_spi_octets
+  pub small_spi : AreOctets keyed.spi
   pub traffic : TrafficFits keyed.traffic
+
+pub record JobFits (job : WrapJob) : Type 0 where
+  pub by : PathKeyFits job.by
+  pub gives : PathKeyFits job.gives
 
 -- a job with the sealed data of its key
 pub record Sealed : Type 0 where
@@ -105,7 +126,8 @@ pub record Sealed : Type 0 where
 pub record SealedFits (sealed : Sealed) : Type 0 where
   pub by : PathKeyFits sealed.job.by
   pub gives : PathKeyFits sealed.job.gives
-  pub octets : length sealed.octets ≡ 32
+  pub octets : length sealed.octets ≡ data_octets
+  pub small_octets : AreOctets sealed.octets
 
 abbrev pub updates_text : List Sealed → List ℕ
 updates_text updates = flat_map (λ (update : Sealed). update_text update.job update.octets) updates
@@ -113,18 +135,29 @@ updates_text updates = flat_map (λ (update : Sealed). update_text update.job up
 -- Jobs of one push: the keys that they give are of one epoch, and one of them is the root's.
 pub record AreOfOnePush (updates : List Sealed) : Type 0 where
   pub fit : All SealedFits updates
-  pub few : 64 * length updates ≤ 65000
+  pub few : update_octets * length updates ≤ 65000
   pub epoch : ℕ
   pub made : All (λ (update : Sealed). update.job.gives.made ≡ epoch) updates
   pub root : list_any (λ (update : Sealed). update.job.gives.id == 1) updates ≡ true
 
--- what is read of such a job's array that begins at a place, and of its key
-abbrev pub array_of : ℕ → Sealed → UpdateArray
-array_of at update = record { by = update.job.by.id; by_made = update.job.by.made; keys = 1; first = at + 16; next = at + 64 }
+-- the same of jobs whose keys' data is not sealed yet
+pub record AreJobsOfOnePush (jobs : List WrapJob) : Type 0 where
+  pub fit : All JobFits jobs
+  pub few : update_octets * length jobs ≤ 65000
+  pub epoch : ℕ
+  pub made : All (λ (job : WrapJob). job.gives.made ≡ epoch) jobs
+  pub root : list_any (λ (job : WrapJob). job.gives.id == 1) jobs ≡ true
 
-abbrev pub arrays_of : ℕ → List Sealed → List UpdateArray
-arrays_of at [] = []
-arrays_of at (update ∷ updates) = array_of at update ∷ arrays_of (at + 64) updates
+-- jobs with the data that stands sealed in their texts
+abbrev pub IsSealedJob : Sealed → Type 0
+IsSealedJob update = IsSealed update.job.by.value.key update.job.by.value.iv (data_of update.job.gives.value) update.octets
 
+pub record AreSealedJobs (jobs : List WrapJob) (text : List ℕ) (updates : List Sealed) : Type 0 where
+  pub are_jobs : map (λ (update : Sealed). update.job) updates ≡ jobs
+  pub are_sealed : All IsSealedJob updates
+  pub push : AreOfOnePush updates
+  pub is_text : text ≡ updates_text updates
+
+-- the key that such a job gives
 abbrev pub key_of : Sealed → UpdateKey
 key_of update = record { id = update.job.gives.id; made = update.job.gives.made; sealed = update.octets }

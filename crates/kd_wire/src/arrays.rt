@@ -1,23 +1,23 @@
 //! The attributes of an LKH packet.
-ghost use Rattle.std.specs.Prelude.{◌≡◌, ◌+◌, ◌*◌, ◌<◌, ◌≤◌, ◌⊎◌, ◌==◌, ◌&&◌, nat_le, length, None, Some, IfOk, IfSome, if◌then◌else◌};
-ghost use Rattle.std.specs.List.{list_any};
-ghost use Rattle.kd_wire.specs.declared.arrays.ArrayKind.TheVariants.{Update};
-ghost use Rattle.gd_wire.specs.Faults.{first_fault, answer};
-ghost use Rattle.gd_wire.specs.Attributes.{kind_at, attribute_number};
-ghost use Rattle.kd_wire.specs.Arrays.{head_size, first_key, least_keys, most_keys, due_kinds, start_of, with_array, behind, key_count, kind_tests, version_tests, count_tests, sealer_tests, update_tests, keys_tests, array_fault, item_fault, arrays_fault, array_places, span_of};
+ghost use Rattle.std.specs.Prelude.{◌≡◌, ◌+◌, ◌<◌, ◌≤◌, ◌==◌, ◌&&◌, ◌||◌, nat_le, None, Some, IfOk, option_map};
+ghost use Rattle.gd_wire.specs.Readings.{Gives, mapped};
+ghost use Rattle.kd_wire.specs.Keys.{given_keys};
+ghost use Rattle.kd_wire.specs.Arrays.{long_type, signature_keys, head_size, least_keys, most_keys, array_head, sealer, update_array};
+ghost use Rattle.kd_wire.specs.Arrays.{update_attribute, next_update, more_updates, updates};
+ghost use Rattle.kd_wire.specs.Private.Seen.{seen_after, with_seen, found_after, seen_updates};
 
-use crate::keys::{KEY_SIZE, key_made, read_given_keys, read_path_keys};
-use crate::updates::UpdateSpan;
-use byteorder::{BigEndian, ByteOrder};
-use gd_wire::{attribute_kind, fault, is_short, read_attribute, skip};
-use group_terms::{WireFault, WireWhat};
+use crate::keys::{KEY_SIZE, given_key};
+use crate::spans::UpdateSpan;
+use crate::updates::{SealedKeys, UpdateArray, UpdateKey};
+use gd_wire::{Reader, fault};
+use group_terms::{LkhId, WireFault, WireWhat};
 
 /// The kinds of attributes: arrays, and one that is passed over.
 pub(crate) const DOWNLOAD_ARRAY: u16 = 1;
 
 pub(crate) const UPDATE_ARRAY: u16 = 2;
 
-pub(crate) const SIGNATURE_KEY: u16 = 3;
+const SIGNATURE_KEY: u16 = 3;
 
 /// The version of an array.
 pub(crate) const VERSION: u8 = 1;
@@ -40,14 +40,6 @@ impl ArrayKind {
         }
     }
 
-    /// The place of the first key in the array that begins here.
-    pub(crate) fn first_key(self, at: usize) -> usize
-        requires { at + 16 ≤ 18446744073709551615 }
-        ensures { result ≡ first_key self at }
-    {
-        at + 4 + self.head_size()
-    }
-
     /// Whether it may have so many keys.
     fn takes(self, count: u16) -> bool
         ensures { result ≡ nat_le (least_keys self) count && nat_le count (most_keys self) }
@@ -57,236 +49,235 @@ impl ArrayKind {
             ArrayKind::Update => 1 <= count,
         }
     }
+}
 
-    /// Whether an attribute of this kind is due as an array, after the one that came first.
-    fn is_due(self, first: Option<usize>, kind: u16) -> bool
-        ensures { result ≡ list_any (λ due. due == kind) (due_kinds self first) }
+/// Reads the type of an attribute of one of these kinds, in the long form.
+#[tactic(auto, unfolding(crate::specs::Arrays::long_type))]
+pub(crate) fn long_type(kinds: &[u16], text: &mut Reader<'_>) -> Result<u16, WireFault>
+    ensures { Gives result text.new (long_type kinds.now text.old) }
+{
+    let at = text.here();
+    let attribute = text.attribute_type()?;
+    let number = attribute.kind;
+    if !kinds.contains(&number) || attribute.is_short {
+        return Err(fault(WireWhat::Kind { number }, at));
+    }
+    Ok(number)
+}
+
+/// Passes over attributes with keys that check signatures.
+#[tactic(auto, unfolding(crate::specs::Arrays::signature_keys))]
+pub(crate) fn signature_keys(text: &mut Reader<'_>) -> Result<(), WireFault>
+    ensures { Gives result text.new (signature_keys text.old) }
+{
+    for _ in 0..text.octets_left() {
+        if !text.next_has_kind(SIGNATURE_KEY) {
+            return Ok(());
+        }
+        text.attribute()?;
+    }
+    Ok(())
+}
+
+/// Reads the head of an array whose length stands at this place: the number of its keys.
+#[tactic(auto, unfolding(crate::specs::Arrays::array_head))]
+pub(crate) fn array_head(
+    kind: ArrayKind,
+    length_at: u32,
+    text: &mut Reader<'_>,
+) -> Result<u16, WireFault>
+    ensures gives { Gives result text.new (array_head kind length_at text.old) }
+    ensures few { IfOk result (λ count. count ≤ most_keys kind) }
+{
+    let size = text.octets_left() as usize;
+    text.due_octet(VERSION, WireWhat::Version)?;
+    let at = text.here();
+    let count = text.number()?;
+    if !kind.takes(count) {
+        return Err(fault(WireWhat::Value, at));
+    }
+    if size != kind.head_size() + KEY_SIZE * usize::from(count) {
+        return Err(fault(WireWhat::Length, length_at));
+    }
+    text.due_octet(0, WireWhat::Reserved)?;
+    Ok(count)
+}
+
+/// Reads which key an update array names, and the epoch in which that was made.
+#[tactic(auto, unfolding(crate::specs::Arrays::sealer))]
+fn sealer(text: &mut Reader<'_>) -> Result<(LkhId, u32), WireFault>
+    ensures { Gives result text.new (sealer text.old) }
+{
+    let at = text.here();
+    let Some(by) = LkhId::new(text.number()?) else {
+        return Err(fault(WireWhat::Value, at));
+    };
+    text.due_number(0, WireWhat::Reserved)?;
+    Ok((by, text.long_number()?))
+}
+
+/// What has been seen of keys that updates give: the handle that the next one has to have, if any, and whether one is that of the root.
+#[derive(Clone, Copy)]
+pub(crate) struct Seen {
+    pub(crate) handle: Option<u32>,
+    has_root: bool,
+}
+
+impl Seen {
+    /// The same after one more key.
+    fn with(self, key: &UpdateKey) -> Self
+        ensures { result ≡ record { handle = Some key.now.made; has_root = self.has_root || key.now.id == 1 } }
     {
-        match self {
-            ArrayKind::Download => first.is_none() && kind == DOWNLOAD_ARRAY,
-            ArrayKind::Update => kind == UPDATE_ARRAY,
+        Seen {
+            handle: Some(key.made),
+            has_root: self.has_root || key.id.number() == 1,
         }
     }
 }
 
-/// Reads attributes up to the end of a text; gives where their arrays stand.
-pub(crate) fn read_arrays(
-    kind: ArrayKind,
-    text: &[u8],
-    start: usize,
-    base: u32,
-) -> Result<Option<UpdateSpan>, WireFault>
-    requires within { start ≤ length text.now }
-    requires small { base + length text.now ≤ 4294967295 }
-    ensures { result ≡ answer (arrays_fault text.now base (length text.now) kind None start) (span_of text.now (array_places text.now (length text.now) start)) }
+/// Reads so many keys that an update gives, after what has been seen.
+fn given_keys(count: u16, before: Seen, text: &mut Reader<'_>) -> Result<Seen, WireFault>
+    ensures { Gives result text.new (mapped (seen_after before) (given_keys count before.handle text.old)) }
 {
-    let mut span = None;
-    let mut at = start;
-    while at < text.len() {
-        let next = read_item(kind, first_of(span), text, at, base)?;
-        span = with_item(span, text, at, next);
-        at = next;
+    let mut seen = before;
+    for _ in 0..count {
+        let key = given_key(seen.handle, text)?;
+        seen = seen.with(&key);
     }
-    match span {
-        Some(span) => Ok(Some(span)),
-        None => Err(fault(WireWhat::Short, base + at as u32)),
-    }
+    Ok(seen)
 }
 
-/// Where the first array stands.
-fn first_of(span: Option<UpdateSpan>) -> Option<usize>
-    ensures { result ≡ start_of span }
-{
-    match span {
-        Some(span) => Some(span.start),
-        None => None,
-    }
+/// An array, and what has been seen of its keys.
+#[derive(Drop)]
+pub(crate) struct SeenArray<'a> {
+    pub(crate) array: UpdateArray<'a>,
+    pub(crate) seen: Seen,
 }
 
-/// The span with the attribute that stands between two places, where that is an array.
-fn with_item(span: Option<UpdateSpan>, text: &[u8], at: usize, next: usize) -> Option<UpdateSpan>
-    requires within { at + 2 ≤ length text.now }
-    requires few { IfSome span (λ span. span.arrays < 4294967295) }
-    ensures { result ≡ (if kind_at text.now at == 3 then span else Some (with_array span at next)) }
+/// Reads an update array whose length stands at this place, and whose keys have this handle, if any.
+#[tactic(auto, unfolding(crate::specs::Arrays::update_array))]
+fn update_array<'a>(
+    handle: Option<u32>,
+    length_at: u32,
+    text: &mut Reader<'a>,
+) -> Result<SeenArray<'a>, WireFault>
+    ensures { Gives result text.new (mapped (with_seen handle) (update_array handle length_at text.old)) }
 {
-    if attribute_kind(text, at) == SIGNATURE_KEY {
-        return span;
-    }
-    match span {
-        Some(span) => Some(UpdateSpan {
-            start: span.start,
-            end: next,
-            arrays: span.arrays + 1,
-        }),
-        None => Some(UpdateSpan {
-            start: at,
-            end: next,
-            arrays: 1,
-        }),
-    }
+    let count = array_head(ArrayKind::Update, length_at, text)?;
+    let (by, by_made) = sealer(text)?;
+    let keys = SealedKeys::new(by, by_made, count, handle, text.again());
+    let before = Seen {
+        handle,
+        has_root: false,
+    };
+    let seen = given_keys(count, before, text)?;
+    let array = UpdateArray { by, by_made, keys };
+    Ok(SeenArray { array, seen })
 }
 
-/// Reads an attribute, given the array that came first; gives the place after it.
-fn read_item(
-    kind: ArrayKind,
-    first: Option<usize>,
-    text: &[u8],
-    at: usize,
-    base: u32,
-) -> Result<usize, WireFault>
-    requires within { at ≤ length text.now }
-    requires first { IfSome first (λ first. first + 64 ≤ length text.now) }
-    requires small { base + length text.now ≤ 4294967295 }
-    ensures answer { result ≡ answer (item_fault text.now base kind first at) (behind text.now at) }
-    ensures within { IfOk result (λ next. (at + 4 ≤ next) × (next ≤ length text.now)) }
-    ensures room { IfOk result (λ next. (kind_at text.now at ≡ 3) ⊎ (at + 64 ≤ next)) }
+/// Reads the attribute of an update array whose keys have this handle, if any.
+#[tactic(auto, unfolding(crate::specs::Arrays::update_attribute))]
+fn update_attribute<'a>(
+    handle: Option<u32>,
+    text: &mut Reader<'a>,
+) -> Result<SeenArray<'a>, WireFault>
+    ensures { Gives result text.new (mapped (with_seen handle) (update_attribute handle text.old)) }
 {
-    read_kind(kind, first, text, at, base)?;
-    let next = read_attribute(text, at, base)?.next;
-    if attribute_kind(text, at) == SIGNATURE_KEY {
-        return Ok(next);
-    }
-    read_array(kind, first, text, at, next, base)?;
-    Ok(next)
+    long_type(&[UPDATE_ARRAY], text)?;
+    let length_at = text.here();
+    let mut value = text.long_value()?;
+    update_array(handle, length_at, &mut value)
 }
 
-/// Reads the type of an attribute.
-fn read_kind(
-    kind: ArrayKind,
-    first: Option<usize>,
-    text: &[u8],
-    at: usize,
-    base: u32,
-) -> Result<(), WireFault>
-    requires within { at ≤ length text.now }
-    requires small { base + length text.now ≤ 4294967295 }
-    ensures answer { result ≡ answer (first_fault (kind_tests text.now base (due_kinds kind first) at)) tt }
-    ensures within { IfOk result (λ done. at + 2 ≤ length text.now) }
+/// Reads the next update array after one, if any.
+#[tactic(auto, unfolding(crate::specs::Arrays::next_update))]
+pub(crate) fn next_update<'a>(
+    handle: Option<u32>,
+    text: &mut Reader<'a>,
+) -> Result<Option<SeenArray<'a>>, WireFault>
+    ensures { Gives result text.new (mapped (option_map (with_seen handle)) (next_update handle text.old)) }
 {
-    skip(text, at, 2, base)?;
-    let number = attribute_kind(text, at);
-    if number != SIGNATURE_KEY && (!kind.is_due(first, number) || is_short(text, at)) {
-        return Err(fault(WireWhat::Kind { number }, base + at as u32));
+    signature_keys(text)?;
+    if text.is_at_end() {
+        return Ok(None);
     }
-    Ok(())
+    Ok(Some(update_attribute(handle, text)?))
 }
 
-/// Reads the array that stands between two places, given the one that came first.
-fn read_array(
-    kind: ArrayKind,
-    first: Option<usize>,
-    text: &[u8],
-    at: usize,
+/// What has been found of update arrays: whether one of their keys is that of the root, the place after the last one, and how many there
+/// are.
+#[derive(Clone, Copy)]
+struct Found {
+    has_root: bool,
     end: usize,
-    base: u32,
-) -> Result<(), WireFault>
-    requires end { end ≡ behind text.now at }
-    requires long { end ≡ at + 4 + attribute_number text.now at }
-    requires within { end ≤ length text.now }
-    requires first { IfSome first (λ first. first + 64 ≤ length text.now) }
-    requires small { base + length text.now ≤ 4294967295 }
-    ensures answer { result ≡ answer (array_fault text.now base kind first at) tt }
-    ensures room { IfOk result (λ done. at + 64 ≤ end) }
-{
-    read_version(text, at, end, base)?;
-    let count = read_count(kind, text, at, end, base)?;
-    read_keys(kind, first, count, text, at, base)?;
-    Ok(())
+    arrays: u32,
 }
 
-/// Reads the version of that array.
-fn read_version(text: &[u8], at: usize, end: usize, base: u32) -> Result<(), WireFault>
-    requires end { end ≡ behind text.now at }
-    requires least { at + 4 ≤ end }
-    requires within { end ≤ length text.now }
-    requires small { base + length text.now ≤ 4294967295 }
-    ensures answer { result ≡ answer (first_fault (version_tests text.now base at)) tt }
-    ensures within { IfOk result (λ done. at + 5 ≤ end) }
-{
-    skip(&text[..end], at + 4, 1, base)?;
-    if text[at + 4] != VERSION {
-        return Err(fault(WireWhat::Version, base + at as u32 + 4));
-    }
-    Ok(())
-}
-
-/// Reads the number of its keys, and that its length fits.
-fn read_count(
-    kind: ArrayKind,
-    text: &[u8],
-    at: usize,
-    end: usize,
-    base: u32,
-) -> Result<u16, WireFault>
-    requires end { end ≡ behind text.now at }
-    requires long { end ≡ at + 4 + attribute_number text.now at }
-    requires least { at + 5 ≤ end }
-    requires within { end ≤ length text.now }
-    requires small { base + length text.now ≤ 4294967295 }
-    ensures answer { result ≡ answer (first_fault (count_tests text.now base kind at)) (key_count text.now at) }
-    ensures within { IfOk result (λ count. first_key kind at + 48 * count ≤ length text.now) }
-    ensures some { IfOk result (λ count. 0 < count) }
-    ensures room { IfOk result (λ count. at + 64 ≤ end) }
-{
-    skip(&text[..end], at + 5, 2, base)?;
-    let count = BigEndian::read_u16(&text[at + 5..]);
-    if !kind.takes(count) {
-        return Err(fault(WireWhat::Value, base + at as u32 + 5));
-    }
-    if end - at - 4 != kind.head_size() + KEY_SIZE * usize::from(count) {
-        return Err(fault(WireWhat::Length, base + at as u32 + 2));
-    }
-    if text[at + 7] != 0 {
-        return Err(fault(WireWhat::Reserved, base + at as u32 + 7));
-    }
-    Ok(count)
-}
-
-/// Reads what comes after that in an array with so many keys.
-fn read_keys(
-    kind: ArrayKind,
-    first: Option<usize>,
-    count: u16,
-    text: &[u8],
-    at: usize,
-    base: u32,
-) -> Result<(), WireFault>
-    requires count { count ≡ key_count text.now at }
-    requires some { 0 < count }
-    requires within { first_key kind at + 48 * count ≤ length text.now }
-    requires first { IfSome first (λ first. first + 64 ≤ length text.now) }
-    requires small { base + length text.now ≤ 4294967295 }
-    ensures { result ≡ answer (first_fault (keys_tests text.now base kind first at)) tt }
-{
-    match kind {
-        ArrayKind::Download => read_path_keys(kind.first_key(at), count, text, base),
-        ArrayKind::Update => read_update(first.unwrap_or(at), count, text, at, base),
+impl Found {
+    /// The same after one more array, which ends at a place.
+    fn with(self, has_root: bool, end: usize) -> Self
+        requires { self.arrays < 4294967295 }
+        ensures { result ≡ record { has_root = self.has_root || has_root; end = end; arrays = self.arrays + 1 } }
+    {
+        Found {
+            has_root: self.has_root || has_root,
+            end,
+            arrays: self.arrays + 1,
+        }
     }
 }
 
-/// The same of an update array.
-fn read_update(first: usize, count: u16, text: &[u8], at: usize, base: u32) -> Result<(), WireFault>
-    requires within { first_key Update at + 48 * count ≤ length text.now }
-    requires first { first + 64 ≤ length text.now }
-    requires small { base + length text.now ≤ 4294967295 }
-    ensures { result ≡ answer (first_fault (update_tests text.now base first count at)) tt }
+/// Reads update arrays up to the end, no more than so many, whose keys have this handle, if any.
+fn more_updates(
+    most: u32,
+    handle: Option<u32>,
+    before: Found,
+    text: &mut Reader<'_>,
+) -> Result<Found, WireFault>
+    requires { before.arrays + most ≤ 4294967295 }
+    ensures { Gives result text.new (mapped (found_after before) (more_updates most handle text.old)) }
 {
-    read_sealer(text, at, base)?;
-    let handle = key_made(text, ArrayKind::Update.first_key(first));
-    read_given_keys(handle, ArrayKind::Update.first_key(at), count, text, base)
+    let mut found = before;
+    let mut handle = handle;
+    for _ in 0..most {
+        let Some(next) = next_update(handle, text)? else {
+            return Ok(found);
+        };
+        handle = next.seen.handle;
+        found = found.with(next.seen.has_root, text.place());
+    }
+    Ok(found)
 }
 
-/// Reads which key an update array's first key is sealed under.
-fn read_sealer(text: &[u8], at: usize, base: u32) -> Result<(), WireFault>
-    requires within { at + 16 ≤ length text.now }
-    requires small { base + length text.now ≤ 4294967295 }
-    ensures { result ≡ answer (first_fault (sealer_tests text.now base at)) tt }
+/// Where update arrays stand, and whether one of their keys is that of the root.
+#[derive(Clone, Copy)]
+pub(crate) struct SeenUpdates {
+    pub(crate) span: UpdateSpan,
+    pub(crate) has_root: bool,
+}
+
+/// Reads the update arrays of a packet up to its end.
+#[tactic(auto, unfolding(crate::specs::Arrays::updates))]
+pub(crate) fn updates(text: &mut Reader<'_>) -> Result<SeenUpdates, WireFault>
+    ensures { Gives result text.new (mapped seen_updates (updates text.old)) }
 {
-    if BigEndian::read_u16(&text[at + 8..]) == 0 {
-        return Err(fault(WireWhat::Value, base + at as u32 + 8));
-    }
-    if BigEndian::read_u16(&text[at + 10..]) != 0 {
-        return Err(fault(WireWhat::Reserved, base + at as u32 + 10));
-    }
-    Ok(())
+    signature_keys(text)?;
+    let start = text.place();
+    let most = text.octets_left();
+    let first = update_attribute(None, text)?;
+    let before = Found {
+        has_root: first.seen.has_root,
+        end: text.place(),
+        arrays: 1,
+    };
+    let found = more_updates(most.saturating_sub(1), first.seen.handle, before, text)?;
+    let span = UpdateSpan {
+        start,
+        end: found.end,
+        arrays: found.arrays,
+    };
+    Ok(SeenUpdates {
+        span,
+        has_root: found.has_root,
+    })
 }

@@ -1,139 +1,115 @@
-//! Keys of LKH in an array.
-ghost use Rattle.std.specs.Prelude.{◌≡◌, ◌+◌, ◌*◌, ◌<◌, ◌≤◌, length};
-ghost use Rattle.gd_wire.specs.Faults.{first_fault, answer};
-ghost use Rattle.kd_wire.specs.Keys.{place_of_key, key_id, key_made, is_on_path, type_tests, path_key_tests, given_key_tests, path_tests, given_tests};
+//! Keys of LKH.
+ghost use Rattle.std.specs.Prelude.{◌≡◌, ◌≤◌, None, Some, if◌then◌else◌};
+ghost use Rattle.gd_wire.specs.Readings.{Gives};
+ghost use Rattle.kd_wire.specs.Keys.{key_type, is_above, is_on_path, path_key, path_keys, is_of, given_key};
 
-use byteorder::{BigEndian, ByteOrder};
-use gd_wire::fault;
-use group_terms::{WireFault, WireWhat};
+use crate::updates::UpdateKey;
+use gd_wire::{Reader, fault};
+use group_terms::{
+    IV_OCTETS, KEY_OCTETS, LONGEST_PATH, LkhId, NodeValue, Path, PathKey, WireFault, WireWhat,
+};
 
-/// The size of a key.
-pub(crate) const KEY_SIZE: usize = 48;
+/// The size of the data of a key, and of a key.
+pub(crate) const DATA_SIZE: usize = IV_OCTETS + KEY_OCTETS;
+
+pub(crate) const KEY_SIZE: usize = 16 + DATA_SIZE;
 
 /// The type of a key of AES.
 pub(crate) const AES: u8 = 3;
 
-/// Reads so many keys of a path, the first of which stands at a place.
-pub(crate) fn read_path_keys(
-    first: usize,
-    count: u16,
-    text: &[u8],
-    base: u32,
-) -> Result<(), WireFault>
-    requires within { first + 48 * count ≤ length text.now }
-    requires small { base + length text.now ≤ 4294967295 }
-    ensures { result ≡ answer (first_fault (path_tests text.now base first count)) tt }
-{
-    for k in 0..count {
-        read_path_key(first, count, k, text, base)?;
-    }
-    Ok(())
-}
-
-/// Reads a key of a path.
-fn read_path_key(first: usize, count: u16, k: u16, text: &[u8], base: u32) -> Result<(), WireFault>
-    requires inside { k < count }
-    requires within { first + 48 * count ≤ length text.now }
-    requires small { base + length text.now ≤ 4294967295 }
-    ensures { result ≡ answer (first_fault (path_key_tests text.now base first count k)) tt }
-{
-    let at = place_of_key(first, k);
-    if !is_on_path(first, count, k, text) {
-        return Err(fault(WireWhat::Value, base + at as u32));
-    }
-    read_type(text, at, base)
-}
-
-/// Whether the LKH ID of a key of a path is due.
-fn is_on_path(first: usize, count: u16, k: u16, text: &[u8]) -> bool
-    requires inside { k < count }
-    requires within { first + 48 * count ≤ length text.now }
-    ensures { result ≡ is_on_path text.now first count k }
-{
-    let id = key_id(text, place_of_key(first, k));
-    if id == 0 {
-        return false;
-    }
-    if k > 0 && id != key_id(text, place_of_key(first, k - 1)) / 2 {
-        return false;
-    }
-    k + 1 < count || id == 1
-}
-
-/// Reads so many keys that an update gives, which have this handle.
-pub(crate) fn read_given_keys(
-    handle: u32,
-    first: usize,
-    count: u16,
-    text: &[u8],
-    base: u32,
-) -> Result<(), WireFault>
-    requires within { first + 48 * count ≤ length text.now }
-    requires small { base + length text.now ≤ 4294967295 }
-    ensures { result ≡ answer (first_fault (given_tests text.now base handle first count)) tt }
-{
-    for k in 0..count {
-        read_given_key(handle, first, k, text, base)?;
-    }
-    Ok(())
-}
-
-/// Reads a key that an update gives.
-fn read_given_key(
-    handle: u32,
-    first: usize,
-    k: u16,
-    text: &[u8],
-    base: u32,
-) -> Result<(), WireFault>
-    requires within { first + 48 * k + 48 ≤ length text.now }
-    requires small { base + length text.now ≤ 4294967295 }
-    ensures { result ≡ answer (first_fault (given_key_tests text.now base handle (place_of_key first k))) tt }
-{
-    let at = place_of_key(first, k);
-    if key_id(text, at) == 0 {
-        return Err(fault(WireWhat::Value, base + at as u32));
-    }
-    read_type(text, at, base)?;
-    if key_made(text, at) != handle {
-        return Err(fault(WireWhat::Value, base + at as u32 + 12));
-    }
-    Ok(())
-}
+/// The size of its dates.
+const DATES: usize = 8;
 
 /// Reads the type of a key and the reserved octet after it.
-fn read_type(text: &[u8], at: usize, base: u32) -> Result<(), WireFault>
-    requires within { at + 48 ≤ length text.now }
-    requires small { base + length text.now ≤ 4294967295 }
-    ensures { result ≡ answer (first_fault (type_tests text.now base at)) tt }
+#[tactic(auto, unfolding(crate::specs::Keys::key_type))]
+fn key_type(text: &mut Reader<'_>) -> Result<(), WireFault>
+    ensures { Gives result text.new (key_type text.old) }
 {
-    if text[at + 2] != AES {
-        return Err(fault(WireWhat::Value, base + at as u32 + 2));
+    text.due_octet(AES, WireWhat::Value)?;
+    text.due_octet(0, WireWhat::Reserved)
+}
+
+/// Reads so many keys of a path.
+pub(crate) fn path_keys(count: u16, text: &mut Reader<'_>) -> Result<Path, WireFault>
+    requires { count ≤ LONGEST_PATH }
+    ensures { Gives result text.new (path_keys count None text.old) }
+{
+    let mut path = Path::new();
+    let mut below = None;
+    for k in 0..count {
+        let key = path_key(count - (k + 1), below, text)?;
+        below = Some(key.id);
+        path.push(key);
     }
-    if text[at + 3] != 0 {
-        return Err(fault(WireWhat::Reserved, base + at as u32 + 3));
+    Ok(path)
+}
+
+/// Reads a key of a path, before so many more.
+#[tactic(auto, unfolding(crate::specs::Keys::path_key))]
+fn path_key(more: u16, below: Option<LkhId>, text: &mut Reader<'_>) -> Result<PathKey, WireFault>
+    ensures { Gives result text.new (path_key more below text.old) }
+{
+    let at = text.here();
+    let number = text.number()?;
+    let Some(id) = id_on_path(more, below, number) else {
+        return Err(fault(WireWhat::Value, at));
+    };
+    key_type(text)?;
+    text.octets(DATES)?;
+    let made = text.long_number()?;
+    let iv = text.array()?;
+    let key = text.array()?;
+    let value = NodeValue { iv, key };
+    Ok(PathKey { id, made, value })
+}
+
+/// The position of this number, where it is due on a path.
+fn id_on_path(more: u16, below: Option<LkhId>, number: u16) -> Option<LkhId>
+    ensures { result ≡ (if is_on_path more below number then Some number else None) }
+{
+    let id = LkhId::new(number)?;
+    if !is_above(below, number) || (more == 0 && number != 1) {
+        return None;
     }
-    Ok(())
+    Some(id)
 }
 
-/// The place of a key, counted from 0, among keys of which the first stands at a place.
-pub(crate) fn place_of_key(first: usize, k: u16) -> usize
-    requires { first + 48 * k ≤ 18446744073709551615 }
-    ensures { result ≡ place_of_key first k }
+/// Whether a position of this number is above another one, if any.
+fn is_above(below: Option<LkhId>, number: u16) -> bool
+    ensures { result ≡ is_above below number }
 {
-    first + KEY_SIZE * usize::from(k)
+    match below {
+        Some(below) => number == below.number() / 2,
+        None => true,
+    }
 }
 
-pub(crate) fn key_id(text: &[u8], at: usize) -> u16
-    requires { at + 48 ≤ length text.now }
-    ensures { result ≡ key_id text.now at }
+/// Reads a key that an update gives, which has this handle, if any.
+#[tactic(auto, unfolding(crate::specs::Keys::given_key))]
+pub(crate) fn given_key(handle: Option<u32>, text: &mut Reader<'_>) -> Result<UpdateKey, WireFault>
+    ensures { Gives result text.new (given_key handle text.old) }
 {
-    BigEndian::read_u16(&text[at..])
+    let at = text.here();
+    let Some(id) = LkhId::new(text.number()?) else {
+        return Err(fault(WireWhat::Value, at));
+    };
+    key_type(text)?;
+    text.octets(DATES)?;
+    let made_at = text.here();
+    let made = text.long_number()?;
+    if !is_of(handle, made) {
+        return Err(fault(WireWhat::Value, made_at));
+    }
+    let sealed = text.array()?;
+    Ok(UpdateKey { id, made, sealed })
 }
 
-pub(crate) fn key_made(text: &[u8], at: usize) -> u32
-    requires { at + 48 ≤ length text.now }
-    ensures { result ≡ key_made text.now at }
+/// Whether a key has the handle that is asked for, if any.
+fn is_of(handle: Option<u32>, made: u32) -> bool
+    ensures { result ≡ is_of handle made }
 {
-    BigEndian::read_u32(&text[at + 12..])
+    match handle {
+        Some(handle) => made == handle,
+        None => true,
+    }
 }

@@ -3,25 +3,40 @@
 #![tactic(auto)]
 
 pub use bodies::{KdView, read_kd};
+pub use fits::{job_fits, path_key_fits, path_keys_fit, spi_fits, traffic_fits};
 pub use group_terms::{Keyed, LkhId, NodeValue, Path, PathKey, TrafficValue, WireFault, WireWhat};
 pub use laws::{
-    a_body_has_one_of_three_forms, a_fault_is_there_from_any_base, a_walk_goes_on,
-    a_written_reply_is_read, a_written_traffic_key_is_read, given_keys_are_of_one_epoch,
-    spis_stand_at_known_places, written_texts_have_their_size, written_updates_are_read,
+    a_body_has_one_of_three_forms, a_sealed_key_opens, a_span_has_the_arrays_that_were_read,
+    a_written_reply_is_read, a_written_text_of_updates_is_read, a_written_traffic_key_is_read,
+    given_keys_are_of_one_epoch, jobs_of_a_push_are_updates, written_updates_are_read,
 };
 pub use sealing::{WrapJob, write_update};
+pub use sizes::{reply_kd_size, traffic_kd_size, update_kd_size};
+pub use spans::{UpdateSpan, Updates};
+pub use spis::SpiPlaces;
+pub use text_laws::{
+    texts_of_jobs_are_put_together, texts_of_jobs_are_sealed, written_texts_are_octets,
+    written_texts_have_their_size,
+};
 pub use texts::{write_reply_kd, write_traffic_kd, write_update_kd};
-pub use updates::{UpdateArray, UpdateKey, UpdateSpan, next_update, update_key};
+pub use updates::{SealedKey, SealedKeys, UpdateArray, UpdateKey};
 
 mod arrays;
 mod bodies;
+mod downloads;
+mod fits;
 mod keys;
 mod laws;
-mod paths;
 mod sealing;
+mod sizes;
+mod spans;
 mod spis;
 #[cfg(test)]
 mod tests;
+mod text_laws;
+#[cfg(test)]
+mod text_tests;
 mod texts;
 mod traffic;
 mod updates;
+mod widths;

@@ -1,17 +1,16 @@
 //! Keys that are sealed for those who stay.
-ghost use Rattle.std.specs.Prelude.{◌≡◌, ◌∷◌, ◌++◌, List, ℕ, length, take, OnOk, OnErr};
-ghost use Rattle.byteorder.specs.Endian.{big_bytes};
+ghost use Rattle.std.specs.Prelude.{◌≡◌, ◌++◌, List, ℕ, length, take, OnOk, OnErr};
 ghost use Rattle.gd_cipher.specs.Chains.{IsSealed};
+ghost use Rattle.group_terms.specs.Octets.{AreOctets, data_octets};
+ghost use Rattle.kd_wire.specs.Private.Heads.{sealer_head};
 ghost use Rattle.kd_wire.specs.Texts.{IsUpdate, update_text, key_head, data_of};
 
 use crate::arrays::{UPDATE_ARRAY, VERSION};
 use crate::keys::AES;
+use crate::widths::{DATA_OCTETS, UPDATE_ARRAY_OCTETS};
 use byteorder::{BigEndian, ByteOrder};
 use gd_cipher::{Key128, cbc_seal};
-use group_terms::{NoMemory, NodeValue, Octets, PathKey};
-
-/// The size of an update array with one key.
-const ARRAY_SIZE: u8 = 60;
+use group_terms::{IV_OCTETS, NoMemory, NodeValue, Octets, PathKey};
 
 /// A key that is to be sealed under another one.
 #[derive(Clone, Copy, Debug, PartialEq, Eq)]
@@ -20,26 +19,23 @@ pub struct WrapJob {
     pub gives: PathKey,
 }
 
-/// Appends the update array of a job, as an attribute of 64 octets (RFC 6407 section 5.6.3.2): the given key's IV and octets are sealed by
-/// cipher block chaining under the other key, with that key's IV.
+/// Appends the update array of a job, as an attribute (RFC 6407 section 5.6.3.2): the given key's IV and octets are sealed by cipher block
+/// chaining under the other key, with that key's IV.
 pub fn write_update(job: &WrapJob, out: &mut Octets) -> Result<(), NoMemory>
     ensures ok { OnOk result ((text : List ℕ) × IsUpdate job.now text × (out.new ≡ out.old ++ text)) }
     ensures err { OnErr result (out.new ≡ out.old) }
 {
     let before = out.len();
     let sealed = sealed(&job.by.value, &job.gives.value);
-    match append_update(job, &sealed, out) {
-        Ok(()) => Ok(()),
-        Err(NoMemory) => {
-            out.truncate(before);
-            Err(NoMemory)
-        }
-    }
+    let appended = append_update(job, &sealed, out);
+    out.keep_or_truncate(before, appended)
 }
 
 /// Appends that array with this sealed data; where memory is short, maybe only a part of it.
-fn append_update(job: &WrapJob, sealed: &[u8; 32], out: &mut Octets) -> Result<(), NoMemory>
+fn append_update(job: &WrapJob, sealed: &[u8], out: &mut Octets) -> Result<(), NoMemory>
+    requires { length sealed.now ≡ data_octets }
     ensures ok { OnOk result (out.new ≡ out.old ++ update_text job.now sealed.now) }
+    ensures octets { OnOk result (AreOctets sealed.now) }
     ensures err { OnErr result (take (length out.old) out.new ≡ out.old) }
 {
     append_sealer(&job.by, out)?;
@@ -50,21 +46,24 @@ fn append_update(job: &WrapJob, sealed: &[u8; 32], out: &mut Octets) -> Result<(
 
 /// Appends what stands before the key, and names the one under which that is sealed.
 fn append_sealer(by: &PathKey, out: &mut Octets) -> Result<(), NoMemory>
-    ensures ok { OnOk result (out.new ≡ out.old ++ (0 ∷ 2 ∷ 0 ∷ 60 ∷ 1 ∷ 0 ∷ 1 ∷ 0 ∷ big_bytes 2 by.now.id ++ (0 ∷ 0 ∷ big_bytes 4 by.now.made))) }
+    ensures ok { OnOk result (out.new ≡ out.old ++ sealer_head by.now) }
     ensures err { OnErr result (take (length out.old) out.new ≡ out.old) }
 {
+    let mut head = [0, UPDATE_ARRAY as u8, 0, 0, VERSION, 0, 1, 0];
+    BigEndian::write_u16(&mut head[2..4], UPDATE_ARRAY_OCTETS as u16);
     let mut id = [0; 4];
     BigEndian::write_u16(&mut id[..2], by.id.number());
     let mut made = [0; 4];
     BigEndian::write_u32(&mut made, by.made);
-    out.extend(&[0, UPDATE_ARRAY as u8, 0, ARRAY_SIZE, VERSION, 0, 1, 0])?;
+    out.extend(&head)?;
     out.extend(&id)?;
     out.extend(&made)
 }
 
 /// The IV and the octets of a key, sealed under another one.
-fn sealed(by: &NodeValue, gives: &NodeValue) -> [u8; 32]
-    ensures { IsSealed by.now.key by.now.iv (data_of gives.now) result }
+fn sealed(by: &NodeValue, gives: &NodeValue) -> [u8; DATA_OCTETS]
+    ensures sealed { IsSealed by.now.key by.now.iv (data_of gives.now) result }
+    ensures size { length result ≡ data_octets }
 {
     let key = Key128::new(by.key);
     let mut data = data_of(gives);
@@ -73,11 +72,11 @@ fn sealed(by: &NodeValue, gives: &NodeValue) -> [u8; 32]
 }
 
 /// The IV and the octets of a key.
-pub(crate) fn data_of(value: &NodeValue) -> [u8; 32]
+pub(crate) fn data_of(value: &NodeValue) -> [u8; DATA_OCTETS]
     ensures { result ≡ data_of value.now }
 {
-    let mut data = [0; 32];
-    let (iv, key) = data.split_at_mut(16);
+    let mut data = [0; DATA_OCTETS];
+    let (iv, key) = data.split_at_mut(IV_OCTETS);
     iv.copy_from_slice(&value.iv);
     key.copy_from_slice(&value.key);
     data

@@ -1,20 +1,23 @@
 //! The SPI of a key packet.
-ghost use Rattle.std.specs.Prelude.{◌≡◌, ◌+◌, ◌≤◌, length, IfOk};
-ghost use Rattle.gd_wire.specs.Faults.{first_fault, answer};
-ghost use Rattle.kd_wire.specs.Spis.{spi_tests};
+ghost use Rattle.gd_wire.specs.Readings.{Gives};
+ghost use Rattle.kd_wire.specs.Spis.{spi_place};
 
-use gd_wire::{fault, read_octet, skip};
-use group_terms::{WireFault, WireWhat};
+use gd_wire::{Reader, WireWhat};
+use group_terms::WireFault;
 
-/// The place after the SPI of this size, whose size is at a place.
-pub(crate) fn skip_spi(size: u8, text: &[u8], at: usize, base: u32) -> Result<usize, WireFault>
-    requires within { at ≤ length text.now }
-    requires small { base + length text.now ≤ 4294967295 }
-    ensures answer { result ≡ answer (first_fault (spi_tests text.now base size at)) (at + 1 + size) }
-    ensures within { IfOk result (λ next. next ≤ length text.now) }
+/// The places in the datagram of the SPIs of the packet for a traffic key and of that for keys of the tree, where there is one. Where such
+/// a SPI is not that of another payload, this is the place to tell.
+#[derive(Clone, Copy, Debug, PartialEq, Eq)]
+pub struct SpiPlaces {
+    pub tek: Option<u32>,
+    pub lkh: Option<u32>,
+}
+
+/// Reads the size of a SPI, which has to be this one; gives the place of the SPI, which comes next.
+#[tactic(auto, unfolding(crate::specs::Spis::spi_place))]
+pub(crate) fn spi_place(size: u8, text: &mut Reader<'_>) -> Result<u32, WireFault>
+    ensures { Gives result text.new (spi_place size text.old) }
 {
-    if read_octet(text, at, base)? != size {
-        return Err(fault(WireWhat::Value, base + at as u32));
-    }
-    skip(text, at + 1, usize::from(size), base)
+    text.due_octet(size, WireWhat::Value)?;
+    Ok(text.here())
 }

@@ -1,9 +1,7 @@
-ghost use Rattle.std.specs.Prelude.{◌≤◌};
-
 use crate::{
-    KdView, Keyed, LkhId, NodeValue, Path, PathKey, TrafficValue, UpdateArray, UpdateKey,
-    UpdateSpan, WireFault, WireWhat, WrapJob, a_walk_goes_on, next_update, read_kd, update_key,
-    write_reply_kd, write_traffic_kd, write_update, write_update_kd,
+    KdView, Keyed, LkhId, NodeValue, Path, PathKey, SpiPlaces, TrafficValue, UpdateKey, UpdateSpan,
+    WireFault, WireWhat, WrapJob, read_kd, write_reply_kd, write_traffic_kd, write_update,
+    write_update_kd,
 };
 use group_terms::{List, Octets};
 use std::alloc::Global;
@@ -48,6 +46,8 @@ fn a_traffic_key_is_written_and_read(rt: HostRuntime) -> Result<(), Fail> {
         (view.tek, view.lkh_spi, view.updates),
         (Some(traffic()), None, None)
     );
+    let (tek, lkh) = (Some(9), None);
+    assert_eq!(rt; view.spis, SpiPlaces { tek, lkh });
     assert_eq!(rt; view.download.keys().len(), 0);
     Ok(())
 }
@@ -76,6 +76,8 @@ fn a_reply_is_written_and_read(rt: HostRuntime) -> Result<(), Fail> {
         (view.tek, view.lkh_spi, view.updates),
         (Some(traffic()), Some(octets(9)), None)
     );
+    let (tek, lkh) = (Some(9), Some(74));
+    assert_eq!(rt; view.spis, SpiPlaces { tek, lkh });
     assert_eq!(rt; view.download.keys(), [leaf, above, root].as_slice());
     Ok(())
 }
@@ -101,23 +103,8 @@ fn keys_are_sealed(rt: HostRuntime) -> Result<(), Fail> {
 fn arrays_are_walked(rt: HostRuntime) -> Result<(), Fail> {
     let body = hex::decode(rt.alloc(), UPDATES)?;
     let body = body.as_slice();
-    if body.len() > 65_507 {
-        return Err("more than a datagram holds".into());
-    }
-    let Ok(view) = read_kd(body, 0) else {
-        return Err("a body without fault".into());
-    };
-    let Some(span) = view.updates else {
-        return Err("update arrays".into());
-    };
-    a_walk_goes_on();
-    let Some(first) = next_update(body, &span, span.start) else {
-        return Err("a first array".into());
-    };
-    let Some(second) = next_update(body, &span, first.next) else {
-        return Err("a second array".into());
-    };
-    assert_eq!(rt; next_update(body, &span, second.next), None);
+    let view = read(body)?.map_err(|_| "a body without fault")?;
+    let span = view.updates.ok_or("update arrays")?;
     assert_eq!(rt;
         span,
         UpdateSpan {
@@ -126,24 +113,69 @@ fn arrays_are_walked(rt: HostRuntime) -> Result<(), Fail> {
             arrays: 2
         }
     );
-    assert_eq!(rt; first, array(4, 1, 41)?);
-    assert_eq!(rt; second, array(2, 2, 105)?);
-    if second.keys == 0 {
-        return Err("a key".into());
-    }
+    let mut arrays = span.arrays(body);
+    let first = arrays.next().ok_or("a first array")?;
+    let mut second = arrays.next().ok_or("a second array")?;
+    assert_eq!(rt; arrays.next().is_none(), true);
+    assert_eq!(rt; (first.by, first.by_made), (id(4)?, 1));
+    assert_eq!(rt; (second.by, second.by_made), (id(2)?, 2));
     let sealed = hex::decode(
         rt.alloc(),
         "e8efcf39975a5ca65201b69242e9fd868de47b8c3e924036d2f0f959e9e968bb",
     )?;
     let sealed = *sealed.as_slice().first_chunk().ok_or("32 octets")?;
+    let key = second.keys.next().ok_or("a key")?;
     assert_eq!(rt;
-        update_key(body, &second, 0),
+        key.gives,
         UpdateKey {
             id: id(1)?,
             made: 2,
             sealed
         }
     );
+    assert_eq!(rt; second.keys.next(), None);
+    Ok(())
+}
+
+/// Three keys of an array: the key that the array names, of position 4 and epoch 1, seals the first one, and each further one is sealed by
+/// the key before it.
+#[test]
+fn keys_of_an_array_are_sealed_in_turn(rt: HostRuntime) -> Result<(), Fail> {
+    let alloc = rt.alloc();
+    let array = array_of(alloc, &["3:2", "2:2", "1:2"])?;
+    if array.len() > 65_000 {
+        return Err("more than a payload holds".into());
+    }
+    let mut body = List::new(alloc);
+    write_update_kd(&octets(9), array.as_slice(), &mut body)?;
+    let view = read(body.as_slice())?.map_err(|_| "a body without fault")?;
+    let span = view.updates.ok_or("update arrays")?;
+    let mut seals = List::new(alloc);
+    for array in span.arrays(body.as_slice()) {
+        for key in array.keys {
+            seals.push((key.by, key.by_made, key.gives.id, key.gives.made))?;
+        }
+    }
+    let (fourth, third, second, root) = (id(4)?, id(3)?, id(2)?, id(1)?);
+    let pairs = [
+        (fourth, 1, third, 2),
+        (third, 2, second, 2),
+        (second, 2, root, 2),
+    ];
+    assert_eq!(rt; seals.as_slice(), pairs.as_slice());
+    Ok(())
+}
+
+/// A span has no arrays in a body out of which it leads.
+#[test]
+fn spans_stay_in_their_body(rt: HostRuntime) -> Result<(), Fail> {
+    let body = hex::decode(rt.alloc(), UPDATES)?;
+    let span = UpdateSpan {
+        start: 25,
+        end: 154,
+        arrays: 2,
+    };
+    assert_eq!(rt; span.arrays(body.as_slice()).next().is_none(), true);
     Ok(())
 }
 
@@ -318,17 +350,4 @@ fn id(number: u16) -> Result<LkhId, Fail> {
 
 fn job(by: PathKey, gives: PathKey) -> WrapJob {
     WrapJob { by, gives }
-}
-
-/// An array of one key, of which the first key stands at a place.
-fn array(by: u16, by_made: u32, first: usize) -> Result<UpdateArray, Fail>
-    requires { first ≤ 65507 }
-{
-    Ok(UpdateArray {
-        by: id(by)?,
-        by_made,
-        keys: 1,
-        first,
-        next: first + 48,
-    })
 }

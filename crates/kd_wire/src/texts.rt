@@ -1,21 +1,21 @@
 //! The text of a key download payload's body.
-ghost use Rattle.std.specs.Prelude.{◌≡◌, ◌+◌, ◌*◌, ◌++◌, ◌≤◌, [], ◌∷◌, length, take, OnOk, OnErr};
-ghost use Rattle.byteorder.specs.Endian.{big_bytes};
-ghost use Rattle.kd_wire.specs.Texts.{traffic_kd, update_kd, reply_kd, traffic_text, packet_head, packet_text, download_text, body_text, path_text, key_text, data_of};
+ghost use Rattle.std.specs.Prelude.{◌≡◌, ◌*◌, ◌++◌, ◌≤◌, length, take, OnOk, OnErr};
+ghost use Rattle.kd_wire.specs.Private.Heads.{download_head};
+ghost use Rattle.kd_wire.specs.Texts.{traffic_kd, update_kd, reply_kd};
+ghost use Rattle.kd_wire.specs.Texts.{body_text, packet_head, packet_text, traffic_text, download_text, path_text, key_text, data_of};
+ghost use Rattle.kd_wire.specs.Widths.{lkh_key_octets};
 
 use crate::arrays::{DOWNLOAD_ARRAY, VERSION};
-use crate::bodies::{LKH, LKH_SPI_SIZE, TEK};
-use crate::keys::KEY_SIZE;
+use crate::bodies::{LKH, TEK};
 use crate::sealing::append_key_head;
-use crate::traffic::{CIPHER_KEY, INTEGRITY_KEY, SPI_SIZE};
+use crate::traffic::{CIPHER_KEY, INTEGRITY_KEY};
+use crate::widths::{
+    DOWNLOAD_HEAD, LKH_HEAD_OCTETS, LKH_KEY_OCTETS, REKEY_SPI_OCTETS, TRAFFIC_OCTETS,
+    TRAFFIC_SPI_OCTETS,
+};
 use byteorder::{BigEndian, ByteOrder};
 use gd_wire::write_long;
 use group_terms::{Keyed, NoMemory, Octets, PathKey, TrafficValue};
-
-/// The size of a packet for a traffic key, and of what stands before the attributes in a packet for keys of the tree.
-const TRAFFIC_SIZE: u8 = 65;
-
-const LKH_HEAD: u16 = 21;
 
 /// Appends the body that gives a traffic key alone.
 pub fn write_traffic_kd(traffic: &TrafficValue, out: &mut Octets) -> Result<(), NoMemory>
@@ -23,29 +23,23 @@ pub fn write_traffic_kd(traffic: &TrafficValue, out: &mut Octets) -> Result<(), 
     ensures err { OnErr result (out.new ≡ out.old) }
 {
     let before = out.len();
-    match append_traffic(1, traffic, out) {
-        Ok(()) => Ok(()),
-        Err(NoMemory) => {
-            out.truncate(before);
-            Err(NoMemory)
-        }
-    }
+    let appended = append_traffic(1, traffic, out);
+    out.keep_or_truncate(before, appended)
 }
 
 /// Appends the body that gives keys by update arrays, whose text is at most 65,000 octets, with the SPI of rekey datagrams.
-pub fn write_update_kd(spi: &[u8; 16], arrays: &[u8], out: &mut Octets) -> Result<(), NoMemory>
+pub fn write_update_kd(
+    spi: &[u8; REKEY_SPI_OCTETS],
+    arrays: &[u8],
+    out: &mut Octets,
+) -> Result<(), NoMemory>
     requires { length arrays.now ≤ 65000 }
     ensures ok { OnOk result (out.new ≡ out.old ++ update_kd spi.now arrays.now) }
     ensures err { OnErr result (out.new ≡ out.old) }
 {
     let before = out.len();
-    match append_updates(spi, arrays, out) {
-        Ok(()) => Ok(()),
-        Err(NoMemory) => {
-            out.truncate(before);
-            Err(NoMemory)
-        }
-    }
+    let appended = append_updates(spi, arrays, out);
+    out.keep_or_truncate(before, appended)
 }
 
 /// Appends the body for a member that registers: the traffic key, the SPI of rekey datagrams, and the keys of its path.
@@ -54,13 +48,8 @@ pub fn write_reply_kd(keyed: &Keyed, out: &mut Octets) -> Result<(), NoMemory>
     ensures err { OnErr result (out.new ≡ out.old) }
 {
     let before = out.len();
-    match append_reply(keyed, out) {
-        Ok(()) => Ok(()),
-        Err(NoMemory) => {
-            out.truncate(before);
-            Err(NoMemory)
-        }
-    }
+    let appended = append_reply(keyed, out);
+    out.keep_or_truncate(before, appended)
 }
 
 /// Appends a body's head, for so many packets, and the packet of a traffic key.
@@ -68,20 +57,26 @@ fn append_traffic(count: u8, traffic: &TrafficValue, out: &mut Octets) -> Result
     ensures ok { OnOk result (out.new ≡ out.old ++ body_text count (traffic_text traffic.now)) }
     ensures err { OnErr result (take (length out.old) out.new ≡ out.old) }
 {
-    out.extend(&[0, count, 0, 0, TEK, 0, 0, TRAFFIC_SIZE, SPI_SIZE])?;
+    let mut head = [0, count, 0, 0, TEK, 0, 0, 0, TRAFFIC_SPI_OCTETS as u8];
+    BigEndian::write_u16(&mut head[6..8], TRAFFIC_OCTETS as u16);
+    out.extend(&head)?;
     out.extend(&traffic.spi)?;
     write_long(CIPHER_KEY, &traffic.cipher_key, out)?;
     write_long(INTEGRITY_KEY, &traffic.integrity_key, out)?;
     Ok(())
 }
 
-fn append_updates(spi: &[u8; 16], arrays: &[u8], out: &mut Octets) -> Result<(), NoMemory>
+fn append_updates(
+    spi: &[u8; REKEY_SPI_OCTETS],
+    arrays: &[u8],
+    out: &mut Octets,
+) -> Result<(), NoMemory>
     requires { length arrays.now ≤ 65000 }
     ensures ok { OnOk result (out.new ≡ out.old ++ update_kd spi.now arrays.now) }
     ensures err { OnErr result (take (length out.old) out.new ≡ out.old) }
 {
     out.extend(&[0, 1, 0, 0])?;
-    append_lkh_head(spi, arrays.len() as u16, out)?;
+    append_lkh_head(spi, arrays.len(), out)?;
     out.extend(arrays)?;
     Ok(())
 }
@@ -95,26 +90,34 @@ fn append_reply(keyed: &Keyed, out: &mut Octets) -> Result<(), NoMemory>
 }
 
 /// Appends the packet with the download array of a path.
-fn append_download(spi: &[u8; 16], keys: &[PathKey], out: &mut Octets) -> Result<(), NoMemory>
+fn append_download(
+    spi: &[u8; REKEY_SPI_OCTETS],
+    keys: &[PathKey],
+    out: &mut Octets,
+) -> Result<(), NoMemory>
     requires { length keys.now ≤ 16 }
     ensures ok { OnOk result (out.new ≡ out.old ++ packet_text 3 spi.now (download_text keys.now)) }
     ensures err { OnErr result (take (length out.old) out.new ≡ out.old) }
 {
     let count = keys.len();
-    append_lkh_head(spi, (8 + KEY_SIZE * count) as u16, out)?;
+    append_lkh_head(spi, DOWNLOAD_HEAD + LKH_KEY_OCTETS * count, out)?;
     append_download_head(count as u8, out)?;
     append_keys(keys, out)?;
     Ok(())
 }
 
 /// Appends what stands before the attributes, of this size, in a packet for keys of the tree.
-fn append_lkh_head(spi: &[u8; 16], size: u16, out: &mut Octets) -> Result<(), NoMemory>
+fn append_lkh_head(
+    spi: &[u8; REKEY_SPI_OCTETS],
+    size: usize,
+    out: &mut Octets,
+) -> Result<(), NoMemory>
     requires { size ≤ 65000 }
     ensures ok { OnOk result (out.new ≡ out.old ++ packet_head 3 spi.now size) }
     ensures err { OnErr result (take (length out.old) out.new ≡ out.old) }
 {
-    let mut head = [LKH, 0, 0, 0, LKH_SPI_SIZE];
-    BigEndian::write_u16(&mut head[2..4], LKH_HEAD + size);
+    let mut head = [LKH, 0, 0, 0, REKEY_SPI_OCTETS as u8];
+    BigEndian::write_u16(&mut head[2..4], (LKH_HEAD_OCTETS + size) as u16);
     out.extend(&head)?;
     out.extend(spi)
 }
@@ -122,18 +125,21 @@ fn append_lkh_head(spi: &[u8; 16], size: u16, out: &mut Octets) -> Result<(), No
 /// Appends what stands before so many keys in a download array, with the header of its attribute.
 fn append_download_head(count: u8, out: &mut Octets) -> Result<(), NoMemory>
     requires { count ≤ 16 }
-    ensures ok { OnOk result (out.new ≡ out.old ++ (0 ∷ 1 ∷ big_bytes 2 (4 + 48 * count) ++ (1 ∷ big_bytes 2 count ++ (0 ∷ [])))) }
+    ensures ok { OnOk result (out.new ≡ out.old ++ download_head count) }
     ensures err { OnErr result (out.new ≡ out.old) }
 {
     let mut head = [0, DOWNLOAD_ARRAY as u8, 0, 0, VERSION, 0, count, 0];
-    BigEndian::write_u16(&mut head[2..4], 4 + 48 * u16::from(count));
+    BigEndian::write_u16(
+        &mut head[2..4],
+        (4 + LKH_KEY_OCTETS * usize::from(count)) as u16,
+    );
     out.extend(&head)
 }
 
 /// Appends keys of a path.
 fn append_keys(keys: &[PathKey], out: &mut Octets) -> Result<(), NoMemory>
     ensures ok { OnOk result (out.new ≡ out.old ++ path_text keys.now) }
-    ensures size { OnOk result (length (path_text keys.now) ≡ 48 * length keys.now) }
+    ensures size { OnOk result (length (path_text keys.now) ≡ lkh_key_octets * length keys.now) }
     ensures err { OnErr result (take (length out.old) out.new ≡ out.old) }
 {
     for key in keys {
@@ -145,7 +151,7 @@ fn append_keys(keys: &[PathKey], out: &mut Octets) -> Result<(), NoMemory>
 /// Appends a key whose data stands in the clear.
 fn append_key(key: &PathKey, out: &mut Octets) -> Result<(), NoMemory>
     ensures ok { OnOk result (out.new ≡ out.old ++ key_text key.now.id key.now.made (data_of key.now.value)) }
-    ensures size { OnOk result (length (key_text key.now.id key.now.made (data_of key.now.value)) ≡ 48) }
+    ensures size { OnOk result (length (key_text key.now.id key.now.made (data_of key.now.value)) ≡ lkh_key_octets) }
     ensures err { OnErr result (take (length out.old) out.new ≡ out.old) }
 {
     append_key_head(key, out)?;

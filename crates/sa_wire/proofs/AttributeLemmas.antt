@@ -1,24 +1,40 @@
--- One attribute after the other.
-use Rattle.std.proofs.Common.{◌≡◌, ℕ, suc, List, None, Some, refl, ap, ◌∙◌}
+-- Attributes of which some were found: reading goes on after one more, and a fault of the next one is the fault of all.
+use Rattle.std.proofs.Common.{◌≡◌, ℕ, suc, zero, List, [], ◌∷◌, ◌++◌, Result, Ok, Err, refl, sym, ap, ◌∙◌}
+use Rattle.std.specs.Result.{IsErrAnd}
 use Rattle.group_terms.specs.declared.wires.WireFault.{WireFault}
-use Rattle.gd_wire.specs.Faults.{or_else}
+use Rattle.gd_wire.specs.Readings.{Cursor, Shows}
+use Rattle.gd_wire.specs.Attributes.{no_more_attributes}
+use Rattle.sa_wire.specs.declared.attributes.Found.{Found}
 use Rattle.sa_wire.specs.declared.rules.Rule.{Rule}
 use Rattle.sa_wire.specs.Rules.{without}
-use Rattle.gd_wire.specs.Attributes.{kind_at}
-use Rattle.sa_wire.specs.Attributes.{behind, attribute_fault, attributes_fault}
+use Rattle.sa_wire.specs.Attributes.{attribute, attributes_after}
 
-module _ (text : List ℕ) (base left more : ℕ) (rules : List Rule) (at : ℕ) where
-  first_of_them : left ≡ suc more →
-      attributes_fault text base left rules at ≡ or_else (attribute_fault text base rules at) (attributes_fault text base more (without (kind_at text at) rules) (behind text at))
-  first_of_them e = ap (λ count. attributes_fault text base count rules at) e
+module _ (found : List Found) (due : List Rule) (text : Cursor) where
+  -- one more attribute was read
+  pub goes_on : (left more : ℕ) (next : Found) (rules : List Rule) (now : Cursor) → left ≡ suc more → attribute due text ≡ Ok (next, now) → rules ≡ without next.kind due →
+      attributes_after found left due text ≡ attributes_after (found ++ next ∷ []) more rules now
+  unfolding attributes_after
+  goes_on left more next rules now one here rest = rw (one, here, rest) refl
 
-  -- behind an attribute without fault the others are read
-  pub next_attribute : (others : List Rule) (next : ℕ) → left ≡ suc more → attribute_fault text base rules at ≡ None → others ≡ without (kind_at text at) rules → next ≡ behind text at →
-      attributes_fault text base left rules at ≡ attributes_fault text base more others next
-  next_attribute others next e none f g =
-      first_of_them e ∙ ap (λ fault. or_else fault (attributes_fault text base more (without (kind_at text at) rules) (behind text at))) none ∙ rw (f, g) refl
+  -- or it has a fault
+  pub fails : (left more : ℕ) (fault : WireFault) →
+      left ≡ suc more → attribute due text ≡ Err fault → attributes_after found left due text ≡ Err fault
+  unfolding attributes_after
+  fails left more fault one here = rw (one, here) refl
 
-  -- the fault of an attribute is that of all
-  pub faulty_attribute : (fault : WireFault) → left ≡ suc more → attribute_fault text base rules at ≡ Some fault → attributes_fault text base left rules at ≡ Some fault
-  faulty_attribute fault e some =
-      first_of_them e ∙ ap (λ found. or_else found (attributes_fault text base more (without (kind_at text at) rules) (behind text at))) some
+  -- none is due any more
+  pub ends : (left : ℕ) (now : Cursor) →
+      left ≡ 0 → no_more_attributes text ≡ Ok (tt, now) → attributes_after found left due text ≡ Ok (found, now)
+  unfolding attributes_after
+  ends left now none here = rw (none, here) refl
+
+  pub ends_wrong : (left : ℕ) (fault : WireFault) →
+      left ≡ 0 → no_more_attributes text ≡ Err fault → attributes_after found left due text ≡ Err fault
+  unfolding attributes_after
+  ends_wrong left fault none here = rw (none, here) refl
+
+-- what `?` hands on is the fault that was read
+pub handed_on : {A B : Type 0} (view : B → A) (result : Result B WireFault) (fault : WireFault) (now : Cursor)
+    (reading : Result (A × Cursor) WireFault) → IsErrAnd result (λ e. e ≡ fault) → reading ≡ Err fault → Shows view result now reading
+handed_on view (Ok value) fault now reading handed e = absurd handed
+handed_on view (Err other) fault now reading handed e = e ∙ ap Err (sym handed)

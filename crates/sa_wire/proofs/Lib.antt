@@ -1,5 +1,3 @@
 pub mod AttributeLemmas
-pub mod PolicyLemmas
-pub mod PlaceLemmas
 pub mod WrittenLemmas
-pub mod BaseLemmas
+pub mod OctetLemmas

@@ -1,23 +1,32 @@
 -- Policies that are written are read again: their text is written out octet by octet, and each test of it computes but for the two numbers
 -- of the signature.
-use Rattle.std.proofs.Common.{◌≡◌, ℕ, ◌<◌, true, [], ◌++◌, map, Option, None, Some, refl, subst, inl, inr, arith}
+use Rattle.std.proofs.Common.{◌≡◌, ℕ, ◌<◌, true, [], ◌++◌, map, Option, None, Some, Ok, refl, subst, inl, inr, arith, List, length, sym}
 use Rattle.std.specs.List.{range_with_len}
+use Rattle.std.proofs.lemmas.List.FromFn.{fill_by_all}
 use Rattle.std.proofs.lemmas.Bool.{le-leb, false≢true}
 use Rattle.byteorder.specs.Endian.{big_from, big_bytes}
 use Rattle.byteorder.specs.Numbers.{big_number-reads_back}
-use Rattle.gd_wire.specs.Faults.{octet_at}
-use Rattle.gd_wire.proofs.TextLemmas.{written_out}
+use Rattle.gd_wire.specs.Readings.{octet_at}
 use Rattle.sa_wire.specs.declared.policies.SaPolicy.{SaPolicy}
 use Rattle.sa_wire.specs.declared.policies.KekPolicy.{KekPolicy}
 use Rattle.sa_wire.specs.declared.policies.TekPolicy.{TekPolicy}
 use Rattle.sa_wire.specs.Rules.{any, takes}
-use Rattle.sa_wire.specs.Policies.{sa_fault, sa_fields}
+use Rattle.gd_wire.specs.Readings.{section, due_long_kind, due_kind, due_long_number, due_number, due_octet, long_number, number, octet}
+use Rattle.gd_wire.specs.Readings.{part, end}
+use Rattle.gd_wire.specs.Readings as fields
+use Rattle.gd_wire.specs.Attributes.{attribute_type, no_more_attributes}
+use Rattle.sa_wire.specs.Attributes.{attributes_after, attribute, short_value, long_value}
+use Rattle.sa_wire.specs.Policies as grammar
+use Rattle.sa_wire.specs.Policies.{sa}
 use Rattle.sa_wire.specs.Texts.{sa_text, KekPolicyFits, TekPolicyFits, PolicyFits}
 
--- what is read of the text of these policies: no fault, and the policies
-pub record Reads (policy : SaPolicy) : Type 0 where
-  pub fault : (base : ℕ) → sa_fault (sa_text policy) base ≡ None
-  pub fields : sa_fields (sa_text policy) ≡ policy
+-- the text of these policies is read as these
+abbrev pub Reads : SaPolicy → Type 0
+Reads policy = (base : ℕ) → sa base (sa_text policy) ≡ Ok policy
+
+-- octets of a known length are their octets, one by one
+written_out : (size : ℕ) (octets : List ℕ) → length octets ≡ size → map (octet_at octets) (range_with_len 0 size) ≡ octets
+written_out size octets long = sym (fill_by_all (octet_at octets) octets size 0 long (λ k within. refl))
 
 -- policies of which each may be missing
 abbrev policies : Option KekPolicy → Option TekPolicy → SaPolicy
@@ -48,20 +57,32 @@ any_taken kind number small =
 -- ---- the three texts, written out
 
 tek_alone : (octets : ℕ → ℕ) → Reads (policies None (Some (tek_of octets)))
-tek_alone octets = record { fault = λ base. refl; fields = refl }
+unfolding grammar.policies grammar.head grammar.with_tek_alone grammar.with_kek grammar.rest_after_kek grammar.last_tek
+    grammar.kek grammar.tek grammar.identifications grammar.identification attributes_after attribute short_value long_value
+    attribute_type no_more_attributes section due_long_kind due_kind due_long_number due_number due_octet long_number number octet
+    fields.octets part end
+tek_alone octets base = refl
 
 module _ (spi : ℕ → ℕ) (algorithm key_bits : ℕ) (algorithm_small : algorithm < 65536) (key_bits_small : key_bits < 65536) where
   kek_alone : Reads (policies (Some (kek_of spi algorithm key_bits)) None)
-  kek_alone = record {
-    fault = λ base. rw (any_taken 6 algorithm algorithm_small, any_taken 7 key_bits key_bits_small) refl;
-    fields = λ i. policies (Some (kek_of spi (same_number algorithm algorithm_small i) (same_number key_bits key_bits_small i))) None;
-  }
+  unfolding grammar.policies grammar.head grammar.with_tek_alone grammar.with_kek grammar.rest_after_kek grammar.last_tek
+      grammar.kek grammar.tek grammar.identifications grammar.identification attributes_after attribute short_value long_value
+      attribute_type no_more_attributes section due_long_kind due_kind due_long_number due_number due_octet long_number number
+      octet fields.octets part end
+  kek_alone base =
+      rw (any_taken 6 algorithm algorithm_small, any_taken 7 key_bits key_bits_small)
+      (λ i. Ok (policies (Some (kek_of spi (same_number algorithm algorithm_small i) (same_number key_bits key_bits_small i))) None))
 
   kek_and_tek : (octets : ℕ → ℕ) → Reads (policies (Some (kek_of spi algorithm key_bits)) (Some (tek_of octets)))
-  kek_and_tek octets = record {
-    fault = λ base. rw (any_taken 6 algorithm algorithm_small, any_taken 7 key_bits key_bits_small) refl;
-    fields = λ i. policies (Some (kek_of spi (same_number algorithm algorithm_small i) (same_number key_bits key_bits_small i))) (Some (tek_of octets));
-  }
+  unfolding grammar.policies grammar.head grammar.with_tek_alone grammar.with_kek grammar.rest_after_kek grammar.last_tek
+      grammar.kek grammar.tek grammar.identifications grammar.identification attributes_after attribute short_value long_value
+      attribute_type no_more_attributes section due_long_kind due_kind due_long_number due_number due_octet long_number number
+      octet fields.octets part end
+  kek_and_tek octets base =
+      rw (any_taken 6 algorithm algorithm_small, any_taken 7 key_bits key_bits_small)
+      (λ i. Ok (policies
+      (Some (kek_of spi (same_number algorithm algorithm_small i) (same_number key_bits key_bits_small i)))
+      (Some (tek_of octets))))
 
 -- ---- each policy that fits is one that is written out
 

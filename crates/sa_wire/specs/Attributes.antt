@@ -1,55 +1,60 @@
 -- The attributes of a policy: whatever their order, each rule is met by one of them, and each of them meets a rule.
-use Rattle.std.specs.Prelude.{ℕ, zero, suc, ◌+◌, ◌==◌, List, [], ◌∷◌, Option, if◌then◌else◌}
-use Rattle.group_terms.specs.declared.wires.WireFault.{WireFault}
+use Rattle.std.specs.Prelude.{ℕ, zero, suc, ◌==◌, List, [], ◌∷◌, ◌++◌, length, slice_index_or, Option, None, Some, if◌then◌else◌}
+use Rattle.std.specs.List.{position}
 use Rattle.group_terms.specs.declared.wires.WireWhat.TheVariants.{Kind, Value}
-use Rattle.gd_wire.specs.Faults.{Test, test, first_fault, or_else}
-use Rattle.gd_wire.specs.Attributes.{kind_at, attribute_number, is_short, no_more_tests}
+use Rattle.gd_wire.specs.Readings.{Reading, ◌>>=◌, ◌>>◌, give, here, check, number, octets}
+use Rattle.gd_wire.specs.Attributes.{attribute_type, no_more_attributes}
+use Rattle.sa_wire.specs.declared.attributes.Found.{Found}
 use Rattle.sa_wire.specs.declared.rules.Rule.{Rule}
-use Rattle.gd_wire.specs.Fields.{there}
 use Rattle.sa_wire.specs.Rules.{has_rule, rule_for, takes, without}
 
-module _ (text : List ℕ) where
-  -- the place after the attribute at this place; a long form that is taken has 4 octets
-  abbrev pub behind : ℕ → ℕ
-  behind at = if is_short text at then at + 4 else at + 8
+-- after the type, in the short form, a number that the rule takes
+unfoldable pub short_value : ℕ → Rule → Reading Found
+short_value kind rule = do
+  at ← here
+  value ← number
+  check (takes rule value) Value at
+  give (record { kind = kind; number = value; at = at })
 
-  -- the place of the attribute of this kind among so many from here on, and the place after them where there is none
-  abbrev pub place_of : ℕ → ℕ → ℕ → ℕ
-  place_of kind zero at = at
-  place_of kind (suc more) at = if kind_at text at == kind then at else place_of kind more (behind at)
+-- and in the long form, where the rule takes that, 4 octets; their number is not kept
+unfoldable pub long_value : ℕ → Rule → ℕ → Reading Found
+long_value kind rule type_at = do
+  check rule.long (Kind kind) type_at
+  size ← number
+  check (size == 4) (Kind kind) type_at
+  at ← here
+  octets 4
+  give (record { kind = kind; number = 0; at = at })
 
-  module _ (base : ℕ) where
-    -- The type is that of one of these rules. A fault of the kind or the form is at the type, one of a number at that.
-    abbrev pub type_tests : List Rule → ℕ → List Test
-    type_tests rules at =
-        there text base at 2
-        ∷ test (has_rule (kind_at text at) rules) (Kind (kind_at text at)) (base + at)
-        ∷ []
+-- An attribute for which one of these rules is there. A fault of the kind or the form is at the type, one of a number at that.
+unfoldable pub attribute : List Rule → Reading Found
+attribute rules = do
+  at ← here
+  type ← attribute_type
+  check (has_rule type.kind rules) (Kind type.kind) at
+  if type.is_short then short_value type.kind (rule_for type.kind rules) else long_value type.kind (rule_for type.kind rules) at
 
-    -- after the type, in the short form, a number that the rule takes
-    abbrev pub short_tests : Rule → ℕ → List Test
-    short_tests rule at =
-        there text base (at + 2) 2
-        ∷ test (takes rule (attribute_number text at)) Value (base + at + 2)
-        ∷ []
+-- attributes up to the end, one for each of these rules, whose number comes first; before them some were found already
+unfoldable pub attributes_after : List Found → ℕ → List Rule → Reading (List Found)
+attributes_after found zero rules = do
+  no_more_attributes
+  give found
+attributes_after found (suc more) rules = do
+  next ← attribute rules
+  attributes_after (found ++ next ∷ []) more (without next.kind rules)
 
-    -- and in the long form, where the rule takes that, the length 4 and so many octets
-    abbrev pub long_tests : Rule → ℕ → List Test
-    long_tests rule at =
-        test rule.long (Kind (kind_at text at)) (base + at)
-        ∷ there text base (at + 2) 2
-        ∷ test (attribute_number text at == 4) (Kind (kind_at text at)) (base + at)
-        ∷ there text base (at + 4) 4
-        ∷ []
+-- an attribute for each of these rules, in any order, and no other
+abbrev pub attributes : List Rule → Reading (List Found)
+attributes rules = attributes_after [] (length rules) rules
 
-    abbrev pub value_tests : Rule → ℕ → List Test
-    value_tests rule at = if is_short text at then short_tests rule at else long_tests rule at
+-- no attribute
+abbrev pub no_attribute : Found
+no_attribute = record { kind = 0; number = 0; at = 0 }
 
-    -- the first fault of an attribute for which one of these rules is there
-    abbrev pub attribute_fault : List Rule → ℕ → Option WireFault
-    attribute_fault rules at = or_else (first_fault (type_tests rules at)) (first_fault (value_tests (rule_for (kind_at text at) rules) at))
+abbrev pub found_at : Option ℕ → List Found → Found
+found_at None found = no_attribute
+found_at (Some place) found = slice_index_or found place no_attribute
 
-    -- the first fault of so many attributes, for which these rules are there
-    abbrev pub attributes_fault : ℕ → List Rule → ℕ → Option WireFault
-    attributes_fault zero rules at = first_fault (no_more_tests text at base)
-    attributes_fault (suc more) rules at = or_else (attribute_fault rules at) (attributes_fault more (without (kind_at text at) rules) (behind at))
+-- the attribute of a kind, of which one was found
+abbrev pub found_of : ℕ → List Found → Found
+found_of kind found = found_at (position (λ (attribute : Found). attribute.kind == kind) found) found

@@ -1,4 +1,5 @@
 pub mod Attributes
+pub mod Numbers
 pub mod Policies
 pub mod Rules
 pub mod Texts

@@ -1,57 +1,64 @@
 //! The attributes at the end of a policy: whatever their order, each rule is met by one of them, and each of them meets a rule.
-ghost use Rattle.std.specs.Prelude.{◌≡◌, ◌+◌, ◌≤◌, ◌<◌, ℕ, List, length, true, None, Some, OnSome, OnOk, IfOk, IfSome, if◌then◌else◌};
-ghost use Rattle.group_terms.specs.declared.wires.WireWhat.TheVariants.{Kind};
-ghost use Rattle.gd_wire.specs.Faults.{fault_at, first_fault, answer};
-ghost use Rattle.gd_wire.specs.Attributes.{kind_at, is_short};
-ghost use Rattle.sa_wire.specs.declared.rules.Rule.{Rule};
-ghost use Rattle.sa_wire.specs.Rules.{place_among, has_rule, rule_for, without};
-ghost use Rattle.sa_wire.specs.Attributes.{behind, place_of, short_tests, long_tests, value_tests, attribute_fault, attributes_fault};
+ghost use Rattle.std.specs.Prelude.{◌≡◌, ◌≤◌, ◌<◌, length, None, Some, OnSome, IfOk, IfSome, ◌==◌, if◌then◌else◌};
+ghost use Rattle.std.specs.List.{position};
+ghost use Rattle.sa_wire.specs.declared.attributes.Found.{Found};
+ghost use Rattle.gd_wire.specs.Readings.{Gives, Shows};
+ghost use Rattle.sa_wire.specs.Rules.{place_among, has_rule, rule_for, without, takes};
+ghost use Rattle.sa_wire.specs.Attributes.{short_value, long_value, attribute, attributes, found_of};
 
 use crate::rules::{MOST_RULES, Rule};
 use arrayvec::ArrayVec;
-use gd_wire::{attribute_kind, fault, is_short, read_no_more, read_number, skip};
+use gd_wire::{Reader, fault};
 use group_terms::{WireFault, WireWhat};
+
+/// An attribute that was found: its kind, its number in the short form, else 0, and the place in the datagram of what comes after its type,
+/// in the long form after its length.
+#[derive(Clone, Copy, Debug, Default, PartialEq, Eq)]
+pub(crate) struct Found {
+    pub kind: u16,
+    pub number: u16,
+    pub at: u32,
+}
 
 /// Reads attributes up to the end of a text. An attribute without a rule, a second one of its kind, or one in a form that is not taken is
 /// `Kind` at its type; a number that is not taken is `Value` at it; one that is missing is `Short` at the end of the text.
 pub(crate) fn read_attributes(
     rules: &[Rule],
-    text: &[u8],
-    start: usize,
-    base: u32,
-) -> Result<(), WireFault>
+    text: &mut Reader,
+) -> Result<ArrayVec<Found, MOST_RULES>, WireFault>
     requires few { length rules.now ≤ MOST_RULES }
-    requires within { start ≤ length text.now }
-    requires small { base + length text.now ≤ 4294967295 }
-    ensures { result ≡ answer (attributes_fault text.now base (length rules.now) rules.now start) tt }
+    ensures { Shows (λ found. found.items) result text.new (attributes rules.now text.old) }
 {
     let mut due = ArrayVec::<Rule, MOST_RULES>::new();
     due.try_extend_from_slice(rules).unwrap();
-    let mut at = start;
+    let mut found = ArrayVec::new();
     for _ in rules {
-        at = read_attribute(&mut due, text, at, base)?;
+        let attribute = read_attribute(&mut due, text)?;
+        found.push(attribute);
     }
-    read_no_more(text, at, base)
+    text.no_more_attributes()?;
+    Ok(found)
 }
 
-/// Reads an attribute for which a rule is due, and takes that rule off; gives the place after the attribute.
+/// Reads an attribute for which a rule is due, and takes that rule off.
+#[tactic(auto, unfolding(crate::specs::Attributes::attribute))]
 fn read_attribute(
     due: &mut ArrayVec<Rule, MOST_RULES>,
-    text: &[u8],
-    at: usize,
-    base: u32,
-) -> Result<usize, WireFault>
-    requires within { at ≤ length text.now }
-    requires small { base + length text.now ≤ 4294967295 }
-    ensures answer { result ≡ answer (attribute_fault text.now base due.old.items at) (behind text.now at) }
-    ensures within { IfOk result (λ next. next ≤ length text.now) }
-    ensures due { OnOk result (due.new.items ≡ without (kind_at text.now at) due.old.items) }
+    text: &mut Reader,
+) -> Result<Found, WireFault>
+    ensures gives { Gives result text.new (attribute due.old.items text.old) }
+    ensures due { IfOk result (λ found. due.new.items ≡ without found.kind due.old.items) }
 {
-    skip(text, at, 2, base)?;
-    match take_rule(due, attribute_kind(text, at)) {
-        Some(rule) => read_value(&rule, text, at, base),
-        None => Err(other_kind(text, at, base)),
+    let at = text.here();
+    let attribute_type = text.attribute_type()?;
+    let number = attribute_type.kind;
+    let Some(rule) = take_rule(due, number) else {
+        return Err(fault(WireWhat::Kind { number }, at));
+    };
+    if attribute_type.is_short {
+        return read_short(number, &rule, text);
     }
+    read_long(number, &rule, at, text)
 }
 
 /// Takes the rule for a kind off, where it is due.
@@ -63,7 +70,7 @@ fn take_rule(due: &mut ArrayVec<Rule, MOST_RULES>, kind: u16) -> Option<Rule>
     Some(due.remove(place))
 }
 
-/// Where the rule for a kind stands.
+/// The place of the rule for a kind.
 fn place_among(rules: &[Rule], kind: u16) -> Option<usize>
     ensures place { result ≡ (if has_rule kind rules.now then Some (place_among kind rules.now) else None) }
     ensures within { IfSome result (λ place. place < length rules.now) }
@@ -71,79 +78,67 @@ fn place_among(rules: &[Rule], kind: u16) -> Option<usize>
     rules.iter().position(|rule| rule.kind == kind)
 }
 
-/// Reads what comes after the type of an attribute; gives the place after that.
-fn read_value(rule: &Rule, text: &[u8], at: usize, base: u32) -> Result<usize, WireFault>
-    requires within { at + 2 ≤ length text.now }
-    requires small { base + length text.now ≤ 4294967295 }
-    ensures answer { result ≡ answer (first_fault (value_tests text.now base rule.now at)) (behind text.now at) }
-    ensures within { IfOk result (λ next. next ≤ length text.now) }
+/// Reads the number of an attribute in the short form.
+#[tactic(auto, unfolding(crate::specs::Attributes::short_value))]
+fn read_short(kind: u16, rule: &Rule, text: &mut Reader) -> Result<Found, WireFault>
+    ensures gives { Gives result text.new (short_value kind rule.now text.old) }
+    ensures kind { IfOk result (λ found. found.kind ≡ kind) }
 {
-    if is_short(text, at) {
-        read_short(rule, text, at, base)
-    } else {
-        read_long(rule, text, at, base)
+    let at = text.here();
+    let number = text.number()?;
+    if !takes(rule, number) {
+        return Err(fault(WireWhat::Value, at));
     }
+    Ok(Found { kind, number, at })
 }
 
-fn read_short(rule: &Rule, text: &[u8], at: usize, base: u32) -> Result<usize, WireFault>
-    requires within { at + 2 ≤ length text.now }
-    requires small { base + length text.now ≤ 4294967295 }
-    ensures answer { result ≡ answer (first_fault (short_tests text.now base rule.now at)) (at + 4) }
-    ensures within { IfOk result (λ next. next ≤ length text.now) }
+/// Whether a rule takes a number in the short form.
+fn takes(rule: &Rule, number: u16) -> bool
+    ensures { result ≡ takes rule.now number }
 {
-    let number = read_number(text, at + 2, base)?;
-    if number < rule.least || number > rule.most {
-        return Err(fault(WireWhat::Value, base + at as u32 + 2));
-    }
-    Ok(at + 4)
+    rule.least <= number && number <= rule.most
 }
 
-fn read_long(rule: &Rule, text: &[u8], at: usize, base: u32) -> Result<usize, WireFault>
-    requires within { at + 2 ≤ length text.now }
-    requires small { base + length text.now ≤ 4294967295 }
-    ensures answer { result ≡ answer (first_fault (long_tests text.now base rule.now at)) (at + 8) }
-    ensures within { IfOk result (λ next. next ≤ length text.now) }
+/// Reads the value of an attribute in the long form, whose type is at this place in the datagram.
+#[tactic(auto, unfolding(crate::specs::Attributes::long_value))]
+fn read_long(kind: u16, rule: &Rule, type_at: u32, text: &mut Reader) -> Result<Found, WireFault>
+    ensures gives { Gives result text.new (long_value kind rule.now type_at text.old) }
+    ensures kind { IfOk result (λ found. found.kind ≡ kind) }
 {
+    let number = kind;
     if !rule.long {
-        return Err(other_kind(text, at, base));
+        return Err(fault(WireWhat::Kind { number }, type_at));
     }
-    if read_number(text, at + 2, base)? != 4 {
-        return Err(other_kind(text, at, base));
+    if text.number()? != 4 {
+        return Err(fault(WireWhat::Kind { number }, type_at));
     }
-    skip(text, at + 4, 4, base)
+    let at = text.here();
+    text.octets(4)?;
+    Ok(Found {
+        kind,
+        number: 0,
+        at,
+    })
 }
 
-/// The kind of an attribute is not due, or not in this form.
-fn other_kind(text: &[u8], at: usize, base: u32) -> WireFault
-    requires within { at + 2 ≤ length text.now }
-    requires small { base + length text.now ≤ 4294967295 }
-    ensures { result ≡ fault_at (Kind (kind_at text.now at)) (base + at) }
+/// The attribute of a kind, of which one was found.
+pub(crate) fn found_of(kind: u16, found: &[Found]) -> Found
+    ensures { result ≡ found_of kind found.now }
 {
-    let number = attribute_kind(text, at);
-    fault(WireWhat::Kind { number }, base + at as u32)
-}
-
-/// The place after an attribute without fault.
-fn behind(text: &[u8], at: usize) -> usize
-    requires here { at + 2 ≤ length text.now }
-    requires within { behind text.now at ≤ length text.now }
-    ensures { result ≡ behind text.now at }
-{
-    if is_short(text, at) { at + 4 } else { at + 8 }
-}
-
-/// Where the attribute of this kind stands, of so many that have no fault, and of which one has this kind.
-pub(crate) fn place_of(kind: u16, count: usize, text: &[u8], start: usize) -> usize
-    requires { (base : ℕ) × (rules : List Rule) × (length rules ≡ count) × (has_rule kind rules ≡ true) × (attributes_fault text.now base count rules start ≡ None) }
-    ensures place { result ≡ place_of text.now kind count start }
-    ensures within { result + 4 ≤ length text.now }
-{
-    let mut at = start;
-    for _ in 0..count {
-        if attribute_kind(text, at) == kind {
-            return at;
-        }
-        at = behind(text, at);
+    match place_found(kind, found) {
+        Some(place) => found[place],
+        None => Found {
+            kind: 0,
+            number: 0,
+            at: 0,
+        },
     }
-    at
+}
+
+/// The place of the attribute of a kind.
+fn place_found(kind: u16, found: &[Found]) -> Option<usize>
+    ensures place { result ≡ position (λ (attribute : Found). attribute.kind == kind) found.now }
+    ensures within { IfSome result (λ place. place < length found.now) }
+{
+    found.iter().position(|attribute| attribute.kind == kind)
 }

@@ -1,22 +1,15 @@
 //! The policies of an SA payload.
-ghost use Rattle.std.specs.Prelude.{◌≡◌, ◌+◌, ◌≤◌, length, IfSome};
-ghost use Rattle.gd_wire.specs.Faults.{answer};
-ghost use Rattle.sa_wire.specs.Policies.{sa_fault, sa_fields, policy_at, kek_at, tek_at, option_kek, option_tek, KekFits, TekFits, SaFits};
+ghost use Rattle.std.specs.Prelude.{◌≡◌, ◌+◌, ◌≤◌, length};
+ghost use Rattle.gd_wire.specs.Readings.{Gives};
+ghost use Rattle.sa_wire.specs.Policies.{identification, identifications, kek, kek_of, tek, last_tek, rest_after_kek, with_kek};
+ghost use Rattle.sa_wire.specs.Policies.{with_tek_alone, head, policies, placed_sa, sa};
 
-use crate::places::{KekPlaces, SaPlaces, TekPlaces, find_places};
-use byteorder::{BigEndian, ByteOrder};
-use group_terms::SignKind;
-use group_terms::WireFault;
-
-/// The kinds of the payloads of policies (RFC 6407 section 5): for the KEK and for the TEK.
-pub(crate) const SAK: u8 = 15;
-
-pub(crate) const SAT: u8 = 16;
-
-/// The protocol of a TEK, and its transform.
-pub(crate) const ESP: u8 = 1;
-
-pub(crate) const ESP_AES: u8 = 12;
+use crate::attributes::{Found, found_of, read_attributes};
+use crate::numbers::{ESP, ESP_AES, GDOI, SAK, SAT, SIGNATURE_ALGORITHM, SIGNATURE_KEY_LENGTH};
+use crate::places::{PlacedKek, PlacedSa, PlacedTek};
+use crate::rules::{kek_rules, tek_rules};
+use gd_wire::Reader;
+use group_terms::{SignKind, WireFault, WireWhat};
 
 /// What a group uses (RFC 6407 section 5.2).
 #[derive(Clone, Copy, Debug, PartialEq, Eq)]
@@ -45,60 +38,159 @@ pub struct TekPolicy {
 /// identifications of any protocol are taken, and any lifetime, short or long in 4 octets; the order of attributes is free.
 pub fn read_sa(body: &[u8], base: u32) -> Result<SaPolicy, WireFault>
     requires small { base + length body.now ≤ 4294967295 }
-    ensures { result ≡ answer (sa_fault body.now base) (sa_fields body.now) }
+    ensures { result ≡ sa base body.now }
 {
-    let places = find_places(body, base)?;
-    Ok(policy_at(body, &places))
+    let sa = read_placed_sa(body, base)?;
+    Ok(sa.policy())
 }
 
-fn policy_at(body: &[u8], places: &SaPlaces) -> SaPolicy
-    requires { SaFits (length body.now) places.now }
-    ensures { result ≡ policy_at body.now places.now }
+/// The same, with the places of what a message compares.
+pub fn read_placed_sa(body: &[u8], base: u32) -> Result<PlacedSa, WireFault>
+    requires small { base + length body.now ≤ 4294967295 }
+    ensures { result ≡ placed_sa base body.now }
 {
-    SaPolicy {
-        kek: option_kek(body, places.kek),
-        tek: option_tek(body, places.tek),
+    let sa = read_policies(&mut Reader::new(body, base))?;
+    Ok(sa)
+}
+
+#[tactic(auto, unfolding(crate::specs::Policies::policies))]
+fn read_policies(body: &mut Reader) -> Result<PlacedSa, WireFault>
+    ensures { Gives result body.new (policies body.old) }
+{
+    if read_head(body)? == u16::from(SAT) {
+        return read_tek_alone(body);
     }
+    read_with_kek(body)
 }
 
-fn option_kek(body: &[u8], places: Option<KekPlaces>) -> Option<KekPolicy>
-    requires { IfSome places (KekFits (length body.now)) }
-    ensures { result ≡ option_kek body.now places }
+/// Reads what comes before the first payload; gives the kind of that.
+#[tactic(auto, unfolding(crate::specs::Policies::head))]
+fn read_head(body: &mut Reader) -> Result<u16, WireFault>
+    ensures { Gives result body.new (head body.old) }
 {
-    match places {
-        Some(places) => Some(kek_at(body, places)),
-        None => None,
+    body.due_long_number(GDOI, WireWhat::Value)?;
+    body.due_long_number(0, WireWhat::Value)?;
+    let first = body.due_long_kind(&[u16::from(SAK), u16::from(SAT)])?;
+    body.due_number(0, WireWhat::Reserved)?;
+    Ok(first)
+}
+
+/// Reads the payload for the KEK, which is the first one, and the rest.
+#[tactic(auto, unfolding(crate::specs::Policies::with_kek))]
+fn read_with_kek(body: &mut Reader) -> Result<PlacedSa, WireFault>
+    ensures { Gives result body.new (with_kek body.old) }
+{
+    let (next, mut payload) = body.section(&[0, SAT])?;
+    let kek = read_kek(&mut payload)?;
+    let tek = read_rest(next, body)?;
+    Ok(PlacedSa {
+        kek: Some(kek),
+        tek,
+    })
+}
+
+#[tactic(auto, unfolding(crate::specs::Policies::with_tek_alone))]
+fn read_tek_alone(body: &mut Reader) -> Result<PlacedSa, WireFault>
+    ensures { Gives result body.new (with_tek_alone body.old) }
+{
+    let tek = read_last_tek(body)?;
+    Ok(PlacedSa {
+        kek: None,
+        tek: Some(tek),
+    })
+}
+
+/// Reads what comes after the payload for the KEK: the payload for the TEK, where that was named, or nothing.
+#[tactic(auto, unfolding(crate::specs::Policies::rest_after_kek))]
+fn read_rest(next: u8, body: &mut Reader) -> Result<Option<PlacedTek>, WireFault>
+    ensures { Gives result body.new (rest_after_kek next body.old) }
+{
+    if next == SAT {
+        let tek = read_last_tek(body)?;
+        return Ok(Some(tek));
     }
+    body.end()?;
+    Ok(None)
 }
 
-fn option_tek(body: &[u8], places: Option<TekPlaces>) -> Option<TekPolicy>
-    requires { IfSome places (TekFits (length body.now)) }
-    ensures { result ≡ option_tek body.now places }
+/// Reads the payload for the TEK, and that nothing comes after it.
+#[tactic(auto, unfolding(crate::specs::Policies::last_tek))]
+fn read_last_tek(body: &mut Reader) -> Result<PlacedTek, WireFault>
+    ensures { Gives result body.new (last_tek body.old) }
 {
-    match places {
-        Some(places) => Some(tek_at(body, places)),
-        None => None,
-    }
+    let (_, mut payload) = body.section(&[0])?;
+    let tek = read_tek(&mut payload)?;
+    body.end()?;
+    Ok(tek)
 }
 
-fn kek_at(body: &[u8], places: KekPlaces) -> KekPolicy
-    requires { KekFits (length body.now) places }
-    ensures { result ≡ kek_at body.now places }
+/// Reads the policy of the KEK (RFC 6407 section 5.3).
+#[tactic(auto, unfolding(crate::specs::Policies::kek))]
+fn read_kek(text: &mut Reader) -> Result<PlacedKek, WireFault>
+    ensures { Gives result text.new (kek text.old) }
 {
-    let mut spi = [0; 16];
-    spi.copy_from_slice(&body[places.spi..places.spi + 16]);
+    text.octet()?;
+    read_identifications(text)?;
+    let at = text.here();
+    let spi = text.array()?;
+    text.due_long_number(0, WireWhat::Reserved)?;
+    let found = read_attributes(&kek_rules(), text)?;
+    Ok(kek_of(at, spi, found.as_slice()))
+}
+
+/// The policy of a KEK whose SPI and attributes were read.
+fn kek_of(at: u32, spi: [u8; 16], found: &[Found]) -> PlacedKek
+    ensures { result ≡ kek_of at spi found.now }
+{
+    let algorithm = found_of(SIGNATURE_ALGORITHM, found);
+    let key_bits = found_of(SIGNATURE_KEY_LENGTH, found);
     let sign = SignKind {
-        algorithm: BigEndian::read_u16(&body[places.algorithm..]),
-        key_bits: BigEndian::read_u16(&body[places.key_bits..]),
+        algorithm: algorithm.number,
+        key_bits: key_bits.number,
     };
-    KekPolicy { spi, sign }
+    PlacedKek {
+        policy: KekPolicy { spi, sign },
+        spi_at: at,
+        algorithm_at: algorithm.at,
+        key_bits_at: key_bits.at,
+    }
 }
 
-fn tek_at(body: &[u8], places: TekPlaces) -> TekPolicy
-    requires { TekFits (length body.now) places }
-    ensures { result ≡ tek_at body.now places }
+/// Reads the policy of the TEK (RFC 6407 section 5.5).
+#[tactic(auto, unfolding(crate::specs::Policies::tek))]
+fn read_tek(text: &mut Reader) -> Result<PlacedTek, WireFault>
+    ensures { Gives result text.new (tek text.old) }
 {
-    let mut spi = [0; 4];
-    spi.copy_from_slice(&body[places.spi..places.spi + 4]);
-    TekPolicy { spi }
+    text.due_octet(ESP, WireWhat::Value)?;
+    text.octet()?;
+    read_identifications(text)?;
+    text.due_octet(ESP_AES, WireWhat::Value)?;
+    let spi_at = text.here();
+    let spi = text.array()?;
+    read_attributes(&tek_rules(), text)?;
+    Ok(PlacedTek {
+        policy: TekPolicy { spi },
+        spi_at,
+    })
+}
+
+/// Reads the identifications of the source and the destination.
+#[tactic(auto, unfolding(crate::specs::Policies::identifications))]
+fn read_identifications(text: &mut Reader) -> Result<(), WireFault>
+    ensures { Gives result text.new (identifications text.old) }
+{
+    read_identification(text)?;
+    read_identification(text)
+}
+
+/// Reads an identification: its type, its port, and the length of its data stand before these.
+#[tactic(auto, unfolding(crate::specs::Policies::identification))]
+fn read_identification(text: &mut Reader) -> Result<(), WireFault>
+    ensures { Gives result text.new (identification text.old) }
+{
+    text.octet()?;
+    text.number()?;
+    let size = text.octet()?;
+    text.octets(usize::from(size))?;
+    Ok(())
 }

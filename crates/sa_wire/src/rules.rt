@@ -2,6 +2,12 @@
 ghost use Rattle.std.specs.Prelude.{◌≡◌};
 ghost use Rattle.sa_wire.specs.Rules.{only, between, any, any_form, kek_rules, tek_rules};
 
+use crate::numbers::{
+    AES, AUTHENTICATION_ALGORITHM, ENCAPSULATION_MODE, HMAC_SHA_256, KEK_ALGORITHM, KEK_KEY_LENGTH,
+    KEK_LIFETIME, KEY_BITS, LIFE_DURATION, LIFE_TYPE, LKH, MANAGEMENT_ALGORITHM, SECONDS, SHA_256,
+    SIGNATURE_ALGORITHM, SIGNATURE_HASH, SIGNATURE_KEY_LENGTH, TEK_KEY_LENGTH, TRANSPORT, TUNNEL,
+};
+
 /// How many attributes a policy has at the most.
 pub(crate) const MOST_RULES: usize = 7;
 
@@ -15,31 +21,31 @@ pub(crate) struct Rule {
     pub long: bool,
 }
 
-/// The attributes of the KEK (RFC 6407 section 5.3).
+/// The attributes of the KEK.
 pub(crate) fn kek_rules() -> [Rule; 7]
     ensures { result ≡ kek_rules }
 {
     [
-        only(1, 1),
-        only(2, 3),
-        only(3, 128),
-        any_form(4),
-        only(5, 3),
-        any(6),
-        any(7),
+        only(MANAGEMENT_ALGORITHM, LKH),
+        only(KEK_ALGORITHM, AES),
+        only(KEK_KEY_LENGTH, KEY_BITS),
+        any_form(KEK_LIFETIME),
+        only(SIGNATURE_HASH, SHA_256),
+        any(SIGNATURE_ALGORITHM),
+        any(SIGNATURE_KEY_LENGTH),
     ]
 }
 
-/// The attributes of the TEK (RFC 6407 section 5.5, RFC 2407 section 4.5, RFC 3602 section 5.3, RFC 4868).
+/// The attributes of the TEK.
 pub(crate) fn tek_rules() -> [Rule; 5]
     ensures { result ≡ tek_rules }
 {
     [
-        only(1, 1),
-        any_form(2),
-        between(4, 1, 2),
-        only(5, 5),
-        only(6, 128),
+        only(LIFE_TYPE, SECONDS),
+        any_form(LIFE_DURATION),
+        between(ENCAPSULATION_MODE, TUNNEL, TRANSPORT),
+        only(AUTHENTICATION_ALGORITHM, HMAC_SHA_256),
+        only(TEK_KEY_LENGTH, KEY_BITS),
     ]
 }
 

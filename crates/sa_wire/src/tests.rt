@@ -1,6 +1,6 @@
 use crate::{
-    KekPlaces, KekPolicy, SaPlaces, SaPolicy, SignKind, TekPlaces, TekPolicy, WireFault, WireWhat,
-    read_sa, sa_places, write_sa,
+    KekPolicy, PlacedKek, PlacedSa, PlacedTek, SaPolicy, SignKind, TekPolicy, WireFault, WireWhat,
+    read_placed_sa, read_sa, sa_size, write_sa,
 };
 use group_terms::List;
 use std::alloc::Global;
@@ -45,28 +45,33 @@ fn policies_are_written_and_read(rt: HostRuntime) -> Result<(), Fail> {
     Ok(())
 }
 
-/// Where the SPIs and the numbers of the signature's attributes stand, counted by hand in the octets of both policies.
+/// Where the SPIs and the numbers of the signature's attributes are, counted by hand in the octets of both policies, whose first one has
+/// the place 40.
 #[test]
 fn places_are_those_of_the_octets(rt: HostRuntime) -> Result<(), Fail> {
-    let body = hex::decode(rt.alloc(), BOTH)?;
+    let alloc = rt.alloc();
+    let body = hex::decode(alloc, BOTH)?;
     let body = body.as_slice();
     if body.len() > 65_507 {
         return Err("more than a datagram holds".into());
     }
-    let Ok(_) = read_sa(body, 0) else {
-        return Err("a body without fault".into());
+    let kek = PlacedKek {
+        policy: kek(alloc)?,
+        spi_at: 40 + 33,
+        algorithm_at: 40 + 79,
+        key_bits_at: 40 + 83,
     };
-    let kek = KekPlaces {
-        spi: 33,
-        algorithm: 79,
-        key_bits: 83,
+    let tek = PlacedTek {
+        policy: tek(alloc)?,
+        spi_at: 40 + 108,
     };
-    let tek = TekPlaces { spi: 108 };
-    let places = SaPlaces {
+    let placed = PlacedSa {
         kek: Some(kek),
         tek: Some(tek),
     };
-    assert_eq!(rt; sa_places(body), places);
+    assert_eq!(rt; read_placed_sa(body, 40), Ok(placed));
+    assert_eq!(rt; read_sa(body, 40), Ok(placed.policy()));
+    assert_eq!(rt; sa_size(&placed.policy()), body.len());
     Ok(())
 }
 

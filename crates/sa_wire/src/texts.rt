@@ -3,15 +3,23 @@ ghost use Rattle.std.specs.Prelude.{◌≡◌, ◌++◌, ◌∷◌, ◌⊎◌, �
 ghost use Rattle.byteorder.specs.Endian.{big_bytes};
 ghost use Rattle.gd_wire.specs.Attributes.{long_text};
 ghost use Rattle.gd_wire.specs.Chains.{payload_text};
-ghost use Rattle.sa_wire.specs.Texts.{sa_text, head_text, address_text, ids_text, kek_text, tek_text, kek_attributes, tek_attributes};
+ghost use Rattle.sa_wire.specs.Texts.{sa_text, head_text, address_text, ids_text, kek_text, tek_text, cipher_attributes};
+ghost use Rattle.sa_wire.specs.Texts.{signature_attributes, mode_attributes, transform_attributes, sa_size};
 
-use crate::policies::{ESP, ESP_AES, SAK, SAT};
+use crate::numbers::{
+    AES, AUTHENTICATION_ALGORITHM, ENCAPSULATION_MODE, ESP, ESP_AES, HMAC_SHA_256, KEK_ALGORITHM,
+    KEK_KEY_LENGTH, KEK_LIFETIME, KEY_BITS, LIFE_DURATION, LIFE_TYPE, LKH, MANAGEMENT_ALGORITHM,
+    SAK, SAT, SECONDS, SHA_256, SIGNATURE_ALGORITHM, SIGNATURE_HASH, SIGNATURE_KEY_LENGTH,
+    TEK_KEY_LENGTH, TUNNEL,
+};
 use crate::{KekPolicy, SaPolicy, SignKind, TekPolicy};
 use byteorder::{BigEndian, ByteOrder};
 use gd_wire::{write_long, write_short};
 use group_terms::{NoMemory, Octets};
 
-/// The sizes of the payloads, with their headers.
+/// The sizes of what stands before the payloads, and of these with their headers.
+const HEAD_SIZE: usize = 12;
+
 const SAK_SIZE: u8 = 73;
 
 const SAT_SIZE: u8 = 51;
@@ -27,24 +35,19 @@ const UDP: u8 = 17;
 
 const REKEY_PORT: u16 = 848;
 
-/// The values of attributes; lifetimes are in seconds.
-const LKH: u16 = 1;
+/// Lifetimes in seconds.
+const KEK_SECONDS: u32 = 86_400;
 
-const AES: u16 = 3;
+const TEK_SECONDS: u32 = 3_600;
 
-const AES_BITS: u16 = 128;
-
-const KEK_LIFETIME: u32 = 86_400;
-
-const SHA_256: u16 = 3;
-
-const SECONDS: u16 = 1;
-
-const TEK_LIFETIME: u32 = 3_600;
-
-const TUNNEL: u16 = 1;
-
-const HMAC_SHA_256: u16 = 5;
+/// How many octets the body of an SA payload with these policies has.
+pub fn sa_size(policy: &SaPolicy) -> usize
+    ensures { result ≡ sa_size policy.now }
+{
+    let kek = policy.kek.map_or(0, |_| usize::from(SAK_SIZE));
+    let tek = policy.tek.map_or(0, |_| usize::from(SAT_SIZE));
+    HEAD_SIZE + kek + tek
+}
 
 /// Appends the body of an SA payload with these policies, of which one at least is there.
 pub fn write_sa(policy: &SaPolicy, out: &mut Octets) -> Result<(), NoMemory>
@@ -53,13 +56,8 @@ pub fn write_sa(policy: &SaPolicy, out: &mut Octets) -> Result<(), NoMemory>
     ensures err { OnErr result (out.new ≡ out.old) }
 {
     let before = out.len();
-    match append_sa(policy, out) {
-        Ok(()) => Ok(()),
-        Err(NoMemory) => {
-            out.truncate(before);
-            Err(NoMemory)
-        }
-    }
+    let appended = append_sa(policy, out);
+    out.keep_or_truncate(before, appended)
 }
 
 /// Appends that body; where memory is short, maybe only a part of it.
@@ -103,7 +101,8 @@ fn append_sak(kek: &KekPolicy, next: u8, out: &mut Octets) -> Result<(), NoMemor
     append_ids(REKEY_PORT, out)?;
     out.extend(&kek.spi)?;
     out.extend(&[0; 4])?;
-    append_kek_attributes(&kek.sign, out)
+    append_cipher_attributes(out)?;
+    append_signature_attributes(&kek.sign, out)
 }
 
 /// Appends the payload for the TEK, the last one.
@@ -115,7 +114,8 @@ fn append_sat(tek: &TekPolicy, out: &mut Octets) -> Result<(), NoMemory>
     append_ids(0, out)?;
     out.extend(&[ESP_AES])?;
     out.extend(&tek.spi)?;
-    append_tek_attributes(out)
+    append_mode_attributes(out)?;
+    append_transform_attributes(out)
 }
 
 /// Appends the identifications of the source and the destination, with this port.
@@ -138,29 +138,47 @@ fn append_id(port: u16, address: &[u8; 4], out: &mut Octets) -> Result<(), NoMem
     out.extend(address)
 }
 
-fn append_kek_attributes(sign: &SignKind, out: &mut Octets) -> Result<(), NoMemory>
-    ensures ok { OnOk result (out.new ≡ out.old ++ kek_attributes sign.now) }
+/// Appends the attributes of how keys are encrypted.
+fn append_cipher_attributes(out: &mut Octets) -> Result<(), NoMemory>
+    ensures ok { OnOk result (out.new ≡ out.old ++ cipher_attributes) }
     ensures err { OnErr result (take (length out.old) out.new ≡ out.old) }
 {
-    write_short(1, LKH, out)?;
-    write_short(2, AES, out)?;
-    write_short(3, AES_BITS, out)?;
-    write_duration(4, KEK_LIFETIME, out)?;
-    write_short(5, SHA_256, out)?;
-    write_short(6, sign.algorithm, out)?;
-    write_short(7, sign.key_bits, out)?;
+    write_short(MANAGEMENT_ALGORITHM, LKH, out)?;
+    write_short(KEK_ALGORITHM, AES, out)?;
+    write_short(KEK_KEY_LENGTH, KEY_BITS, out)?;
+    write_duration(KEK_LIFETIME, KEK_SECONDS, out)?;
     Ok(())
 }
 
-fn append_tek_attributes(out: &mut Octets) -> Result<(), NoMemory>
-    ensures ok { OnOk result (out.new ≡ out.old ++ tek_attributes) }
+/// Appends the attributes of how signatures are made.
+fn append_signature_attributes(sign: &SignKind, out: &mut Octets) -> Result<(), NoMemory>
+    ensures ok { OnOk result (out.new ≡ out.old ++ signature_attributes sign.now) }
     ensures err { OnErr result (take (length out.old) out.new ≡ out.old) }
 {
-    write_short(1, SECONDS, out)?;
-    write_duration(2, TEK_LIFETIME, out)?;
-    write_short(4, TUNNEL, out)?;
-    write_short(5, HMAC_SHA_256, out)?;
-    write_short(6, AES_BITS, out)?;
+    write_short(SIGNATURE_HASH, SHA_256, out)?;
+    write_short(SIGNATURE_ALGORITHM, sign.algorithm, out)?;
+    write_short(SIGNATURE_KEY_LENGTH, sign.key_bits, out)?;
+    Ok(())
+}
+
+/// Appends the attributes of how long and how traffic is encapsulated.
+fn append_mode_attributes(out: &mut Octets) -> Result<(), NoMemory>
+    ensures ok { OnOk result (out.new ≡ out.old ++ mode_attributes) }
+    ensures err { OnErr result (take (length out.old) out.new ≡ out.old) }
+{
+    write_short(LIFE_TYPE, SECONDS, out)?;
+    write_duration(LIFE_DURATION, TEK_SECONDS, out)?;
+    write_short(ENCAPSULATION_MODE, TUNNEL, out)?;
+    Ok(())
+}
+
+/// Appends the attributes of how traffic is authenticated and encrypted.
+fn append_transform_attributes(out: &mut Octets) -> Result<(), NoMemory>
+    ensures ok { OnOk result (out.new ≡ out.old ++ transform_attributes) }
+    ensures err { OnErr result (take (length out.old) out.new ≡ out.old) }
+{
+    write_short(AUTHENTICATION_ALGORITHM, HMAC_SHA_256, out)?;
+    write_short(TEK_KEY_LENGTH, KEY_BITS, out)?;
     Ok(())
 }
 

@@ -1,5 +1,6 @@
-//! Asks the readers of the framing and of payloads what they find wrong: each line of standard input names a reader, its arguments and octets in hexadecimal
-//! (`-` for none), and for each a line says `ok`, or the first fault and its place.
+//! Asks the readers of the framing and of payloads what they find: each line of standard input names a reader, its arguments and octets in
+//! hexadecimal (`-` for none). For each a line says `ok`, or the first fault and its place; the last two readers say what an accepted body
+//! holds.
 //!
 //! ```text
 //! header EXCHANGE OCTETS
@@ -7,12 +8,15 @@
 //! chain FIRST-KIND DUE-KIND,DUE-KIND.. BASE OCTETS
 //! sa BASE OCTETS
 //! kd BASE OCTETS
+//! sa-fields BASE OCTETS
+//! kd-fields BASE OCTETS
 //! ```
 #![tactic(auto)]
 
-ghost use Rattle.std.specs.Prelude.{◌+◌, ◌≤◌, ◌↔◌, length, IsTrue};
+ghost use Rattle.std.specs.Prelude.{◌+◌, ◌≤◌, ◌↔◌, length, vec_len, IsTrue};
 
 use answers::Answer;
+use fields::{KdFields, SaFields};
 use gd_wire::{MOST_PAYLOADS, WireFault, read_attribute, read_chain, read_header};
 use kd_wire::read_kd;
 use sa_wire::read_sa;
@@ -21,6 +25,7 @@ use std::io;
 use std::io::{BufRead, BufReader, ErrorKind};
 
 mod answers;
+mod fields;
 
 fn main(rt: HostRuntime) -> io::Result<()> {
     let input = BufReader::new(rt.alloc(), rt.reader())?;
@@ -33,17 +38,25 @@ fn main(rt: HostRuntime) -> io::Result<()> {
 }
 
 /// What the reader that a line names finds.
-fn answer(alloc: Global, line: &str) -> io::Result<Answer> {
+fn answer(alloc: Global, line: &str) -> io::Result<String> {
     let words = line.split_whitespace().collect::<Vec<_>>(alloc)?;
-    let fault = match words.as_slice() {
-        ["header", exchange, octets] => header(alloc, exchange, octets)?,
-        ["attribute", at, base, octets] => attribute(alloc, at, base, octets)?,
-        ["chain", first, due, base, octets] => chain(alloc, first, due, base, octets)?,
-        ["sa", base, octets] => sa(alloc, base, octets)?,
-        ["kd", base, octets] => kd(alloc, base, octets)?,
-        _ => return Err(ErrorKind::InvalidInput.into()),
-    };
-    Ok(Answer { fault })
+    match words.as_slice() {
+        ["header", exchange, octets] => fault_text(alloc, header(alloc, exchange, octets)?),
+        ["attribute", at, base, octets] => fault_text(alloc, attribute(alloc, at, base, octets)?),
+        ["chain", first, due, base, octets] => {
+            fault_text(alloc, chain(alloc, first, due, base, octets)?)
+        }
+        ["sa", base, octets] => fault_text(alloc, sa(alloc, base, octets)?),
+        ["kd", base, octets] => fault_text(alloc, kd(alloc, base, octets)?),
+        ["sa-fields", base, octets] => sa_fields(alloc, base, octets),
+        ["kd-fields", base, octets] => kd_fields(alloc, base, octets),
+        _ => Err(ErrorKind::InvalidInput.into()),
+    }
+}
+
+fn fault_text(alloc: Global, fault: Option<WireFault>) -> io::Result<String> {
+    let answer = Answer { fault };
+    Ok(format!(in alloc; "{answer}")?)
 }
 
 fn header(alloc: Global, exchange: &str, octets: &str) -> io::Result<Option<WireFault>> {
@@ -83,21 +96,53 @@ fn chain(
 }
 
 fn sa(alloc: Global, base: &str, octets: &str) -> io::Result<Option<WireFault>> {
-    let base = base.parse::<u32>().map_err(|_| ErrorKind::InvalidInput)?;
-    let octets = decode(alloc, octets)?;
-    if !has_room(base, octets.as_slice()) {
-        return Err(ErrorKind::InvalidInput.into());
-    }
-    Ok(read_sa(octets.as_slice(), base).err())
+    let payload = payload(alloc, base, octets)?;
+    Ok(read_sa(payload.body.as_slice(), payload.base).err())
 }
 
 fn kd(alloc: Global, base: &str, octets: &str) -> io::Result<Option<WireFault>> {
+    let payload = payload(alloc, base, octets)?;
+    Ok(read_kd(payload.body.as_slice(), payload.base).err())
+}
+
+fn sa_fields(alloc: Global, base: &str, octets: &str) -> io::Result<String> {
+    let payload = payload(alloc, base, octets)?;
+    match read_sa(payload.body.as_slice(), payload.base) {
+        Ok(policy) => {
+            let fields = SaFields { policy };
+            Ok(format!(in alloc; "{fields}")?)
+        }
+        Err(fault) => fault_text(alloc, Some(fault)),
+    }
+}
+
+fn kd_fields(alloc: Global, base: &str, octets: &str) -> io::Result<String> {
+    let payload = payload(alloc, base, octets)?;
+    let body = payload.body.as_slice();
+    match read_kd(body, payload.base) {
+        Ok(view) => {
+            let fields = KdFields { view: &view, body };
+            Ok(format!(in alloc; "{fields}")?)
+        }
+        Err(fault) => fault_text(alloc, Some(fault)),
+    }
+}
+
+/// The body of a payload, whose first octet has the place `base` in its datagram.
+#[derive(Drop)]
+struct Placed {
+    base: u32,
+    body: Vec<u8>,
+    ghost small: { base + vec_len body ≤ 4294967295 },
+}
+
+fn payload(alloc: Global, base: &str, octets: &str) -> io::Result<Placed> {
     let base = base.parse::<u32>().map_err(|_| ErrorKind::InvalidInput)?;
-    let octets = decode(alloc, octets)?;
-    if !has_room(base, octets.as_slice()) {
+    let body = decode(alloc, octets)?;
+    if !has_room(base, body.as_slice()) {
         return Err(ErrorKind::InvalidInput.into());
     }
-    Ok(read_kd(octets.as_slice(), base).err())
+    Ok(Placed { base, body })
 }
 
 /// The kinds of payloads in a text, with commas between them.

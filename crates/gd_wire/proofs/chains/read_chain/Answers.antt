@@ -1,11 +1,10 @@
-use Rattle.gd_wire.proofs.ChainLemmas.{before_fit}
+use Rattle.std.proofs.Common.{ap, ◌∙◌}
+use Rattle.gd_wire.specs.Chains.{chain}
+use Rattle.gd_wire.proofs.ChainReadings.{parts_lie}
 use Rattle.gd_wire.proofs.chains.read_chain.Goals as goal
 
-pub returns-in-Err-clause-before : goal.returns-in-Err-clause-before
-returns-in-Err-clause-before c = before_fit c.args.text.now c.args.base c.args.due.now c.args.first _ _ _ _ _ c.loop-kind.invariant
-
-pub returns-in-Ok-end-clause-within : goal.returns-in-Ok-end-clause-within
-returns-in-Ok-end-clause-within c = before_fit c.args.text.now c.args.base c.args.due.now c.args.first _ _ _ _ _ c.loop-kind.invariant
-
-pub returns-in-Err-end-clause-before : goal.returns-in-Err-end-clause-before
-returns-in-Err-end-clause-before c = before_fit c.args.text.now c.args.base c.args.due.now c.args.first _ _ _ _ _ c.loop-kind.invariant
+pub returns : goal.returns
+returns c =
+    let same = c.chain.ensures ∙ ap (chain c.args.first c.args.due.now) c.new-reader.ensures in
+    let lie = parts_lie c.args.text.now c.args.base c.args.first c.args.due.now c.chain.result same in
+    record { answer = same; within = lie.0; before = lie.1 }

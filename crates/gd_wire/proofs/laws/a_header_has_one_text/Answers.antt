@@ -1,5 +1,5 @@
-use Rattle.gd_wire.proofs.HeaderLemmas.{one_header}
+use Rattle.gd_wire.proofs.HeaderLemmas.{header_read}
 use Rattle.gd_wire.proofs.laws.a_header_has_one_text.Goals as goal
 
 pub returns : goal.returns
-returns c = one_header
+returns c exchange datagram found now small e = (header_read exchange datagram (found, now) small e).text

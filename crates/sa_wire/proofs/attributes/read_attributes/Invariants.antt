@@ -1,8 +1,8 @@
-use Rattle.std.proofs.Common.{◌≡◌, ◌-◌, ◌≤◌, length}
-use Rattle.sa_wire.specs.Attributes.{attributes_fault}
+use Rattle.std.proofs.Common.{◌≡◌, ◌-◌, [], length}
+use Rattle.sa_wire.specs.Attributes.{attributes_after}
 use Rattle.sa_wire.proofs.attributes.read_attributes.Given as goal
 
 abbrev pub invariant-loop : goal.invariant-loop
 invariant-loop l =
-    (attributes_fault l.text l.base (length l.rules) l.rules l.start ≡ attributes_fault l.text l.base (length l.rules - l.index) l.due.items l.at)
-    × (l.at ≤ length l.text)
+    (attributes_after [] (length l.rules) l.rules l.fn.text ≡ attributes_after l.found.items (length l.rules - l.index) l.due.items l.text)
+    × (length l.found.items ≡ l.index)

@@ -1,0 +1,167 @@
+//! The bodies of payloads of fixed fields, in a text in which `read_chain` found the payload. The body of a GAP payload (RFC 6407 section
+//! 5.4) is any octets: `Part::body`.
+ghost use Rattle.std.specs.Prelude.{◌≡◌, ◌+◌, ◌≤◌, ◌++◌, length, OnOk, OnErr};
+ghost use Rattle.gd_wire.specs.Readings.{Gives, Shows, Answers, value_of};
+ghost use Rattle.gd_wire.specs.Bodies.{body_cursor, length_place, due_size, sized, hash_octets, hash, nonce, signature, sequence};
+ghost use Rattle.gd_wire.specs.Bodies.{sequence_text, identification, identification_text};
+
+use crate::attributes::append;
+use crate::chains::Part;
+use crate::faults::fault;
+use crate::readers::Reader;
+use byteorder::{BigEndian, ByteOrder};
+use group_terms::{NoMemory, Octets, WireFault, WireWhat};
+
+/// The octets of a hash.
+pub const HASH_OCTETS: usize = 32;
+
+/// Who or what a payload names (RFC 2408 section 3.8).
+#[derive(Clone, Copy, Debug, PartialEq, Eq)]
+pub struct Identification<'a> {
+    /// The kind of the identification.
+    pub id_type: u8,
+    pub octets: &'a [u8],
+}
+
+impl Part {
+    /// A reader of its body.
+    pub fn reader<'a>(&self, text: &'a [u8]) -> Reader<'a>
+        requires within { self.now.start + self.now.length ≤ length text.now }
+        requires small { self.now.at + 4 + self.now.length ≤ 4294967295 }
+        ensures { result ≡ body_cursor text.now self.now }
+    {
+        Reader::new(self.body(text), self.at + 4)
+    }
+
+    /// The hash in a HASH payload (RFC 2408 section 3.11): 32 octets; else `Length`, at the payload's length.
+    pub fn hash(&self, text: &[u8]) -> Result<[u8; HASH_OCTETS], WireFault>
+        requires within { self.now.start + self.now.length ≤ length text.now }
+        requires small { self.now.at + 4 + self.now.length ≤ 4294967295 }
+        ensures { result ≡ value_of (hash (length_place self.now) (body_cursor text.now self.now)) }
+    {
+        self.reader(text).hash(self.at + 2)
+    }
+
+    /// The octets of a nonce (RFC 2408 section 3.13): 8 to 128 of them; else `Length`, at the payload's length.
+    pub fn nonce<'a>(&self, text: &'a [u8]) -> Result<&'a [u8], WireFault>
+        requires within { self.now.start + self.now.length ≤ length text.now }
+        requires small { self.now.at + 4 + self.now.length ≤ 4294967295 }
+        ensures { Answers (λ octets. octets.now) result (nonce (length_place self.now) (body_cursor text.now self.now)) }
+    {
+        self.reader(text).nonce(self.at + 2)
+    }
+
+    /// The octets of a signature (RFC 2408 section 3.12): 1 to 512 of them; else `Length`, at the payload's length.
+    pub fn signature<'a>(&self, text: &'a [u8]) -> Result<&'a [u8], WireFault>
+        requires within { self.now.start + self.now.length ≤ length text.now }
+        requires small { self.now.at + 4 + self.now.length ≤ 4294967295 }
+        ensures { Answers (λ octets. octets.now) result (signature (length_place self.now) (body_cursor text.now self.now)) }
+    {
+        self.reader(text).signature(self.at + 2)
+    }
+
+    /// The number in a SEQ payload (RFC 6407 section 5.7), of 4 octets; else `Length`, at the payload's length.
+    pub fn sequence(&self, text: &[u8]) -> Result<u32, WireFault>
+        requires within { self.now.start + self.now.length ≤ length text.now }
+        requires small { self.now.at + 4 + self.now.length ≤ 4294967295 }
+        ensures { result ≡ value_of (sequence (length_place self.now) (body_cursor text.now self.now)) }
+    {
+        self.reader(text).sequence(self.at + 2)
+    }
+
+    /// What an ID payload names (RFC 2408 section 3.8); else `Short`, where a field that is missing would begin. The protocol and the port
+    /// are not looked at.
+    pub fn identification<'a>(&self, text: &'a [u8]) -> Result<Identification<'a>, WireFault>
+        requires within { self.now.start + self.now.length ≤ length text.now }
+        requires small { self.now.at + 4 + self.now.length ≤ 4294967295 }
+        ensures { Answers (λ found. (found.id_type, found.octets.now)) result (identification (body_cursor text.now self.now)) }
+    {
+        self.reader(text).identification()
+    }
+}
+
+impl<'a> Reader<'a> {
+    /// Finds that just so many octets are left; else `Length`, at a place.
+    #[tactic(auto, unfolding(crate::specs::Bodies::due_size))]
+    fn due_size(&self, size: usize, at: u32) -> Result<(), WireFault>
+        ensures { Gives result self.now (due_size size at self.now) }
+    {
+        if self.left().len() != size {
+            return Err(fault(WireWhat::Length, at));
+        }
+        Ok(())
+    }
+
+    /// All octets, at least and at most so many; else `Length`, at a place.
+    #[tactic(auto, unfolding(crate::specs::Bodies::sized))]
+    fn sized(&mut self, least: usize, most: usize, at: u32) -> Result<&'a [u8], WireFault>
+        ensures { Shows (λ octets. octets.now) result self.new (sized least most at self.old) }
+    {
+        let left = self.left().len();
+        if left < least || left > most {
+            return Err(fault(WireWhat::Length, at));
+        }
+        Ok(self.rest())
+    }
+
+    #[tactic(auto, unfolding(crate::specs::Bodies::hash))]
+    fn hash(&mut self, at: u32) -> Result<[u8; HASH_OCTETS], WireFault>
+        ensures { Gives result self.new (hash at self.old) }
+    {
+        self.due_size(HASH_OCTETS, at)?;
+        self.array()
+    }
+
+    #[tactic(auto, unfolding(crate::specs::Bodies::nonce))]
+    fn nonce(&mut self, at: u32) -> Result<&'a [u8], WireFault>
+        ensures { Shows (λ octets. octets.now) result self.new (nonce at self.old) }
+    {
+        self.sized(8, 128, at)
+    }
+
+    #[tactic(auto, unfolding(crate::specs::Bodies::signature))]
+    fn signature(&mut self, at: u32) -> Result<&'a [u8], WireFault>
+        ensures { Shows (λ octets. octets.now) result self.new (signature at self.old) }
+    {
+        self.sized(1, 512, at)
+    }
+
+    #[tactic(auto, unfolding(crate::specs::Bodies::sequence))]
+    fn sequence(&mut self, at: u32) -> Result<u32, WireFault>
+        ensures { Gives result self.new (sequence at self.old) }
+    {
+        self.due_size(4, at)?;
+        self.long_number()
+    }
+
+    #[tactic(auto, unfolding(crate::specs::Bodies::identification))]
+    fn identification(&mut self) -> Result<Identification<'a>, WireFault>
+        ensures { Shows (λ found. (found.id_type, found.octets.now)) result self.new (identification self.old) }
+    {
+        let id_type = self.octet()?;
+        self.octet()?;
+        self.number()?;
+        Ok(Identification {
+            id_type,
+            octets: self.rest(),
+        })
+    }
+}
+
+/// Appends the body of a SEQ payload (RFC 6407 section 5.7).
+pub fn write_sequence(number: u32, out: &mut Octets) -> Result<(), NoMemory>
+    ensures ok { OnOk result (out.new ≡ out.old ++ sequence_text number) }
+    ensures err { OnErr result (out.new ≡ out.old) }
+{
+    let mut text = [0; 4];
+    BigEndian::write_u32(&mut text, number);
+    out.extend(&text)
+}
+
+/// Appends the body of an ID payload (RFC 2408 section 3.8), with protocol and port zero.
+pub fn write_identification(id_type: u8, octets: &[u8], out: &mut Octets) -> Result<(), NoMemory>
+    ensures ok { OnOk result (out.new ≡ out.old ++ identification_text id_type octets.now) }
+    ensures err { OnErr result (out.new ≡ out.old) }
+{
+    append(&[id_type, 0, 0, 0], octets, out)
+}

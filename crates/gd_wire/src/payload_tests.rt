@@ -1,0 +1,32 @@
+use crate::{write_payload, write_payload_head};
+use group_terms::List;
+use std::test::Fail;
+
+/// The payload with sequence number 1, after which an SA payload comes: at once, and the header before the body.
+#[test]
+fn a_payload_is_written_in_two_steps(rt: HostRuntime) -> Result<(), Fail> {
+    let alloc = rt.alloc();
+    let due = [1, 0, 0, 8, 0, 0, 0, 1];
+    let mut whole = List::new(alloc);
+    write_payload(1, &[0, 0, 0, 1], &mut whole)?;
+    assert_eq!(rt; whole.as_slice(), due.as_slice());
+    let mut steps = List::new(alloc);
+    write_payload_head(1, 4, &mut steps)?;
+    steps.extend(&[0, 0, 0, 1])?;
+    assert_eq!(rt; steps.as_slice(), due.as_slice());
+    Ok(())
+}
+
+/// Lengths of two octets, the highest first: of no body, of one of 18,585 octets, and of the longest.
+#[test]
+fn heads_tell_the_length_of_the_whole(rt: HostRuntime) -> Result<(), Fail> {
+    let mut out = List::new(rt.alloc());
+    write_payload_head(0, 0, &mut out)?;
+    write_payload_head(9, 18_585, &mut out)?;
+    write_payload_head(0, 65_531, &mut out)?;
+    assert_eq!(rt;
+        out.as_slice(),
+        [0, 0, 0, 4, 9, 0, 0x48, 0x9d, 0, 0, 0xff, 0xff].as_slice()
+    );
+    Ok(())
+}

@@ -1,0 +1,45 @@
+-- How many octets the parts of a key download have (RFC 6407 section 5.6).
+use Rattle.std.specs.Prelude.{ℕ, ◌+◌, ◌*◌}
+use Rattle.group_terms.specs.Octets.{key_octets, data_octets, integrity_octets, rekey_spi_octets, traffic_spi_octets}
+
+-- the header of an attribute in the long form (RFC 2408 section 3.3)
+abbrev pub attribute_head_octets : ℕ
+attribute_head_octets = 4
+
+-- a key of LKH: 16 octets of its ID, type, dates and handle, and its data (RFC 6407 section 5.6.3.1)
+abbrev pub lkh_key_octets : ℕ
+lkh_key_octets = 16 + data_octets
+
+-- a download array of so many keys, after its version, their number and a reserved octet; and with the header of its attribute
+abbrev pub download_array_octets : ℕ → ℕ
+download_array_octets count = 4 + lkh_key_octets * count
+
+abbrev pub download_octets : ℕ → ℕ
+download_octets count = attribute_head_octets + download_array_octets count
+
+-- An update array that gives one key has these too, and before the key the ID, a reserved number and the handle of the one that seals it
+-- (section 5.6.3.2); and with the header of its attribute.
+abbrev pub update_array_octets : ℕ
+update_array_octets = 12 + lkh_key_octets
+
+abbrev pub update_octets : ℕ
+update_octets = attribute_head_octets + update_array_octets
+
+-- what stands before the attributes of a packet: its header, the size of its SPI, and that SPI
+abbrev pub packet_head_octets : ℕ → ℕ
+packet_head_octets spi_octets = 5 + spi_octets
+
+-- the packet of a traffic key (section 5.6.1)
+abbrev pub traffic_octets : ℕ
+traffic_octets = packet_head_octets traffic_spi_octets + (attribute_head_octets + key_octets) + (attribute_head_octets + integrity_octets)
+
+-- the three bodies, after the number of packets and a reserved number: with a traffic key alone, with so many update arrays of one key, and
+-- for a member that registers, with so many keys of its path
+abbrev pub traffic_kd_octets : ℕ
+traffic_kd_octets = 4 + traffic_octets
+
+abbrev pub update_kd_octets : ℕ → ℕ
+update_kd_octets arrays = 4 + packet_head_octets rekey_spi_octets + update_octets * arrays
+
+abbrev pub reply_kd_octets : ℕ → ℕ
+reply_kd_octets keys = 4 + traffic_octets + packet_head_octets rekey_spi_octets + download_octets keys

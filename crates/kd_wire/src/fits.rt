@@ -1,0 +1,62 @@
+//! That values fit what is written of them, as their types say.
+ghost use Rattle.std.specs.Prelude.{◌≡◌, ◌<◌, length, All};
+ghost use Rattle.group_terms.specs.Octets.{AreOctets, rekey_spi_octets};
+ghost use Rattle.kd_wire.specs.Texts.{PathKeyFits, TrafficFits, JobFits};
+
+use crate::sealing::WrapJob;
+use crate::widths::REKEY_SPI_OCTETS;
+use group_terms::{PathKey, TrafficValue};
+
+/// A slice of octets has octets.
+fn are_octets(octets: &[u8])
+    ensures { AreOctets octets.now }
+{}
+
+/// An epoch has 4 octets.
+fn is_epoch(made: u32)
+    ensures { made < 4294967296 }
+{}
+
+/// The SPI of rekey datagrams fits.
+pub fn spi_fits(spi: &[u8; REKEY_SPI_OCTETS])
+    ensures size { length spi.now ≡ rekey_spi_octets }
+    ensures octets { AreOctets spi.now }
+{
+    are_octets(spi);
+}
+
+/// A traffic key fits.
+pub fn traffic_fits(traffic: &TrafficValue)
+    ensures { TrafficFits traffic.now }
+{
+    are_octets(&traffic.cipher_key);
+    are_octets(&traffic.integrity_key);
+    are_octets(&traffic.spi);
+}
+
+/// The key of a position fits.
+pub fn path_key_fits(key: &PathKey)
+    ensures { PathKeyFits key.now }
+{
+    are_octets(&key.value.iv);
+    are_octets(&key.value.key);
+    is_epoch(key.made);
+    key.id.number();
+}
+
+/// The keys of positions fit.
+pub fn path_keys_fit(keys: &[PathKey])
+    ensures { All PathKeyFits keys.now }
+{
+    for key in keys {
+        path_key_fits(key);
+    }
+}
+
+/// A job fits.
+pub fn job_fits(job: &WrapJob)
+    ensures { JobFits job.now }
+{
+    path_key_fits(&job.by);
+    path_key_fits(&job.gives);
+}

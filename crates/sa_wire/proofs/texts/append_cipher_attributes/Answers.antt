@@ -1,0 +1,7 @@
+use Rattle.std.proofs.Common.{append_assoc}
+use Rattle.sa_wire.proofs.texts.append_cipher_attributes.Goals as goal
+
+pub returns-clause-ok : goal.returns-clause-ok
+returns-clause-ok c =
+    let fourth = c.in_ok-write_duration.ensures.ok in
+    rw (fourth, c.in_ok-write_short-3.ensures.ok, c.in_ok-write_short-2.ensures.ok, c.in_ok-write_short.ensures.ok) (simp append_assoc)

@@ -1,0 +1,129 @@
+//! What accepted bodies hold, in a line of text.
+
+use kd_wire::{KdView, PathKey, SealedKey, TrafficValue};
+use sa_wire::{KekPolicy, SaPolicy, TekPolicy};
+use std::fmt;
+
+/// Octets in hexadecimal.
+#[derive(Clone, Copy)]
+pub struct Hex<'a> {
+    pub octets: &'a [u8],
+}
+
+impl fmt::Display for Hex<'_> {
+    fn fmt<W: fmt::Write>(&self, f: &mut fmt::Formatter<W>) -> fmt::Result {
+        for octet in self.octets {
+            write!(f, "{octet:02x}")?;
+        }
+        Ok(())
+    }
+}
+
+/// `kek SPI ALGORITHM BITS tek SPI`, with `-` for a policy that is not there.
+#[derive(Clone, Copy)]
+pub struct SaFields {
+    pub policy: SaPolicy,
+}
+
+impl fmt::Display for SaFields {
+    fn fmt<W: fmt::Write>(&self, f: &mut fmt::Formatter<W>) -> fmt::Result {
+        match self.policy.kek {
+            Some(kek) => fmt_kek(kek, f)?,
+            None => write!(f, "kek -")?,
+        }
+        match self.policy.tek {
+            Some(tek) => fmt_tek(tek, f),
+            None => write!(f, " tek -"),
+        }
+    }
+}
+
+fn fmt_kek<W: fmt::Write>(kek: KekPolicy, f: &mut fmt::Formatter<W>) -> fmt::Result {
+    let spi = Hex { octets: &kek.spi };
+    let (algorithm, key_bits) = (kek.sign.algorithm, kek.sign.key_bits);
+    write!(f, "kek {spi} {algorithm} {key_bits}")
+}
+
+fn fmt_tek<W: fmt::Write>(tek: TekPolicy, f: &mut fmt::Formatter<W>) -> fmt::Result {
+    let spi = Hex { octets: &tek.spi };
+    write!(f, " tek {spi}")
+}
+
+/// `traffic CIPHER-KEY INTEGRITY-KEY SPI`, where there is one, and `lkh SPI` with the keys of a path, `path ID.EPOCH IV KEY` each, or the
+/// keys that update arrays give, `given ID.EPOCH>ID.EPOCH SEALED` each, after the key that seals it.
+#[derive(Clone, Copy)]
+pub struct KdFields<'a> {
+    pub view: &'a KdView,
+    pub body: &'a [u8],
+}
+
+impl fmt::Display for KdFields<'_> {
+    fn fmt<W: fmt::Write>(&self, f: &mut fmt::Formatter<W>) -> fmt::Result {
+        if let Some(traffic) = self.view.tek {
+            fmt_traffic(&traffic, f)?;
+        }
+        match self.view.lkh_spi {
+            Some(spi) => fmt_lkh(self, spi, f),
+            None => Ok(()),
+        }
+    }
+}
+
+fn fmt_lkh<W: fmt::Write>(
+    fields: &KdFields,
+    spi: [u8; 16],
+    f: &mut fmt::Formatter<W>,
+) -> fmt::Result {
+    let gap = if fields.view.tek.is_some() { " " } else { "" };
+    let spi = Hex { octets: &spi };
+    write!(f, "{gap}lkh {spi}")?;
+    for key in fields.view.download.keys() {
+        fmt_path_key(key, f)?;
+    }
+    fmt_given(fields.view, fields.body, f)
+}
+
+fn fmt_traffic<W: fmt::Write>(traffic: &TrafficValue, f: &mut fmt::Formatter<W>) -> fmt::Result {
+    let cipher_key = Hex {
+        octets: &traffic.cipher_key,
+    };
+    let integrity_key = Hex {
+        octets: &traffic.integrity_key,
+    };
+    let spi = Hex {
+        octets: &traffic.spi,
+    };
+    write!(f, "traffic {cipher_key} {integrity_key} {spi}")
+}
+
+fn fmt_path_key<W: fmt::Write>(key: &PathKey, f: &mut fmt::Formatter<W>) -> fmt::Result {
+    let (id, made) = (key.id.number(), key.made);
+    let iv = Hex {
+        octets: &key.value.iv,
+    };
+    let key = Hex {
+        octets: &key.value.key,
+    };
+    write!(f, " path {id}.{made} {iv} {key}")
+}
+
+fn fmt_given<W: fmt::Write>(view: &KdView, body: &[u8], f: &mut fmt::Formatter<W>) -> fmt::Result {
+    let Some(span) = view.updates else {
+        return Ok(());
+    };
+    for array in span.arrays(body) {
+        for key in array.keys {
+            fmt_sealed(&key, f)?;
+        }
+    }
+    Ok(())
+}
+
+fn fmt_sealed<W: fmt::Write>(key: &SealedKey, f: &mut fmt::Formatter<W>) -> fmt::Result {
+    let (by, by_made) = (key.by.number(), key.by_made);
+    let (id, made) = (key.gives.id.number(), key.gives.made);
+    let sealed = Hex {
+        octets: &key.gives.sealed,
+    };
+    write!(f, " given {by}.{by_made}>{id}.{made} {sealed}")
+}
