@@ -6,7 +6,7 @@ use Rattle.std.specs.List.{position, position_or_len}
 use Rattle.std.proofs.lemmas.Bool.{eqb-true, ltb-true, eq-eqb, le-leb, lt-ltb}
 use Rattle.std.proofs.lemmas.Bool.Decides.{nat_tests}
 use Rattle.std.proofs.lemmas.List.{length-replicate, length-take, take_at, drop_at}
-use Rattle.std.proofs.lemmas.List.Elements.{All-nil, All-cons, All-head, All-tail, All-drop}
+use Rattle.std.proofs.lemmas.List.Elements.{All-nil, All-cons, All-head, All-tail, All-take, All-drop}
 use Rattle.byteorder.specs.Numbers.{big_number-reads_back}
 use Rattle.group_terms.specs.Octets.{IsOctet, AreOctets}
 use Rattle.group_terms.specs.declared.wires.WireFault.{WireFault}
@@ -15,7 +15,7 @@ use Rattle.gd_wire.specs.declared.chains.Part.{Part}
 use Rattle.gd_wire.specs.declared.chains.Named.{Named}
 use Rattle.gd_wire.specs.Readings.{Cursor, value_of, number, octet, octets, part, due_octet}
 use Rattle.gd_wire.specs.Chains
-use Rattle.gd_wire.specs.Chains.{Payload, PayloadsFit, padded, payload_text, payloads_text, payloads_at, first_kind, kinds_of, body_of}
+use Rattle.gd_wire.specs.Chains.{Payload, PayloadFits, PayloadsFit, padded, payload_text, payloads_text, payloads_at, first_kind, kinds_of, body_of}
 use Rattle.gd_wire.specs.Chains.{after_parts, payload_then, no_payload, no_other, payload, chain_end, chain_from}
 use Rattle.gd_wire.proofs.ReadingLemmas.{check_ok}
 use Rattle.gd_wire.proofs.PartLemmas.{IsPayload, payload_read}
@@ -67,7 +67,7 @@ end_read named cursor read e =
 pub record IsChain (text : List ℕ) (due : List ℕ) (named : Named) (cursor : Cursor) (payloads : List Payload) : Type 0 where
   pub kinds : kinds_of payloads ≡ due
   pub first : first_kind payloads ≡ named.kind
-  pub fit : AreOctets text → PayloadsFit payloads
+  pub fit : AreOctets text → named.kind < 256 → PayloadsFit payloads
   pub text_is : AreOctets text → (zeros : ℕ) × (zeros < 16) × (cursor.left ≡ payloads_text payloads ++ replicate zeros 0)
 
 -- with one more payload before it
@@ -81,8 +81,13 @@ chain_more text base kind due named cursor read others reads is later =
     record {
       kinds = λ i. is.kind_is i ∷ later.kinds i;
       first = is.kind_is ∙ sym is.same;
-      fit = λ octets. All-cons (λ (payload : Payload). length payload.body ≤ 65531) _ (payloads_at text others)
-          (omega (arith, is.small (left octets), length-take read.0.0.length (drop read.0.0.start text))) (later.fit octets);
+      fit = λ octets small.
+          let kind : read.0.0.kind < 256 = omega (arith, is.kind_is, is.same, small) in
+          let long = length-take read.0.0.length (drop read.0.0.start text) in
+          let inner = All-take IsOctet read.0.0.length (drop read.0.0.start text) (All-drop IsOctet read.0.0.start text octets) in
+          All-cons PayloadFits _ (payloads_at text others)
+          (record { kind = kind; size = omega (arith, is.small (left octets), long); octets = inner })
+          (later.fit octets (is.names (left octets)));
       text_is = λ octets.
           let rest = later.text_is octets in (
             rest.0,
@@ -103,7 +108,7 @@ chain_read text base [] named cursor parts reads e =
     rw ended.2 (record {
       kinds = refl;
       first = sym is.0;
-      fit = λ octets. All-nil (λ (payload : Payload). length payload.body ≤ 65531);
+      fit = λ octets small. All-nil PayloadFits;
       text_is = λ octets. (length cursor.left, is.1, is.2);
     })
 chain_read text base (kind ∷ due) named cursor parts reads e =
@@ -185,7 +190,7 @@ chain_written text base zeros few (payload ∷ payloads) named cursor fit first 
     let next : ℕ = first_kind payloads in
     let left_is : cursor.left ≡ payload_text next payload.body ++ later = left
     ∙ append_assoc (payload_text next payload.body) (payloads_text payloads) (replicate zeros 0) in
-    let small = All-head (λ (payload : Payload). length payload.body ≤ 65531) payload payloads fit in
+    let small = (All-head PayloadFits payload payloads fit).size in
     let found = ap (λ octets. Chains.payload payload.kind named (record { base = cursor.base; at = cursor.at; left = octets })) left_is
     ∙ payload_written payload.kind next cursor.base cursor.at named payload.body later first small in
     let is = payload_read payload.kind named cursor.base cursor.at cursor.left _ found in
@@ -193,8 +198,7 @@ chain_written text base zeros few (payload ∷ payloads) named cursor fit first 
     let body : body_of text part ≡ payload.body =
     sym (body_is text base payload.kind named cursor _ reads is) ∙ ap (λ octets. take (length payload.body) (drop 4 octets)) left_is
     ∙ take_at payload.body later (length payload.body) refl in
-    let rest = chain_written text base zeros few payloads _ _ (All-tail (λ (payload : Payload). length payload.body ≤ 65531) payload
-    payloads fit) refl
+    let rest = chain_written text base zeros few payloads _ _ (All-tail PayloadFits payload payloads fit) refl
     (reads_on text base payload.kind named cursor _ reads is) refl in (
       part ∷ rest.0,
       ap (λ result. payload_then result (chain_from (kinds_of payloads))) found ∙ ap (after_parts (part ∷ [])) rest.1,

@@ -2,12 +2,12 @@
 use Rattle.std.proofs.Common.{ℕ, zero, suc, ◌+◌, List, [], ◌∷◌, ◌++◌, length, arith}
 use Rattle.std.specs.Int.{byte_at}
 use Rattle.std.proofs.Math.Nat.{mod-lt}
-use Rattle.std.proofs.lemmas.List.Elements.{All-nil, All-cons, All-append}
+use Rattle.std.proofs.lemmas.List.Elements.{All-nil, All-cons, All-append, All-head, All-tail}
 use Rattle.byteorder.specs.Endian.{big_bytes}
 use Rattle.group_terms.specs.Octets.{IsOctet, AreOctets}
 use Rattle.gd_wire.specs.declared.headers.Header.{Header}
 use Rattle.gd_wire.specs.Attributes.{short_text, long_text}
-use Rattle.gd_wire.specs.Chains.{payload_text}
+use Rattle.gd_wire.specs.Chains.{Payload, PayloadFits, PayloadsFit, first_kind, payload_text, payloads_text}
 use Rattle.gd_wire.specs.Headers.{header_text, HeaderFits}
 use Rattle.gd_wire.specs.Payloads.{payload_head}
 
@@ -56,3 +56,15 @@ header_octets header body fits =
     let next = one_more header.next (16 ∷ header.exchange ∷ 1 ∷ header.message) fits.next version in
     let front = both header.cookies fields fits.cookie_octets next in
     both (header.cookies ++ fields) (big_bytes 4 header.length) front (number_octets 4 header.length)
+
+first_small : (payloads : List Payload) → PayloadsFit payloads → IsOctet (first_kind payloads)
+first_small [] fit = omega arith
+first_small (payload ∷ payloads) fit = (All-head PayloadFits payload payloads fit).kind
+
+pub payloads_octets : (payloads : List Payload) → PayloadsFit payloads → AreOctets (payloads_text payloads)
+payloads_octets [] fit = none
+payloads_octets (payload ∷ payloads) fit =
+    let here = All-head PayloadFits payload payloads fit in
+    let later = All-tail PayloadFits payload payloads fit in
+    both (payload_text (first_kind payloads) payload.body) (payloads_text payloads)
+    (payload_octets (first_kind payloads) payload.body (first_small payloads later) here.octets) (payloads_octets payloads later)

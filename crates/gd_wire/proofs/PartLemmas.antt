@@ -1,10 +1,11 @@
 -- What is known of a payload that was read.
-use Rattle.std.proofs.Common.{◌≡◌, ℕ, ◌+◌, ◌-◌, ◌≤◌, List, [], ◌∷◌, ◌++◌, length, take, drop, leb, Ok, refl, sym, ap, ◌∙◌, subst, arith}
+use Rattle.std.proofs.Common.{◌≡◌, ℕ, ◌+◌, ◌-◌, ◌<◌, ◌≤◌, List, [], ◌∷◌, ◌++◌, length, take, drop, leb, Ok, refl, sym, ap, ◌∙◌, subst, arith}
 use Rattle.std.specs.Prelude.{◌==◌}
 use Rattle.std.proofs.lemmas.Bool.{eqb-true, leb-true, le-leb}
 use Rattle.std.proofs.lemmas.List.{take-append-drop, length-take-le}
+use Rattle.std.proofs.lemmas.List.Elements.{All-head}
 use Rattle.byteorder.specs.Endian.{big_from, big_bytes}
-use Rattle.group_terms.specs.Octets.{AreOctets}
+use Rattle.group_terms.specs.Octets.{IsOctet, AreOctets}
 use Rattle.gd_wire.specs.declared.chains.Part.{Part}
 use Rattle.gd_wire.specs.declared.chains.Named.{Named}
 use Rattle.gd_wire.specs.Readings.{Cursor, number, octet, octets, part, due_octet}
@@ -23,6 +24,7 @@ pub record IsPayload (kind : ℕ) (named : Named) (cursor : Cursor) (read : (Par
   pub place : read.1.at ≡ cursor.at + 4 + read.0.0.length
   pub left : read.1.left ≡ drop read.0.0.length (drop 4 cursor.left)
   pub small : AreOctets cursor.left → read.0.0.length ≤ 65531
+  pub names : AreOctets cursor.left → read.0.1.kind < 256
   pub text : AreOctets cursor.left → cursor.left ≡ payload_text read.0.1.kind (take read.0.0.length (drop 4 cursor.left)) ++ read.1.left
 
 pub payload_read : (kind : ℕ) (named : Named) (base at : ℕ) (left : List ℕ) (read : (Part × Named) × Cursor)
@@ -62,6 +64,7 @@ payload_read kind named base at (next ∷ reserved ∷ high ∷ low ∷ rest) re
       place = omega arith;
       left = refl;
       small = λ octets. let small = big_from-small 2 2 left octets in omega arith;
+      names = λ octets. All-head IsOctet next (reserved ∷ high ∷ low ∷ rest) octets;
       text = λ octets.
           let told : big_bytes 2 (length body + 4) ≡ high ∷ low ∷ [] = ap (big_bytes 2) sized
           ∙ big_bytes-big_from 2 2 left octets (omega arith) in

@@ -18,12 +18,12 @@ short_text kind number = big_bytes 2 (32768 + kind) ++ big_bytes 2 number
 abbrev pub long_text : ℕ → List ℕ → List ℕ
 long_text kind value = big_bytes 2 kind ++ big_bytes 2 (length value) ++ value
 
--- the text of an attribute of this kind and value; a long value stands in a text
+-- the text of an attribute of this kind and value; a long value is in a text
 abbrev pub value_text : List ℕ → ℕ → AttrValue → List ℕ
 value_text text kind (Values.Short number) = short_text kind number
 value_text text kind (Values.Long start size) = long_text kind (take size (drop start text))
 
--- the text of an attribute whose value, where that is long, stands in a text
+-- the text of an attribute whose value, where that is long, is in a text
 abbrev pub attribute_text : List ℕ → Attribute → List ℕ
 attribute_text text attribute = value_text text attribute.kind attribute.value
 

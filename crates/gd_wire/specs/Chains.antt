@@ -1,9 +1,10 @@
 -- Payloads one after the other (RFC 2408 section 3.2): each begins with a header of four octets, the kind of the next one or 0, a reserved
 -- octet, and the length of all of it in 2. After the last one zeros fill the last block of 16 octets (RFC 2409 appendix B).
-use Rattle.std.specs.Prelude.{◌≡◌, ℕ, ◌+◌, ◌-◌, ◌%◌, ◌≤◌, ◌==◌, nat_le, nat_lt, not, List, [], ◌∷◌, ◌++◌, length, map, take, drop}
+use Rattle.std.specs.Prelude.{◌≡◌, ℕ, ◌+◌, ◌-◌, ◌%◌, ◌<◌, ◌≤◌, ◌==◌, nat_le, nat_lt, not, List, [], ◌∷◌, ◌++◌, length, map, take, drop}
 use Rattle.std.specs.Prelude.{replicate, All, Option, None, Some, Result, Ok, Err}
 use Rattle.std.specs.List.{position}
 use Rattle.byteorder.specs.Endian.{big_bytes}
+use Rattle.group_terms.specs.Octets.{AreOctets}
 use Rattle.group_terms.specs.declared.wires.WireFault.{WireFault}
 use Rattle.group_terms.specs.declared.wires.WireWhat.TheVariants.{Short, Length, Reserved, Padding, Kind}
 use Rattle.gd_wire.specs.declared.chains.ChainFault.{ChainFault}
@@ -36,9 +37,14 @@ payloads_text (payload ∷ payloads) = payload_text (first_kind payloads) payloa
 abbrev pub padded : List ℕ → List ℕ
 padded text = text ++ replicate ((16 - length text % 16) % 16) 0
 
--- payloads whose lengths can be written
+-- payloads that can be written: kinds that are octets, and bodies of octets whose lengths can be written
+pub record PayloadFits (payload : Payload) : Type 0 where
+  pub kind : payload.kind < 256
+  pub size : length payload.body ≤ 65531
+  pub octets : AreOctets payload.body
+
 abbrev pub PayloadsFit : List Payload → Type 0
-PayloadsFit payloads = All (λ (payload : Payload). length payload.body ≤ 65531) payloads
+PayloadsFit payloads = All PayloadFits payloads
 
 -- ---- readings
 

@@ -19,7 +19,7 @@ pub record Cursor : Type 0 where
 abbrev pub from_start : ℕ → List ℕ → Cursor
 from_start base text = record { base = base; at = 0; left = text }
 
--- the cursor after so many octets
+-- the cursor after a number of octets
 abbrev pub after : ℕ → Cursor → Cursor
 after size cursor = record { base = cursor.base; at = cursor.at + size; left = drop size cursor.left }
 
@@ -88,14 +88,14 @@ inside text reading cursor = back_to cursor (reading text)
 
 -- ---- fields
 
--- the next octets, so many, as a text of their own; else this is wrong at a place
+-- a number of octets, which come next, as a text of their own; else this is wrong at a place
 unfoldable pub part : ℕ → WireWhat → ℕ → Reading Cursor
 part size what at cursor =
     if nat_le size (length cursor.left)
     then Ok (record { base = cursor.base; at = cursor.at; left = take size cursor.left }, after size cursor)
     else Err (fault_at what at)
 
--- The next octets, so many. A field that is not whole is missing: Short, where it would begin.
+-- A number of octets, which come next. A field that is not whole is missing: Short, where it would begin.
 unfoldable pub octets : ℕ → Reading (List ℕ)
 octets size = do
   at ← here

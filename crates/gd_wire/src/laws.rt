@@ -98,13 +98,13 @@ pub fn a_chain_has_one_text()
         length text % 16 ≡ 0 → text ≡ padded (payloads_text (payloads_at text parts)) }
 {}
 
-/// What is read of a datagram of octets without fault can be written again: its header suits what is after it, and the lengths of its
+/// What is read of a datagram of octets without fault can be written again: its header suits what is after it, and its
 /// payloads can be written.
 pub fn what_is_read_can_be_written()
     ensures header { (exchange : ℕ) (datagram : List ℕ) (found : Header) (now : Cursor) → AreOctets datagram →
         header exchange (from_start 0 datagram) ≡ Ok (found, now) →
         HeaderFits found now.left }
-    ensures payloads { (text due : List ℕ) (base first : ℕ) (parts : List Part) → AreOctets text →
+    ensures payloads { (text due : List ℕ) (base first : ℕ) (parts : List Part) → AreOctets text → first < 256 →
         chain first due (from_start base text) ≡ Ok parts →
         PayloadsFit (payloads_at text parts) }
 {}

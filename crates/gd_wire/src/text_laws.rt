@@ -4,7 +4,7 @@ ghost use Rattle.byteorder.specs.Endian.{big_bytes};
 ghost use Rattle.group_terms.specs.Octets.{IsOctet, AreOctets};
 ghost use Rattle.gd_wire.specs.declared.headers.Header.{Header};
 ghost use Rattle.gd_wire.specs.Attributes.{short_text, long_text};
-ghost use Rattle.gd_wire.specs.Chains.{payload_text};
+ghost use Rattle.gd_wire.specs.Chains.{Payload, PayloadsFit, payload_text, payloads_text};
 ghost use Rattle.gd_wire.specs.Headers.{header_text, HeaderFits};
 ghost use Rattle.gd_wire.specs.Payloads.{payload_head};
 
@@ -20,5 +20,6 @@ pub fn written_framing_is_octets()
     ensures long { (kind : ℕ) (value : List ℕ) → AreOctets value → AreOctets (long_text kind value) }
     ensures head { (next size : ℕ) → IsOctet next → AreOctets (payload_head next size) }
     ensures payload { (next : ℕ) (body : List ℕ) → IsOctet next → AreOctets body → AreOctets (payload_text next body) }
+    ensures payloads { (payloads : List Payload) → PayloadsFit payloads → AreOctets (payloads_text payloads) }
     ensures header { (header : Header) (body : List ℕ) → HeaderFits header body → AreOctets (header_text header) }
 {}

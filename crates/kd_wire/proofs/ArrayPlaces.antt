@@ -13,7 +13,7 @@ use Rattle.kd_wire.specs.declared.arrays.ArrayKind.TheVariants.{Update}
 use Rattle.kd_wire.specs.declared.updates.UpdateArray.{UpdateArray}
 use Rattle.kd_wire.specs.declared.updates.UpdateKey.{UpdateKey}
 use Rattle.kd_wire.specs.Arrays.{long_type, least_keys, most_keys, head_size, array_head, sealer, update_array, update_attribute}
-use Rattle.kd_wire.specs.Keys.{key_type, is_of, given_key, given_keys}
+use Rattle.kd_wire.specs.Keys.{key_type, has_handle, given_key, given_keys}
 use Rattle.kd_wire.specs.Widths.{lkh_key_octets}
 use Rattle.kd_wire.proofs.ReadingLemmas.{ok_same, and_then_ok}
 use Rattle.kd_wire.proofs.LoopLemmas.{array_by}
@@ -38,7 +38,7 @@ unfolding given_key
 local_key handle =
     let sealed_of : ℕ → ℕ → Reading UpdateKey = λ id made. octets data_octets
     >>= λ sealed. give (record { id = id; made = made; sealed = sealed }) in
-    let made_of : ℕ → ℕ → Reading UpdateKey = λ id made_at. long_number >>= λ made. check (is_of handle made) Value made_at
+    let made_of : ℕ → ℕ → Reading UpdateKey = λ id made_at. long_number >>= λ made. check (has_handle handle made) Value made_at
     >> sealed_of id made in
     let after_id : ℕ → Reading UpdateKey = λ id. key_type >> (octets 8 >> (here >>= made_of id)) in
     local_here (λ (e : Nothing) (at : ℕ). number >>= λ id. check (not (id == 0)) Value at >> after_id id) (
@@ -48,10 +48,10 @@ local_key handle =
     local_next (λ (e : Nothing × ℕ). key_type) (λ (e : Nothing × ℕ). octets 8 >> (here >>= made_of id)) (local_always key_type local_type) (
     local_next (λ (e : Nothing × ℕ). octets 8) (λ (e : Nothing × ℕ). here >>= made_of id) (local_always (octets 8) (local_octets 8)) (
     local_here (λ (e : Nothing × ℕ) (made_at : ℕ). made_of id made_at) (
-    local_then (λ (e : (Nothing × ℕ) × ℕ). long_number) (λ (made : ℕ) (e : (Nothing × ℕ) × ℕ). check (is_of handle made) Value e.1
+    local_then (λ (e : (Nothing × ℕ) × ℕ). long_number) (λ (made : ℕ) (e : (Nothing × ℕ) × ℕ). check (has_handle handle made) Value e.1
     >> sealed_of id made)
     (local_always long_number local_long_number) (λ made.
-    local_check (is_of handle made) Value (λ (e : (Nothing × ℕ) × ℕ). e.1) (λ (e : (Nothing × ℕ) × ℕ). sealed_of id made) (λ same.
+    local_check (has_handle handle made) Value (λ (e : (Nothing × ℕ) × ℕ). e.1) (λ (e : (Nothing × ℕ) × ℕ). sealed_of id made) (λ same.
     local_then (λ (e : (Nothing × ℕ) × ℕ). octets data_octets) (λ (sealed : List ℕ) (e : (Nothing × ℕ) × ℕ). give
     (record { id = id; made = made; sealed = sealed })) (local_always (octets data_octets) (local_octets data_octets)) (λ sealed.
     local_give (record { id = id; made = made; sealed = sealed }))))))))))

@@ -18,7 +18,7 @@ use Rattle.kd_wire.specs.declared.updates.UpdateKey.{UpdateKey}
 use Rattle.kd_wire.specs.Arrays.{array_head, sealer, long_type, signature_keys, update_array, update_attribute, next_update, PlacedArray}
 use Rattle.kd_wire.specs.Arrays.{arrays_of, end_after, go_on, more_updates, PlacedUpdates, updates, gives_root}
 use Rattle.kd_wire.specs.Bodies.{Kd, kd, kd_of, update_packet, traffic_alone, updates_alone, one_packet, download_packet, two_packets}
-use Rattle.kd_wire.specs.Keys.{key_type, is_of, given_key, given_keys}
+use Rattle.kd_wire.specs.Keys.{key_type, has_handle, given_key, given_keys}
 use Rattle.kd_wire.specs.Seals.{sealed_under, handle_after}
 use Rattle.kd_wire.specs.UpdateTexts.{OneEpoch}
 use Rattle.kd_wire.specs.Private.Seen.{handle_of_given}
@@ -33,7 +33,7 @@ use Rattle.kd_wire.proofs.AlwaysLemmas.{always_next}
 -- ---- the keys of an array
 
 abbrev KeyIsOf : Option ℕ → UpdateKey → Type 0
-KeyIsOf handle key = is_of handle key.made ≡ true
+KeyIsOf handle key = has_handle handle key.made ≡ true
 
 key_is_of : (handle : Option ℕ) → Always (KeyIsOf handle) (given_key handle)
 unfolding given_key
@@ -41,7 +41,7 @@ key_is_of handle =
     let P = KeyIsOf handle in
     always_then P here _ (λ at. always_then P number _ (λ id. always_check P (not (id == 0)) Value at _ (λ some.
     always_next P key_type _ (always_next P (octets 8) _ (always_then P here _ (λ made_at. always_then P long_number _ (λ made.
-    always_check P (is_of handle made) Value made_at _ (λ same. always_then P (octets data_octets) _
+    always_check P (has_handle handle made) Value made_at _ (λ same. always_then P (octets data_octets) _
     (λ sealed. always_give P (record { id = id; made = made; sealed = sealed }) same)))))))))
 
 -- keys of an epoch, after which its handle is due
@@ -66,7 +66,7 @@ keys_of (suc more) epoch =
 
 -- the same of some keys or more after any handle, or none
 abbrev AreOfOne : Option ℕ → List UpdateKey → Type 0
-AreOfOne handle keys = (epoch : ℕ) × (is_of handle epoch ≡ true) × All (λ (key : UpdateKey). key.made ≡ epoch) keys
+AreOfOne handle keys = (epoch : ℕ) × (has_handle handle epoch ≡ true) × All (λ (key : UpdateKey). key.made ≡ epoch) keys
     × (handle_of_given handle keys ≡ Some epoch)
 
 first_of : (more : ℕ) (handle : Option ℕ) → Always (AreOfOne handle) (given_keys (suc more) handle)
@@ -92,7 +92,7 @@ all_sealed epoch by made (key ∷ keys) all =
 
 -- an array of one epoch, whose handle is due after it
 abbrev IsOfOne : Option ℕ → UpdateArray → Type 0
-IsOfOne handle array = (epoch : ℕ) × (is_of handle epoch ≡ true) × ArrayOf epoch array × (handle_after handle array.keys ≡ Some epoch)
+IsOfOne handle array = (epoch : ℕ) × (has_handle handle epoch ≡ true) × ArrayOf epoch array × (handle_after handle array.keys ≡ Some epoch)
 
 some_keys : (length_at : ℕ) → Always (λ count. 1 ≤ count) (array_head Update length_at)
 unfolding array_head

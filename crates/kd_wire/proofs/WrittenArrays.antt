@@ -17,7 +17,7 @@ use Rattle.kd_wire.specs.declared.arrays.ArrayKind.{ArrayKind}
 use Rattle.kd_wire.specs.declared.arrays.ArrayKind.TheVariants.{Download, Update}
 use Rattle.kd_wire.specs.Arrays.{long_type, signature_keys_of, signature_keys, least_keys, most_keys, head_size, array_head, sealer}
 use Rattle.kd_wire.specs.Arrays.{update_array, update_attribute, download_array, download}
-use Rattle.kd_wire.specs.Keys.{is_of, given_key, given_keys, path_keys}
+use Rattle.kd_wire.specs.Keys.{has_handle, given_key, given_keys, path_keys}
 use Rattle.kd_wire.specs.Widths.{lkh_key_octets}
 use Rattle.kd_wire.specs.Seals.{sealed_under}
 use Rattle.kd_wire.specs.Texts.{Sealed, SealedFits, PathKeyFits, IsPath, key_text, key_of, path_text, update_text, download_text}
@@ -98,7 +98,7 @@ sealer_reads by made some small fits =
 
 -- ---- an array that gives one key
 
-module _ (handle : Option ℕ) (update : Sealed) (fits : SealedFits update) (same : is_of handle update.job.gives.made ≡ true) where
+module _ (handle : Option ℕ) (update : Sealed) (fits : SealedFits update) (same : has_handle handle update.job.gives.made ≡ true) where
   abbrev by : ℕ × ℕ
   by = (update.job.by.id, update.job.by.made)
 

@@ -10,7 +10,7 @@ use Rattle.group_terms.specs.declared.paths.PathKey.{PathKey}
 use Rattle.group_terms.specs.declared.wires.WireWhat.TheVariants.{Reserved, Value}
 use Rattle.gd_wire.specs.Readings.{Reading, ◌>>=◌, ◌>>◌, here, give, check, octets, number, long_number, due_octet}
 use Rattle.kd_wire.specs.declared.updates.UpdateKey.{UpdateKey}
-use Rattle.kd_wire.specs.Keys.{key_type, is_above, is_on_path, path_key, path_keys, is_of, given_key}
+use Rattle.kd_wire.specs.Keys.{key_type, is_above, is_on_path, path_key, path_keys, has_handle, given_key}
 use Rattle.kd_wire.specs.Texts.{key_text, data_of, path_text, PathKeyFits, LeadsUp}
 use Rattle.kd_wire.proofs.ReadsLemmas.{Reads, reads_then, reads_next, reads_made, reads_give, reads_here, reads_check, reads_octets}
 use Rattle.kd_wire.proofs.ReadsLemmas.{reads_number, reads_long_number, reads_due_octet}
@@ -32,11 +32,11 @@ module _ (handle : Option ℕ) (id made : ℕ) (sealed : List ℕ) where
   abbrev key : UpdateKey
   key = record { id = id; made = made; sealed = sealed }
 
-  pub given_reads : 0 < id → id < 65536 → made < 4294967296 → length sealed ≡ data_octets → is_of handle made ≡ true
+  pub given_reads : 0 < id → id < 65536 → made < 4294967296 → length sealed ≡ data_octets → has_handle handle made ≡ true
       → Reads (given_key handle) (key_text id made sealed) key
   unfolding given_key
   given_reads some small fits long same =
-      let after_dates : ℕ → ℕ → Reading UpdateKey = λ id made_at. long_number >>= λ made. check (is_of handle made) Value made_at
+      let after_dates : ℕ → ℕ → Reading UpdateKey = λ id made_at. long_number >>= λ made. check (has_handle handle made) Value made_at
       >> (octets data_octets >>= λ sealed. give (record { id = id; made = made; sealed = sealed })) in
       reads_here _ (key_text id made sealed) key (λ at.
       reads_then number (λ id. check (not (id == 0)) Value at >> (key_type >> (octets 8 >> (here >>= after_dates id)))) (big_bytes 2 id)
@@ -45,10 +45,10 @@ module _ (handle : Option ℕ) (id made : ℕ) (sealed : List ℕ) where
       reads_next key_type _ (3 ∷ 0 ∷ []) (dates ++ big_bytes 4 made ++ sealed) tt key type_reads (
       reads_next (octets 8) _ dates (big_bytes 4 made ++ sealed) dates key (reads_octets 8 dates refl) (
       reads_here _ (big_bytes 4 made ++ sealed) key (λ made_at.
-      reads_then long_number (λ made. check (is_of handle made) Value made_at
+      reads_then long_number (λ made. check (has_handle handle made) Value made_at
       >> (octets data_octets >>= λ sealed. give (record { id = id; made = made; sealed = sealed }))) (big_bytes 4 made) sealed made key
       (reads_long_number made fits) (
-      reads_check (is_of handle made) Value made_at _ sealed key same (
+      reads_check (has_handle handle made) Value made_at _ sealed key same (
       reads_made (octets data_octets) (λ sealed. record { id = id; made = made; sealed = sealed }) sealed sealed
       (reads_octets data_octets sealed long)
       )))))))

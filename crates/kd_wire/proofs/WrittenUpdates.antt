@@ -11,7 +11,7 @@ use Rattle.gd_wire.specs.Attributes.{attribute, next_has_kind}
 use Rattle.kd_wire.specs.declared.updates.UpdateArray.{UpdateArray}
 use Rattle.kd_wire.specs.Arrays.{signature_keys, update_attribute, next_update, PlacedArray, arrays_of, end_after, go_on, more_updates}
 use Rattle.kd_wire.specs.Arrays.{PlacedUpdates, updates, gives_root}
-use Rattle.kd_wire.specs.Keys.{is_of}
+use Rattle.kd_wire.specs.Keys.{has_handle}
 use Rattle.kd_wire.specs.Seals.{handle_after}
 use Rattle.kd_wire.specs.Texts.{Sealed, SealedFits, AreOfOnePush, update_text, updates_text}
 use Rattle.kd_wire.specs.UpdateTexts.{AreUpdates, array_of}
@@ -41,7 +41,7 @@ text_long update fits = let long = fits.octets in omega arith
 -- ---- one after the other
 
 module _ (handle : Option ℕ) (base at : ℕ) where
-  pub next_reads : (update : Sealed) (rest : List ℕ) → SealedFits update → is_of handle update.job.gives.made ≡ true
+  pub next_reads : (update : Sealed) (rest : List ℕ) → SealedFits update → has_handle handle update.job.gives.made ≡ true
       → next_update handle (cursor base at (text_of update ++ rest)) ≡ Ok (Some (array_of update), cursor base (at + 64) rest)
   unfolding next_update
   next_reads update rest fits same =
@@ -85,7 +85,7 @@ more_read epoch (suc more) base at [] enough fit made =
     ∙ ap (λ place. Ok ([], cursor base place [])) (omega arith)
 more_read epoch (suc more) base at (update ∷ jobs) enough fit made =
     let same = All-head (IsOf epoch) update jobs made in
-    let due : is_of (Some epoch) update.job.gives.made ≡ true = ap (λ made. made == epoch) same ∙ refl_eqb epoch in
+    let due : has_handle (Some epoch) update.job.gives.made ≡ true = ap (λ made. made == epoch) same ∙ refl_eqb epoch in
     let rest = more_read epoch more base (at + 64) jobs (omega arith) (All-tail SealedFits update jobs fit)
     (All-tail (IsOf epoch) update jobs made) in
     let place : at + 64 + 64 * length jobs ≡ at + 64 * suc (length jobs) = omega arith in

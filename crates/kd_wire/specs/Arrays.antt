@@ -1,5 +1,5 @@
 -- The attributes of an LKH packet (RFC 6407 section 5.6.3): a download array (1, section 5.6.3.1) or update arrays (2, section 5.6.3.2), in
--- the long form. An attribute of kind 3, which holds the key that checks signatures (section 5.6.3.3), is passed over, wherever it stands
+-- the long form. An attribute of kind 3, which holds the key that checks signatures (section 5.6.3.3), is passed over, wherever it is
 -- and in either form.
 use Rattle.std.specs.Prelude.{ℕ, zero, suc, ◌+◌, ◌-◌, ◌*◌, ◌==◌, ◌&&◌, nat_le, not, Bool, List, [], ◌∷◌, length, Option, None, Some}
 use Rattle.std.specs.Prelude.{if◌then◌else◌}
@@ -25,7 +25,7 @@ long_type kinds = do
   check (list_any (λ kind. kind == type.kind) kinds && not type.is_short) (Kind type.kind) at
   give type.kind
 
--- attributes of kind 3, as many as there are, of which no more than so many are looked at
+-- attributes of kind 3, as many as come next; the number is the most that are looked at
 abbrev pub signature_keys_of : ℕ → Reading (Unit {0})
 signature_keys_of zero = give tt
 signature_keys_of (suc more) = do
@@ -40,7 +40,7 @@ signature_keys = do
 
 -- ---- the head of an array
 
--- Of each kind of array: how many octets stand before its keys, after the header of its attribute; and the least and the most of them,
+-- Of each kind of array: how many octets come before its keys, after the header of its attribute; and the least and the most of them,
 -- which are our choice. A download array has the keys of a path, and an update array one at least.
 abbrev pub head_size : ArrayKind → ℕ
 head_size Download = 4
@@ -54,8 +54,8 @@ abbrev pub most_keys : ArrayKind → ℕ
 most_keys Download = 16
 most_keys Update = 65535
 
--- An array begins with its version, which is 1, the number of its keys, to which the attribute's length has to be due, which stands at this
--- place, and a reserved octet.
+-- An array begins with its version, which is 1, the number of its keys, and a reserved octet. The attribute's length, which is at this
+-- place in the datagram, has to be right for that number of keys.
 unfoldable pub array_head : ArrayKind → ℕ → Reading ℕ
 array_head kind length_at = do
   size ← octets_left
@@ -113,7 +113,7 @@ abbrev pub go_on : {A : Type 0} → Option UpdateArray → (UpdateArray → Read
 go_on None more = give []
 go_on (Some array) more = more array
 
--- the arrays up to the end, no more than so many
+-- the arrays up to the end; the number is the most that are read
 abbrev pub more_updates : ℕ → Option ℕ → Reading (List PlacedArray)
 more_updates zero handle = give []
 more_updates (suc more) handle = do

@@ -14,14 +14,15 @@ key_type = do
   due_octet 3 Value
   due_octet 0 Reserved
 
--- ---- the keys of a path, whose data stands in the clear
+-- ---- the keys of a path, whose data is not sealed
 
--- After each key of a path stands that of its parent, up to the root's (RFC 6407 section 5.6.3.1, RFC 2627 section 5.4); in our numbering
--- the parent of p is p / 2, and the root is 1. Whether this is the ID of a key after that of `below`, if any, and before so many more:
+-- After each key of a path comes that of its parent, up to the root's (RFC 6407 section 5.6.3.1, RFC 2627 section 5.4); in our numbering
+-- the parent of p is p / 2, and the root is 1. Whether an ID is that of the parent of the one below, if there is one:
 abbrev pub is_above : Option ℕ → ℕ → Bool
 is_above None id = true
 is_above (Some below) id = id == below / 2
 
+-- and whether an ID is due where this number of keys comes after it: the last one is the root's
 abbrev pub is_on_path : ℕ → Option ℕ → ℕ → Bool
 is_on_path more below id = not (id == 0) && (is_above below id && (not (more == 0) || id == 1))
 
@@ -37,7 +38,7 @@ path_key more below = do
   key ← octets key_octets
   give (record { id = id; made = made; value = record { iv = iv; key = key } })
 
--- so many keys
+-- a number of keys, one after the other
 abbrev pub path_keys : ℕ → Option ℕ → Reading (List PathKey)
 path_keys zero below = give []
 path_keys (suc more) below = do
@@ -48,9 +49,9 @@ path_keys (suc more) below = do
 -- ---- the keys that an update gives, whose data is sealed
 
 -- whether a key has the handle that is asked for, if any
-abbrev pub is_of : Option ℕ → ℕ → Bool
-is_of None made = true
-is_of (Some handle) made = made == handle
+abbrev pub has_handle : Option ℕ → ℕ → Bool
+has_handle None made = true
+has_handle (Some handle) made = made == handle
 
 unfoldable pub given_key : Option ℕ → Reading UpdateKey
 given_key handle = do
@@ -61,11 +62,11 @@ given_key handle = do
   octets 8
   made_at ← here
   made ← long_number
-  check (is_of handle made) Value made_at
+  check (has_handle handle made) Value made_at
   sealed ← octets data_octets
   give (record { id = id; made = made; sealed = sealed })
 
--- so many keys, all with one handle
+-- a number of keys, all with one handle
 abbrev pub given_keys : ℕ → Option ℕ → Reading (List UpdateKey)
 given_keys zero handle = give []
 given_keys (suc more) handle = do

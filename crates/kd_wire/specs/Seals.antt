@@ -27,7 +27,7 @@ abbrev pub read_or_none : {A B : Type 0} → Result (A × Cursor) WireFault → 
 read_or_none (Ok read) more = more read.0 read.1
 read_or_none (Err fault) more = []
 
--- the keys that are read from here on, up to the first fault, and no more than so many
+-- the keys that are read from here on, up to the first fault; the number is the most
 abbrev pub keys_left : ℕ → Option ℕ → Cursor → List UpdateKey
 keys_left zero handle cursor = []
 keys_left (suc more) handle cursor = read_or_none (given_key handle cursor) (λ key next. key ∷ keys_left more (Some key.made) next)

@@ -10,7 +10,7 @@ abbrev pub found_or_none : {A B : Type 0} → Option A → (A → List B) → Li
 found_or_none None more = []
 found_or_none (Some found) more = more found
 
--- the arrays that are read from here on, up to the end or the first fault, and no more than so many
+-- the arrays that are read from here on, up to the end or the first fault; the number is the most
 abbrev pub arrays_left : ℕ → Option ℕ → Cursor → List UpdateArray
 arrays_left zero handle cursor = []
 arrays_left (suc more) handle cursor =
@@ -18,7 +18,7 @@ arrays_left (suc more) handle cursor =
     (λ next after. found_or_none next (λ array. array ∷ arrays_left more (handle_after handle array.keys) after))
 
 module _ (span : UpdateSpan) (body : List ℕ) where
-  -- whether a span stays in a body, whose places have 32 bits
+  -- whether a span lies in a body, and its length has 32 bits
   abbrev pub stays : Bool
   stays = nat_le span.start span.end && (nat_le span.end (length body) && nat_le (span.end - span.start) 4294967295)
 

@@ -13,18 +13,18 @@ use Rattle.kd_wire.specs.declared.sealing.WrapJob.{WrapJob}
 use Rattle.kd_wire.specs.declared.updates.UpdateKey.{UpdateKey}
 use Rattle.kd_wire.specs.Widths.{update_octets}
 
--- what stands before the attributes of a packet, of which there are so many octets: its header, and its SPI after the size of that
+-- what comes before the attributes of a packet, given how many octets these have: its header, and its SPI after the size of that
 abbrev pub packet_head : ℕ → List ℕ → ℕ → List ℕ
 packet_head kind spi size = kind ∷ 0 ∷ big_bytes 2 (5 + length spi + size) ++ length spi ∷ spi
 
 abbrev pub packet_text : ℕ → List ℕ → List ℕ → List ℕ
 packet_text kind spi attributes = packet_head kind spi (length attributes) ++ attributes
 
--- so many packets
+-- the number of packets, and these
 abbrev pub body_text : ℕ → List ℕ → List ℕ
 body_text count packets = big_bytes 2 count ++ big_bytes 2 0 ++ packets
 
--- a key of LKH (section 5.6.3.1), and what stands before its data
+-- a key of LKH (section 5.6.3.1), and what comes before its data
 abbrev pub key_head : ℕ → ℕ → List ℕ
 key_head id made = big_bytes 2 id ++ 3 ∷ 0 ∷ big_bytes 4 0 ++ big_bytes 4 0 ++ big_bytes 4 made
 
@@ -148,7 +148,7 @@ pub record AreJobsOfOnePush (jobs : List WrapJob) : Type 0 where
   pub made : All (λ (job : WrapJob). job.gives.made ≡ epoch) jobs
   pub root : list_any (λ (job : WrapJob). job.gives.id == 1) jobs ≡ true
 
--- jobs with the data that stands sealed in their texts
+-- jobs with the sealed data in their texts
 abbrev pub IsSealedJob : Sealed → Type 0
 IsSealedJob update = IsSealed update.job.by.value.key update.job.by.value.iv (data_of update.job.gives.value) update.octets
 

@@ -13,7 +13,7 @@ use Rattle.kd_wire.specs.Spis.{spi_place}
 abbrev pub key_size : ℕ → ℕ
 key_size kind = if kind == 1 then key_octets else integrity_octets
 
--- an attribute of one of these kinds, in the long form, with so many octets as its key has, which come next
+-- an attribute of one of these kinds, in the long form, with as many octets as its key has, which come next
 unfoldable pub key_kind : List ℕ → Reading ℕ
 key_kind kinds = do
   at ← here

@@ -5,10 +5,10 @@ use Rattle.kd_wire.specs.declared.sealing.WrapJob.{WrapJob}
 use Rattle.kd_wire.specs.declared.updates.SealedKey.{SealedKey}
 use Rattle.kd_wire.specs.declared.updates.UpdateArray.{UpdateArray}
 use Rattle.kd_wire.specs.Arrays.{PlacedUpdates, next_update, updates, gives_root}
-use Rattle.kd_wire.specs.Keys.{is_of}
+use Rattle.kd_wire.specs.Keys.{has_handle}
 use Rattle.kd_wire.specs.Texts.{Sealed, key_of}
 
--- A text of update attributes whose arrays give keys with one handle, and one of the root among them: wherever it stands, these arrays are
+-- A text of update attributes whose arrays give keys with one handle, and one of the root among them: wherever it is, these arrays are
 -- read, up to its end.
 pub record AreUpdates (arrays : List UpdateArray) (text : List ℕ) : Type 0 where
   pub reads : (base at : ℕ) → mapped (λ (placed : PlacedUpdates). placed.arrays) (updates (record { base = base; at = at; left = text }))
@@ -27,8 +27,8 @@ array_of update = record {
   keys = record { by = update.job.by.id; by_made = update.job.by.made; gives = key_of update } ∷ [];
 }
 
--- what was sealed for a job is read as one array with one key, wherever it stands and whatever comes after it, where its handle is due
+-- what was sealed for a job is read as one array with one key, wherever it is and whatever comes after it, where its handle is due
 pub record ReadsAsSealed (job : WrapJob) (text sealed : List ℕ) : Type 0 where
-  pub reads : (handle : Option ℕ) (base at : ℕ) (rest : List ℕ) → is_of handle job.gives.made ≡ true
+  pub reads : (handle : Option ℕ) (base at : ℕ) (rest : List ℕ) → has_handle handle job.gives.made ≡ true
       → next_update handle (record { base = base; at = at; left = text ++ rest })
       ≡ Ok (Some (array_of (record { job = job; octets = sealed })), record { base = base; at = at + length text; left = rest })

@@ -25,7 +25,7 @@ update_array_octets = 12 + lkh_key_octets
 abbrev pub update_octets : ℕ
 update_octets = attribute_head_octets + update_array_octets
 
--- what stands before the attributes of a packet: its header, the size of its SPI, and that SPI
+-- what comes before the attributes of a packet: its header, the size of its SPI, and that SPI
 abbrev pub packet_head_octets : ℕ → ℕ
 packet_head_octets spi_octets = 5 + spi_octets
 

@@ -1,7 +1,7 @@
 //! Keys of LKH.
 ghost use Rattle.std.specs.Prelude.{◌≡◌, ◌≤◌, None, Some, if◌then◌else◌};
 ghost use Rattle.gd_wire.specs.Readings.{Gives};
-ghost use Rattle.kd_wire.specs.Keys.{key_type, is_above, is_on_path, path_key, path_keys, is_of, given_key};
+ghost use Rattle.kd_wire.specs.Keys.{key_type, is_above, is_on_path, path_key, path_keys, has_handle, given_key};
 
 use crate::updates::UpdateKey;
 use gd_wire::{Reader, fault};
@@ -97,7 +97,7 @@ pub(crate) fn given_key(handle: Option<u32>, text: &mut Reader<'_>) -> Result<Up
     text.octets(DATES)?;
     let made_at = text.here();
     let made = text.long_number()?;
-    if !is_of(handle, made) {
+    if !has_handle(handle, made) {
         return Err(fault(WireWhat::Value, made_at));
     }
     let sealed = text.array()?;
@@ -105,8 +105,8 @@ pub(crate) fn given_key(handle: Option<u32>, text: &mut Reader<'_>) -> Result<Up
 }
 
 /// Whether a key has the handle that is asked for, if any.
-fn is_of(handle: Option<u32>, made: u32) -> bool
-    ensures { result ≡ is_of handle made }
+fn has_handle(handle: Option<u32>, made: u32) -> bool
+    ensures { result ≡ has_handle handle made }
 {
     match handle {
         Some(handle) => made == handle,

@@ -7,18 +7,19 @@ use Rattle.gd_wire.specs.Attributes.{no_more_attributes}
 use Rattle.sa_wire.specs.declared.attributes.Found.{Found}
 use Rattle.sa_wire.specs.declared.rules.Rule.{Rule}
 use Rattle.sa_wire.specs.Rules.{without}
-use Rattle.sa_wire.specs.Attributes.{attribute, attributes_after}
+use Rattle.sa_wire.specs.Attributes.{due_attribute, attributes_after}
 
 module _ (found : List Found) (due : List Rule) (text : Cursor) where
   -- one more attribute was read
-  pub goes_on : (left more : ℕ) (next : Found) (rules : List Rule) (now : Cursor) → left ≡ suc more → attribute due text ≡ Ok (next, now) → rules ≡ without next.kind due →
+  pub goes_on : (left more : ℕ) (next : Found) (rules : List Rule) (now : Cursor) → left ≡ suc more
+      → due_attribute due text ≡ Ok (next, now) → rules ≡ without next.kind due →
       attributes_after found left due text ≡ attributes_after (found ++ next ∷ []) more rules now
   unfolding attributes_after
   goes_on left more next rules now one here rest = rw (one, here, rest) refl
 
   -- or it has a fault
   pub fails : (left more : ℕ) (fault : WireFault) →
-      left ≡ suc more → attribute due text ≡ Err fault → attributes_after found left due text ≡ Err fault
+      left ≡ suc more → due_attribute due text ≡ Err fault → attributes_after found left due text ≡ Err fault
   unfolding attributes_after
   fails left more fault one here = rw (one, here) refl
 

@@ -15,7 +15,7 @@ use Rattle.gd_wire.specs.Readings.{section, due_long_kind, due_kind, due_long_nu
 use Rattle.gd_wire.specs.Readings.{part, end}
 use Rattle.gd_wire.specs.Readings as fields
 use Rattle.gd_wire.specs.Attributes.{attribute_type, no_more_attributes}
-use Rattle.sa_wire.specs.Attributes.{attributes_after, attribute, short_value, long_value}
+use Rattle.sa_wire.specs.Attributes.{attributes_after, due_attribute, taken_number, taken_octets}
 use Rattle.sa_wire.specs.Policies as grammar
 use Rattle.sa_wire.specs.Policies.{sa}
 use Rattle.sa_wire.specs.Texts.{sa_text, KekPolicyFits, TekPolicyFits, PolicyFits}
@@ -58,7 +58,7 @@ any_taken kind number small =
 
 tek_alone : (octets : ℕ → ℕ) → Reads (policies None (Some (tek_of octets)))
 unfolding grammar.policies grammar.head grammar.with_tek_alone grammar.with_kek grammar.rest_after_kek grammar.last_tek
-    grammar.kek grammar.tek grammar.identifications grammar.identification attributes_after attribute short_value long_value
+    grammar.kek grammar.tek grammar.endpoints grammar.endpoint attributes_after due_attribute taken_number taken_octets
     attribute_type no_more_attributes section due_long_kind due_kind due_long_number due_number due_octet long_number number octet
     fields.octets part end
 tek_alone octets base = refl
@@ -66,7 +66,7 @@ tek_alone octets base = refl
 module _ (spi : ℕ → ℕ) (algorithm key_bits : ℕ) (algorithm_small : algorithm < 65536) (key_bits_small : key_bits < 65536) where
   kek_alone : Reads (policies (Some (kek_of spi algorithm key_bits)) None)
   unfolding grammar.policies grammar.head grammar.with_tek_alone grammar.with_kek grammar.rest_after_kek grammar.last_tek
-      grammar.kek grammar.tek grammar.identifications grammar.identification attributes_after attribute short_value long_value
+      grammar.kek grammar.tek grammar.endpoints grammar.endpoint attributes_after due_attribute taken_number taken_octets
       attribute_type no_more_attributes section due_long_kind due_kind due_long_number due_number due_octet long_number number
       octet fields.octets part end
   kek_alone base =
@@ -75,7 +75,7 @@ module _ (spi : ℕ → ℕ) (algorithm key_bits : ℕ) (algorithm_small : algor
 
   kek_and_tek : (octets : ℕ → ℕ) → Reads (policies (Some (kek_of spi algorithm key_bits)) (Some (tek_of octets)))
   unfolding grammar.policies grammar.head grammar.with_tek_alone grammar.with_kek grammar.rest_after_kek grammar.last_tek
-      grammar.kek grammar.tek grammar.identifications grammar.identification attributes_after attribute short_value long_value
+      grammar.kek grammar.tek grammar.endpoints grammar.endpoint attributes_after due_attribute taken_number taken_octets
       attribute_type no_more_attributes section due_long_kind due_kind due_long_number due_number due_octet long_number number
       octet fields.octets part end
   kek_and_tek octets base =

@@ -9,16 +9,16 @@ use Rattle.sa_wire.specs.declared.rules.Rule.{Rule}
 use Rattle.sa_wire.specs.Rules.{has_rule, rule_for, takes, without}
 
 -- after the type, in the short form, a number that the rule takes
-unfoldable pub short_value : ℕ → Rule → Reading Found
-short_value kind rule = do
+unfoldable pub taken_number : ℕ → Rule → Reading Found
+taken_number kind rule = do
   at ← here
   value ← number
   check (takes rule value) Value at
   give (record { kind = kind; number = value; at = at })
 
 -- and in the long form, where the rule takes that, 4 octets; their number is not kept
-unfoldable pub long_value : ℕ → Rule → ℕ → Reading Found
-long_value kind rule type_at = do
+unfoldable pub taken_octets : ℕ → Rule → ℕ → Reading Found
+taken_octets kind rule type_at = do
   check rule.long (Kind kind) type_at
   size ← number
   check (size == 4) (Kind kind) type_at
@@ -27,12 +27,12 @@ long_value kind rule type_at = do
   give (record { kind = kind; number = 0; at = at })
 
 -- An attribute for which one of these rules is there. A fault of the kind or the form is at the type, one of a number at that.
-unfoldable pub attribute : List Rule → Reading Found
-attribute rules = do
+unfoldable pub due_attribute : List Rule → Reading Found
+due_attribute rules = do
   at ← here
   type ← attribute_type
   check (has_rule type.kind rules) (Kind type.kind) at
-  if type.is_short then short_value type.kind (rule_for type.kind rules) else long_value type.kind (rule_for type.kind rules) at
+  if type.is_short then taken_number type.kind (rule_for type.kind rules) else taken_octets type.kind (rule_for type.kind rules) at
 
 -- attributes up to the end, one for each of these rules, whose number comes first; before them some were found already
 unfoldable pub attributes_after : List Found → ℕ → List Rule → Reading (List Found)
@@ -40,7 +40,7 @@ attributes_after found zero rules = do
   no_more_attributes
   give found
 attributes_after found (suc more) rules = do
-  next ← attribute rules
+  next ← due_attribute rules
   attributes_after (found ++ next ∷ []) more (without next.kind rules)
 
 -- an attribute for each of these rules, in any order, and no other

@@ -19,9 +19,9 @@ use Rattle.sa_wire.specs.Numbers.{gdoi, no_payload, sak, sat, signature_algorith
 use Rattle.sa_wire.specs.Rules.{kek_rules, tek_rules}
 use Rattle.sa_wire.specs.Attributes.{attributes, found_of}
 
--- an identification: a type of 1 octet, a port of 2, and the length of the data in 1, before the data
-unfoldable pub identification : Reading (Unit {0})
-identification = do
+-- The identification of an endpoint: a type of 1 octet, a port of 2, and the length of the data in 1, before the data; it may be any.
+unfoldable pub endpoint : Reading (Unit {0})
+endpoint = do
   octet
   number
   size ← octet
@@ -29,10 +29,10 @@ identification = do
   give tt
 
 -- for the source, and for the destination
-unfoldable pub identifications : Reading (Unit {0})
-identifications = do
-  identification
-  identification
+unfoldable pub endpoints : Reading (Unit {0})
+endpoints = do
+  endpoint
+  endpoint
 
 -- the policy of a KEK whose SPI, which is at this place, and attributes were read
 abbrev pub kek_of : ℕ → List ℕ → List Found → PlacedKek
@@ -46,25 +46,25 @@ kek_of at spi found = record {
   key_bits_at = (found_of signature_key_length found).at;
 }
 
--- The policy of the KEK (RFC 6407 section 5.3): a protocol of 1 octet, the identifications, a SPI of 16, a reserved field of 4, and
+-- The policy of the KEK (RFC 6407 section 5.3): a protocol of 1 octet, the endpoints, a SPI of 16, a reserved field of 4, and
 -- attributes.
 unfoldable pub kek : Reading PlacedKek
 kek = do
   octet
-  identifications
+  endpoints
   at ← here
   spi ← octets rekey_spi_octets
   due_long_number 0 Reserved
   found ← attributes kek_rules
   give (kek_of at spi found)
 
--- The policy of the TEK (section 5.5): the protocol's id, which is that of ESP, the protocol, the identifications, the transform's id,
+-- The policy of the TEK (section 5.5): the protocol's id, which is that of ESP, the protocol, the endpoints, the transform's id,
 -- which is that of AES, a SPI of 4 octets, and attributes.
 unfoldable pub tek : Reading PlacedTek
 tek = do
   due_octet esp Value
   octet
-  identifications
+  endpoints
   due_octet esp_aes Value
   at ← here
   spi ← octets traffic_spi_octets

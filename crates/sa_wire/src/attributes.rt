@@ -4,7 +4,7 @@ ghost use Rattle.std.specs.List.{position};
 ghost use Rattle.sa_wire.specs.declared.attributes.Found.{Found};
 ghost use Rattle.gd_wire.specs.Readings.{Gives, Shows};
 ghost use Rattle.sa_wire.specs.Rules.{place_among, has_rule, rule_for, without, takes};
-ghost use Rattle.sa_wire.specs.Attributes.{short_value, long_value, attribute, attributes, found_of};
+ghost use Rattle.sa_wire.specs.Attributes.{taken_number, taken_octets, due_attribute, attributes, found_of};
 
 use crate::rules::{MOST_RULES, Rule};
 use arrayvec::ArrayVec;
@@ -33,7 +33,7 @@ pub(crate) fn read_attributes(
     due.try_extend_from_slice(rules).unwrap();
     let mut found = ArrayVec::new();
     for _ in rules {
-        let attribute = read_attribute(&mut due, text)?;
+        let attribute = read_due_attribute(&mut due, text)?;
         found.push(attribute);
     }
     text.no_more_attributes()?;
@@ -41,12 +41,12 @@ pub(crate) fn read_attributes(
 }
 
 /// Reads an attribute for which a rule is due, and takes that rule off.
-#[tactic(auto, unfolding(crate::specs::Attributes::attribute))]
-fn read_attribute(
+#[tactic(auto, unfolding(crate::specs::Attributes::due_attribute))]
+fn read_due_attribute(
     due: &mut ArrayVec<Rule, MOST_RULES>,
     text: &mut Reader,
 ) -> Result<Found, WireFault>
-    ensures gives { Gives result text.new (attribute due.old.items text.old) }
+    ensures gives { Gives result text.new (due_attribute due.old.items text.old) }
     ensures due { IfOk result (λ found. due.new.items ≡ without found.kind due.old.items) }
 {
     let at = text.here();
@@ -79,9 +79,9 @@ fn place_among(rules: &[Rule], kind: u16) -> Option<usize>
 }
 
 /// Reads the number of an attribute in the short form.
-#[tactic(auto, unfolding(crate::specs::Attributes::short_value))]
+#[tactic(auto, unfolding(crate::specs::Attributes::taken_number))]
 fn read_short(kind: u16, rule: &Rule, text: &mut Reader) -> Result<Found, WireFault>
-    ensures gives { Gives result text.new (short_value kind rule.now text.old) }
+    ensures gives { Gives result text.new (taken_number kind rule.now text.old) }
     ensures kind { IfOk result (λ found. found.kind ≡ kind) }
 {
     let at = text.here();
@@ -100,9 +100,9 @@ fn takes(rule: &Rule, number: u16) -> bool
 }
 
 /// Reads the value of an attribute in the long form, whose type is at this place in the datagram.
-#[tactic(auto, unfolding(crate::specs::Attributes::long_value))]
+#[tactic(auto, unfolding(crate::specs::Attributes::taken_octets))]
 fn read_long(kind: u16, rule: &Rule, type_at: u32, text: &mut Reader) -> Result<Found, WireFault>
-    ensures gives { Gives result text.new (long_value kind rule.now type_at text.old) }
+    ensures gives { Gives result text.new (taken_octets kind rule.now type_at text.old) }
     ensures kind { IfOk result (λ found. found.kind ≡ kind) }
 {
     let number = kind;

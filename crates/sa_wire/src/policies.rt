@@ -1,7 +1,7 @@
 //! The policies of an SA payload.
 ghost use Rattle.std.specs.Prelude.{◌≡◌, ◌+◌, ◌≤◌, length};
 ghost use Rattle.gd_wire.specs.Readings.{Gives};
-ghost use Rattle.sa_wire.specs.Policies.{identification, identifications, kek, kek_of, tek, last_tek, rest_after_kek, with_kek};
+ghost use Rattle.sa_wire.specs.Policies.{endpoint, endpoints, kek, kek_of, tek, last_tek, rest_after_kek, with_kek};
 ghost use Rattle.sa_wire.specs.Policies.{with_tek_alone, head, policies, placed_sa, sa};
 
 use crate::attributes::{Found, found_of, read_attributes};
@@ -130,7 +130,7 @@ fn read_kek(text: &mut Reader) -> Result<PlacedKek, WireFault>
     ensures { Gives result text.new (kek text.old) }
 {
     text.octet()?;
-    read_identifications(text)?;
+    read_endpoints(text)?;
     let at = text.here();
     let spi = text.array()?;
     text.due_long_number(0, WireWhat::Reserved)?;
@@ -163,7 +163,7 @@ fn read_tek(text: &mut Reader) -> Result<PlacedTek, WireFault>
 {
     text.due_octet(ESP, WireWhat::Value)?;
     text.octet()?;
-    read_identifications(text)?;
+    read_endpoints(text)?;
     text.due_octet(ESP_AES, WireWhat::Value)?;
     let spi_at = text.here();
     let spi = text.array()?;
@@ -174,19 +174,19 @@ fn read_tek(text: &mut Reader) -> Result<PlacedTek, WireFault>
     })
 }
 
-/// Reads the identifications of the source and the destination.
-#[tactic(auto, unfolding(crate::specs::Policies::identifications))]
-fn read_identifications(text: &mut Reader) -> Result<(), WireFault>
-    ensures { Gives result text.new (identifications text.old) }
+/// Reads the identifications of the source and the destination, which may be any.
+#[tactic(auto, unfolding(crate::specs::Policies::endpoints))]
+fn read_endpoints(text: &mut Reader) -> Result<(), WireFault>
+    ensures { Gives result text.new (endpoints text.old) }
 {
-    read_identification(text)?;
-    read_identification(text)
+    read_endpoint(text)?;
+    read_endpoint(text)
 }
 
-/// Reads an identification: its type, its port, and the length of its data stand before these.
-#[tactic(auto, unfolding(crate::specs::Policies::identification))]
-fn read_identification(text: &mut Reader) -> Result<(), WireFault>
-    ensures { Gives result text.new (identification text.old) }
+/// Reads the identification of one: its type, its port, the length of its data, and these.
+#[tactic(auto, unfolding(crate::specs::Policies::endpoint))]
+fn read_endpoint(text: &mut Reader) -> Result<(), WireFault>
+    ensures { Gives result text.new (endpoint text.old) }
 {
     text.octet()?;
     text.number()?;

@@ -7,4 +7,5 @@ pub returns-clause-header : goal.returns-clause-header
 returns-clause-header c exchange datagram found now small e = (header_read exchange datagram (found, now) small e).fits
 
 pub returns-clause-payloads : goal.returns-clause-payloads
-returns-clause-payloads c text due base first parts octets read = (chain_read text base due _ _ parts (at_start text base) read).fit octets
+returns-clause-payloads c text due base first parts octets small read =
+    (chain_read text base due _ _ parts (at_start text base) read).fit octets small

@@ -1,4 +1,4 @@
-use Rattle.gd_wire.proofs.OctetLemmas.{number_octets, short_octets, long_octets, head_octets, payload_octets, header_octets}
+use Rattle.gd_wire.proofs.OctetLemmas.{number_octets, short_octets, long_octets, head_octets, payload_octets, payloads_octets, header_octets}
 use Rattle.gd_wire.proofs.text_laws.written_framing_is_octets.Goals as goal
 
 pub returns-clause-number : goal.returns-clause-number
@@ -18,3 +18,6 @@ returns-clause-payload c = payload_octets
 
 pub returns-clause-header : goal.returns-clause-header
 returns-clause-header c = header_octets
+
+pub returns-clause-payloads : goal.returns-clause-payloads
+returns-clause-payloads c = payloads_octets

@@ -17,7 +17,7 @@ loop-preserved c =
     (omega (arith, c.loop-test.true)) c.in_ok-attribute.ensures.gives c.in_ok-attribute.ensures.due in
     let one : left - 1 ≡ length c.args.rules.now - (c.loop.index + 1) = omega arith in (
       c.loop.invariant.0 ∙ next
-          ∙ (λ i. attributes_after (sym c.push.ensures.items i) (one i) c.read_attribute.new.due.items c.read_attribute.new.text),
+          ∙ (λ i. attributes_after (sym c.push.ensures.items i) (one i) c.read_due_attribute.new.due.items c.read_due_attribute.new.text),
       ap length c.push.ensures.items
           ∙ omega (arith, length-append c.loop.found.items (c.in_ok-attribute.attribute ∷ []), c.loop.invariant.1),
     )
