@@ -3,9 +3,9 @@
     python3 bench/ciphers.py        at the top of the repository
 
 It builds `cipher_bench`, and prints for each row what that does in a second, what openssl does, and openssl's figure divided by ours.
-Rows: CBC sealing of 4,096 octets under a key of 128 bits, in MiB/s; a key of 128 bits expanded and two blocks encrypted, the work of one
-wrap, in thousands a second; HMAC with SHA-256 over pieces of 4,096 octets, in MiB/s; and the 286 update arrays that a batch may send in a
-tree of 512 leaves, in batches a second.
+Rows: a key of 128 bits expanded and a text sealed or opened under it by cipher block chaining, of 18 KiB, in MiB/s, and of 64 octets, in
+thousands a second; a key expanded and two blocks encrypted, the work of one wrap, in thousands a second; HMAC with SHA-256 over pieces of
+4,096 octets, in MiB/s; and the 286 update arrays that a batch may send in a tree of 512 leaves, in batches a second.
 """
 
 import os
@@ -21,21 +21,25 @@ PROGRAM = CRATE / "out" / "cipher_bench"
 # the processor's AES and carry-less products off, and nothing else
 NO_HARDWARE = dict(os.environ, OPENSSL_ia32cap="~0x200000200000000:~0x0")
 MIB = 1 << 20
+# the octets of a large datagram
+LONG = 18 * 1024
 
 
 def seconds(words):
-    """The least time of three runs."""
-    times = []
-    for _ in range(3):
-        start = time.perf_counter()
-        subprocess.run(words, check=True, capture_output=True, env=NO_HARDWARE)
-        times.append(time.perf_counter() - start)
-    return min(times)
+    """The time of one run."""
+    start = time.perf_counter()
+    subprocess.run(words, check=True, capture_output=True, env=NO_HARDWARE)
+    return time.perf_counter() - start
 
 
-def a_second(words, count):
-    """How often a program does its work in a second; what it takes to start is left out."""
-    return count / (seconds([*words, str(count)]) - seconds([*words, "0"]))
+def a_second(programs, count):
+    """How often each program does its work in a second, by the least times of runs in turn; what it takes to start is left out."""
+    whole, none = ({program: [] for program in programs} for _ in range(2))
+    for _ in range(5):
+        for program in programs:
+            whole[program].append(seconds([*program, str(count)]))
+            none[program].append(seconds([*program, "0"]))
+    return [count / (min(whole[program]) - min(none[program])) for program in programs]
 
 
 def openssl_speed(*words):
@@ -47,14 +51,19 @@ def openssl_speed(*words):
     return float(rows[-1].rsplit(":", 1)[1])
 
 
-def built(folder, name, source, count):
-    """The same work as that of `cipher_bench NAME`, by openssl's functions in C."""
-    program = pathlib.Path(folder) / name
+def built(folder, source):
+    """A program in C with openssl's functions."""
+    program = pathlib.Path(folder) / source.removesuffix(".c")
     subprocess.run(["cc", "-O2", "-o", program, TOP / "bench" / source, "-lcrypto"], check=True)
-    ours = subprocess.run([PROGRAM, name, count], check=True, capture_output=True).stdout
-    theirs = subprocess.run([program, count], check=True, capture_output=True).stdout
-    assert ours == theirs, "the two programs differ"
     return program
+
+
+def compared(work, theirs, count, unit):
+    """What `cipher_bench WORK` and a program of the same work do in a second, in such units, once both have been seen to do the same."""
+    programs = [(PROGRAM, work), theirs]
+    ours, others = (subprocess.run([*program, "3"], check=True, capture_output=True).stdout for program in programs)
+    assert ours == others, "the two programs differ"
+    return [often * unit for often in a_second(programs, count)]
 
 
 def processor():
@@ -67,23 +76,21 @@ def main():
     assert platform.machine() == "x86_64", "the switches for openssl are those of x86-64"
     subprocess.run(["rt", "run", "--", "seal", "1"], cwd=CRATE, check=True, stdout=subprocess.DEVNULL)
     with tempfile.TemporaryDirectory() as folder:
-        wrap = built(folder, "wrap", "wrap.c", "1000")
-        updates = built(folder, "updates", "updates.c", "3")
+        chain, wrap, updates = (built(folder, source) for source in ("chain.c", "wrap.c", "updates.c"))
         rows = [
-            ("CBC sealing, MiB/s", a_second([PROGRAM, "seal"], 50_000) * 4096 / MIB,
-             openssl_speed("-evp", "aes-128-cbc") / MIB),
-            ("wraps, thousands/s", a_second([PROGRAM, "wrap"], 1_000_000) / 1000,
-             a_second([wrap], 1_000_000) / 1000),
-            ("HMAC, MiB/s", a_second([PROGRAM, "mac"], 50_000) * 4096 / MIB,
-             openssl_speed("-hmac", "sha256") / MIB),
-            ("286 arrays, batches/s", a_second([PROGRAM, "updates"], 5_000),
-             a_second([updates], 5_000)),
+            ("18 KiB sealed, MiB/s", compared("seal", (chain, "seal", str(LONG)), 5_000, LONG / MIB)),
+            ("18 KiB opened, MiB/s", compared("open", (chain, "open", str(LONG)), 5_000, LONG / MIB)),
+            ("64 octets sealed, thousands/s", compared("seal-short", (chain, "seal", "64"), 500_000, 1 / 1000)),
+            ("64 octets opened, thousands/s", compared("open-short", (chain, "open", "64"), 500_000, 1 / 1000)),
+            ("wraps, thousands/s", compared("wrap", (wrap,), 1_000_000, 1 / 1000)),
+            ("286 arrays, batches/s", compared("updates", (updates,), 5_000, 1)),
+            ("HMAC, MiB/s", [a_second([(PROGRAM, "mac")], 50_000)[0] * 4096 / MIB, openssl_speed("-hmac", "sha256") / MIB]),
         ]
     version = subprocess.run(["openssl", "version"], check=True, capture_output=True, text=True).stdout.split()[1]
     print(f"{processor()}, openssl {version}")
-    print(f"{'':22}{'ours':>10}{'openssl':>10}{'ratio':>8}")
-    for name, ours, theirs in rows:
-        print(f"{name:22}{ours:10.0f}{theirs:10.0f}{theirs / ours:8.2f}")
+    print(f"{'':32}{'ours':>10}{'openssl':>10}{'ratio':>8}")
+    for name, (ours, theirs) in rows:
+        print(f"{name:32}{ours:10.0f}{theirs:10.0f}{theirs / ours:8.2f}")
 
 
 main()

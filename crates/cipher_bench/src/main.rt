@@ -1,17 +1,20 @@
-//! Works a cipher call many times over, so that the time of it can be taken from outside: `seal N` seals 4,096 octets N times in place,
-//! `wrap N` expands a key and encrypts two blocks N times, `mac N` hashes N pieces of 4,096 octets, and `updates N` writes 286 update arrays N
-//! times.
+//! Works a cipher call many times over, so that the time of it can be taken from outside: `seal N` expands a key and seals 18 KiB under it N
+//! times in place, `open N` opens them, `seal-short N` and `open-short N` do the same with 64 octets, `wrap N` expands a key and encrypts two
+//! blocks N times, `mac N` hashes N pieces of 4,096 octets, and `updates N` writes 286 update arrays N times.
 #![tactic(auto)]
 
-ghost use Rattle.std.specs.Prelude.{◌≤◌, length};
+ghost use Rattle.std.specs.Prelude.{◌≡◌, ◌%◌, ◌≤◌, length};
 
-use gd_cipher::{Hmac, Key128, cbc_seal};
+use gd_cipher::{Hmac, Key128, cbc_open, cbc_seal};
 use group_terms::{LkhId, NoMemory, NodeValue, Octets, PathKey};
 use kd_wire::{WrapJob, write_update};
 use std::alloc::Global;
 use std::io::ErrorKind;
 use std::process::ExitCode;
 use std::{env, io};
+
+/// The octets of a large datagram.
+const LONG: usize = 18 * 1024;
 
 /// As many arrays as a batch of 32 changes may send in a tree of 512 leaves.
 const ARRAYS: usize = 286;
@@ -29,7 +32,10 @@ fn run(rt: &HostRuntime) -> io::Result<()> {
     let count = words.next().ok_or(ErrorKind::InvalidInput)?;
     let count = count.parse::<u32>().map_err(|_| ErrorKind::InvalidInput)?;
     let octets = match what.as_str() {
-        "seal" => seal(count),
+        "seal" => sealed(&mut vec![in rt.alloc(); 0; LONG]?, count),
+        "open" => opened(&mut vec![in rt.alloc(); 0; LONG]?, count),
+        "seal-short" => sealed(&mut [0; 64], count),
+        "open-short" => opened(&mut [0; 64], count),
         "wrap" => wrap(count),
         "mac" => mac(count),
         "updates" => updates(rt.alloc(), count).map_err(|_| ErrorKind::OutOfMemory)?,
@@ -41,14 +47,30 @@ fn run(rt: &HostRuntime) -> io::Result<()> {
     println!(rt;)
 }
 
-/// The last block of a text of zeros that is sealed so many times.
-fn seal(count: u32) -> [u8; 16] {
-    let key = Key128::new([1; 16]);
-    let mut text = [0; 4096];
+/// The last block of a text that is sealed so many times, each time under its last block as the key.
+fn sealed(text: &mut [u8], count: u32) -> [u8; 16]
+    requires some { 16 ≤ length text.old }
+    requires whole { length text.old % 16 ≡ 0 }
+{
+    let mut key = [1; 16];
     for _ in 0..count {
-        cbc_seal(&key, &[2; 16], &mut text);
+        cbc_seal(&Key128::new(key), &[2; 16], text);
+        key = last_of(text);
     }
-    last_of(&text)
+    key
+}
+
+/// The last block of a text that is opened so many times, each time under its last block as the key.
+fn opened(text: &mut [u8], count: u32) -> [u8; 16]
+    requires some { 16 ≤ length text.old }
+    requires whole { length text.old % 16 ≡ 0 }
+{
+    let mut key = [1; 16];
+    for _ in 0..count {
+        cbc_open(&Key128::new(key), &[2; 16], text);
+        key = last_of(text);
+    }
+    key
 }
 
 /// A block that is encrypted twice under itself as a key, so many times.

@@ -11,9 +11,9 @@ use Rattle.byteorder.specs.Endian.{big_number, IsRead}
 use Rattle.gd_cipher.specs.Fields.{times_x, substitute}
 use Rattle.gd_cipher.specs.Blocks.{xor_all}
 use Rattle.gd_cipher.specs.Schedules.{word_at, rotated, power_of_x, changed_word, next_word, expanded, key_words, rounds_of, schedule}
-use Rattle.gd_cipher.specs.Ciphers.{encrypted, decrypted, cipher, decipher}
 use Rattle.gd_cipher.specs.Bytes.{IsByte, AreBytes}
 use Rattle.gd_cipher.specs.Words.{bytes_of}
+use Rattle.gd_cipher.specs.Private.RoundKeys.{AreRoundKeys}
 use Rattle.gd_cipher.proofs.WordLemmas.{xor_bytes, bytes_read}
 
 -- x times a byte whose highest bit is set, by the bits that stay in a byte
@@ -145,14 +145,12 @@ rounds_of_front nk words h =
     let front = length-take-le (4 * nk) (bytes_of words) (omega arith) in
     ap (λ (n : ℕ). n / 4 + 6) front ∙ omega arith
 
--- a block under the words of a schedule is one under the key in front of them
-pub encrypted_by : (bytes key front : List ℕ) (rounds : ℕ) (block : List ℕ) → bytes ≡ schedule front → front ≡ key → rounds_of front ≡ rounds → encrypted bytes rounds block ≡ cipher key block
-encrypted_by bytes key front rounds block whole same count =
-    ap (λ (keys : List ℕ). encrypted keys rounds block) whole ∙ ap (λ (n : ℕ). encrypted (schedule front) n block) (sym count) ∙ ap (λ (key : List ℕ). cipher key block) same
-
-pub decrypted_by : (bytes key front : List ℕ) (rounds : ℕ) (block : List ℕ) → bytes ≡ schedule front → front ≡ key → rounds_of front ≡ rounds → decrypted bytes rounds block ≡ decipher key block
-decrypted_by bytes key front rounds block whole same count =
-    ap (λ (keys : List ℕ). decrypted keys rounds block) whole ∙ ap (λ (n : ℕ). decrypted (schedule front) n block) (sym count) ∙ ap (λ (key : List ℕ). decipher key block) same
+-- the words of a schedule are the keys of all rounds of the key in front of them
+pub round_keys : (nk : ℕ) (words key : List ℕ) → nk ≤ length words → bytes_of words ≡ schedule (take (4 * nk) (bytes_of words)) → take (4 * nk) (bytes_of words) ≡ key → AreRoundKeys key (nk + 6) words
+round_keys nk words key enough are same = record {
+  rounds_are = sym (rounds_of_front nk words enough) ∙ ap rounds_of same;
+  are = are ∙ ap schedule same;
+}
 
 -- how many whole keys have been passed at the word before word i, where i is a multiple and where it is none
 pub passed_at : (nk i : ℕ) → 0 < nk → nk ≤ i → i % nk ≡ 0 → (i - 1) / nk ≡ i / nk - 1

@@ -2,6 +2,7 @@ pub mod ByteLemmas
 pub mod ChainLemmas
 pub mod CipherFacts
 pub mod ColumnLemmas
+pub mod EquivalentLemmas
 pub mod ExpandLemmas
 pub mod MacLemmas
 pub mod MixLemmas
@@ -13,4 +14,5 @@ pub mod StateLemmas
 pub mod SumLemmas
 pub mod TableLemmas
 pub mod UndoLemmas
+pub mod UnmixLemmas
 pub mod WordLemmas

@@ -166,3 +166,12 @@ module _ (a b c d : ℕ) (a_small : a < 256) (b_small : b < 256) (c_small : c < 
 pub row_times-small : (p q r s a b c d : ℕ) → a < 256 → b < 256 → c < 256 → d < 256 → row_times p q r s a b c d < 256
 row_times-small p q r s a b c d a_small b_small c_small d_small =
     four-small (times p a) (times q b) (times r c) (times s d) (times-small p a a_small) (times-small q b b_small) (times-small r c c_small) (times-small s d d_small)
+
+-- a row times a sum is the sum of what it is times each
+pub row_times-xor : (p q r s a b c d e f g h : ℕ) → a < 256 → b < 256 → c < 256 → d < 256 → e < 256 → f < 256 → g < 256 → h < 256
+    → row_times p q r s (bit_xor a e) (bit_xor b f) (bit_xor c g) (bit_xor d h) ≡ bit_xor (row_times p q r s a b c d) (row_times p q r s e f g h)
+row_times-xor p q r s a b c d e f g h la lb lc ld le lf lg lh =
+    ap₂ bit_xor
+    (ap₂ bit_xor ((IsAdditive-times p).sums a e la le) ((IsAdditive-times q).sums b f lb lf))
+    (ap₂ bit_xor ((IsAdditive-times r).sums c g lc lg) ((IsAdditive-times s).sums d h ld lh))
+    ∙ sym (four-xor (times p a) (times q b) (times r c) (times s d) (times p e) (times q f) (times r g) (times s h))

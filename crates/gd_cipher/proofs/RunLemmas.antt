@@ -1,7 +1,8 @@
 -- One round after another.
 use Rattle.std.proofs.Common.{◌≡◌, ◌≤◌, ◌+◌, ◌-◌, ◌∙◌, ℕ, suc, List, ap, sym, arith}
 use Rattle.gd_cipher.specs.Blocks.{sub_bytes, shift_rows, mix_columns, undo_sub_bytes, undo_shift_rows, undo_mix_columns}
-use Rattle.gd_cipher.specs.Ciphers.{add_round_key, after_rounds, encrypted, undo_rounds}
+use Rattle.gd_cipher.specs.Ciphers.{add_round_key, after_rounds, encrypted}
+use Rattle.gd_cipher.specs.Private.Equivalents.{equivalently_undone}
 
 module _ (keys : List ℕ) where
   pub one_round : (round : ℕ) (block state next : List ℕ) → 1 ≤ round → state ≡ after_rounds keys (round - 1) block
@@ -17,9 +18,9 @@ module _ (keys : List ℕ) where
       ap (λ (bytes : List ℕ). add_round_key keys rounds (shift_rows (sub_bytes bytes))) (is ∙ ap (λ (n : ℕ). after_rounds keys (n - 1) block) same)
 
   -- what is left to undo, from the state before this round and from the one behind it
-  pub one_round_undone : (round : ℕ) (state next : List ℕ) → 1 ≤ round → next ≡ undo_mix_columns (add_round_key keys round (undo_sub_bytes (undo_shift_rows state)))
-      → undo_rounds keys (round - 1) next ≡ undo_rounds keys round state
+  pub one_round_undone : (round : ℕ) (state next : List ℕ) → 1 ≤ round → next ≡ add_round_key keys round (undo_mix_columns (undo_shift_rows (undo_sub_bytes state)))
+      → equivalently_undone keys (round - 1) next ≡ equivalently_undone keys round state
   one_round_undone round state next positive step =
       let same : round ≡ suc (round - 1) = omega arith in
-      ap (undo_rounds keys (round - 1)) (step ∙ ap (λ (n : ℕ). undo_mix_columns (add_round_key keys n (undo_sub_bytes (undo_shift_rows state)))) same)
-      ∙ ap (λ (n : ℕ). undo_rounds keys n state) (sym same)
+      ap (equivalently_undone keys (round - 1)) (step ∙ ap (λ (n : ℕ). add_round_key keys n (undo_mix_columns (undo_shift_rows (undo_sub_bytes state)))) same)
+      ∙ ap (λ (n : ℕ). equivalently_undone keys n state) (sym same)

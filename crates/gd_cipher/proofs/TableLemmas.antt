@@ -1,8 +1,8 @@
 -- Tables of 256 entries, each the value of one function at its place.
-use Rattle.std.proofs.Common.{◌≡◌, ◌<◌, ℕ, map, arith, get_or}
-use Rattle.std.proofs.lemmas.List.FromFn.{get_or-map-range_with_len}
-use Rattle.std.specs.List.{range_with_len}
+use Rattle.std.proofs.Common.{◌≡◌, ◌<◌, ◌∙◌, ℕ, List, ap}
+use Rattle.gd_cipher.specs.Private.Tables.{AreTables, table, tables_from}
 
--- the entry at the place of a byte
-pub entry_at : (rule : ℕ → ℕ) (place byte : ℕ) → place ≡ byte → byte < 256 → get_or (map rule (range_with_len 0 256)) place 0 ≡ rule byte
-entry_at rule place byte same within = get_or-map-range_with_len rule 0 256 place byte 0 (omega arith) (omega arith)
+-- Where the others are the first one turned, only the first has to be that of the rule.
+pub tables_are : (rule : ℕ → ℕ) (p q r s : ℕ) (tables : List (List ℕ)) (first : List ℕ) → ((byte : ℕ) → byte < 256 → rule byte < 256)
+    → tables ≡ tables_from first → first ≡ table rule p q r s → AreTables rule p q r s tables
+tables_are rule p q r s tables first small turned is = record { small = small; are = turned ∙ ap tables_from is }

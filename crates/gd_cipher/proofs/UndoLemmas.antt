@@ -6,7 +6,7 @@ use Rattle.std.proofs.lemmas.List.Elements.{All-append, All-cons, All-drop, All-
 use Rattle.std.proofs.lemmas.List.FromFn.{fill_by_all}
 use Rattle.gd_cipher.specs.Bytes.{IsByte, AreBytes}
 use Rattle.gd_cipher.specs.Fields.{substitute, undo_substitute}
-use Rattle.gd_cipher.specs.Blocks.{sub_bytes, shift_rows, mix_columns, mix_column, undo_sub_bytes, undo_shift_rows, undo_mix_columns, row_times}
+use Rattle.gd_cipher.specs.Blocks.{sub_bytes, shift_rows, mix_by, mix_columns, mix_column, undo_sub_bytes, undo_shift_rows, undo_mix_columns, row_times}
 use Rattle.gd_cipher.proofs.ByteLemmas.{substitute-small, undo_substitute-substitute}
 use Rattle.gd_cipher.proofs.MixLemmas.{row_times-small, undo_column}
 
@@ -33,7 +33,7 @@ first_of byte bytes small = small 0 0 (omega arith)
 rest_of : (byte : ℕ) (bytes : List ℕ) → All IsByte (byte ∷ bytes) → All IsByte bytes
 rest_of byte bytes small k d within = small (suc k) d (suc-le-suc within)
 
-AreBytes-map : (f : ℕ → ℕ) → ((byte : ℕ) → byte < 256 → f byte < 256) → (n : ℕ) (bytes : List ℕ) → AreBytes n bytes → AreBytes n (map f bytes)
+pub AreBytes-map : (f : ℕ → ℕ) → ((byte : ℕ) → byte < 256 → f byte < 256) → (n : ℕ) (bytes : List ℕ) → AreBytes n bytes → AreBytes n (map f bytes)
 AreBytes-map f stays n bytes are = record {
   len = length-map bytes f ∙ are.len;
   small = All-map IsByte f bytes (λ k d within. stays (slice_index_or bytes k d) (are.small k d within));
@@ -51,7 +51,7 @@ sub_bytes-undone n bytes are = map_back substitute undo_substitute undo_substitu
 
 -- ---- rows are shifted and columns mixed
 
-written_out : (state : List ℕ) → length state ≡ 16 → map (λ i. slice_index_or state i 0) (range_with_len 0 16) ≡ state
+pub written_out : (state : List ℕ) → length state ≡ 16 → map (λ i. slice_index_or state i 0) (range_with_len 0 16) ≡ state
 written_out state len = sym (fill_by_all (λ i. slice_index_or state i 0) state 16 0 len (λ k small. refl))
 
 pub shift_rows-undone : (state : List ℕ) → AreBytes 16 state → undo_shift_rows (shift_rows state) ≡ state
@@ -62,13 +62,13 @@ small_before a b c d rest a_small b_small c_small d_small rest_small =
     All-cons IsByte a (b ∷ c ∷ d ∷ rest) a_small
     (All-cons IsByte b (c ∷ d ∷ rest) b_small (All-cons IsByte c (d ∷ rest) c_small (All-cons IsByte d rest d_small rest_small)))
 
-column-small : (a b c d : ℕ) (rest : List ℕ) → a < 256 → b < 256 → c < 256 → d < 256 → All IsByte rest → All IsByte (mix_column 2 3 1 1 a b c d ++ rest)
-column-small a b c d rest a_small b_small c_small d_small rest_small =
-    small_before (row_times 2 3 1 1 a b c d) (row_times 1 2 3 1 a b c d) (row_times 1 1 2 3 a b c d) (row_times 3 1 1 2 a b c d) rest
-    (row_times-small 2 3 1 1 a b c d a_small b_small c_small d_small)
-    (row_times-small 1 2 3 1 a b c d a_small b_small c_small d_small)
-    (row_times-small 1 1 2 3 a b c d a_small b_small c_small d_small)
-    (row_times-small 3 1 1 2 a b c d a_small b_small c_small d_small)
+column-small : (p q r s a b c d : ℕ) (rest : List ℕ) → a < 256 → b < 256 → c < 256 → d < 256 → All IsByte rest → All IsByte (mix_column p q r s a b c d ++ rest)
+column-small p q r s a b c d rest a_small b_small c_small d_small rest_small =
+    small_before (row_times p q r s a b c d) (row_times s p q r a b c d) (row_times r s p q a b c d) (row_times q r s p a b c d) rest
+    (row_times-small p q r s a b c d a_small b_small c_small d_small)
+    (row_times-small s p q r a b c d a_small b_small c_small d_small)
+    (row_times-small r s p q a b c d a_small b_small c_small d_small)
+    (row_times-small q r s p a b c d a_small b_small c_small d_small)
     rest_small
 
 module _ (state : List ℕ) (are : AreBytes 16 state) where
@@ -95,23 +95,36 @@ module _ (state : List ℕ) (are : AreBytes 16 state) where
         (moved-small 12 1 6 11 [] (omega arith) (omega arith) (omega arith) (omega arith) (All-nil IsByte))));
   }
 
-  -- the mixed column of the four bytes from this place on
-  abbrev mixed : ℕ → List ℕ
-  mixed i = mix_column 2 3 1 1 (byte i) (byte (i + 1)) (byte (i + 2)) (byte (i + 3))
+  pub AreBytes-undo_shift_rows : AreBytes 16 (undo_shift_rows state)
+  AreBytes-undo_shift_rows = record {
+    len = refl;
+    small = moved-small 0 13 10 7 (bytes_before 4 1 14 11 (bytes_before 8 5 2 15 (bytes_before 12 9 6 3 []))) (omega arith) (omega arith) (omega arith) (omega arith)
+        (moved-small 4 1 14 11 (bytes_before 8 5 2 15 (bytes_before 12 9 6 3 [])) (omega arith) (omega arith) (omega arith) (omega arith)
+        (moved-small 8 5 2 15 (bytes_before 12 9 6 3 []) (omega arith) (omega arith) (omega arith) (omega arith)
+        (moved-small 12 9 6 3 [] (omega arith) (omega arith) (omega arith) (omega arith) (All-nil IsByte))));
+  }
 
-  mixed-small : (i : ℕ) (rest : List ℕ) → i + 3 < 16 → All IsByte rest → All IsByte (mixed i ++ rest)
-  mixed-small i rest within rest_small =
-      column-small (byte i) (byte (i + 1)) (byte (i + 2)) (byte (i + 3)) rest
-      (byte-small i (omega (arith, within))) (byte-small (i + 1) (omega (arith, within))) (byte-small (i + 2) (omega (arith, within))) (byte-small (i + 3) within)
-      rest_small
+  module _ (p q r s : ℕ) where
+    -- the mixed column of the four bytes from this place on
+    abbrev mixed : ℕ → List ℕ
+    mixed i = mix_column p q r s (byte i) (byte (i + 1)) (byte (i + 2)) (byte (i + 3))
+
+    mixed-small : (i : ℕ) (rest : List ℕ) → i + 3 < 16 → All IsByte rest → All IsByte (mixed i ++ rest)
+    mixed-small i rest within rest_small =
+        column-small p q r s (byte i) (byte (i + 1)) (byte (i + 2)) (byte (i + 3)) rest
+        (byte-small i (omega (arith, within))) (byte-small (i + 1) (omega (arith, within))) (byte-small (i + 2) (omega (arith, within))) (byte-small (i + 3) within)
+        rest_small
+
+    pub AreBytes-mix_by : AreBytes 16 (mix_by p q r s state)
+    AreBytes-mix_by = record {
+      len = refl;
+      small = mixed-small 0 (mixed 4 ++ mixed 8 ++ mixed 12 ++ []) (omega arith)
+          (mixed-small 4 (mixed 8 ++ mixed 12 ++ []) (omega arith)
+          (mixed-small 8 (mixed 12 ++ []) (omega arith) (mixed-small 12 [] (omega arith) (All-nil IsByte))));
+    }
 
   pub AreBytes-mix_columns : AreBytes 16 (mix_columns state)
-  AreBytes-mix_columns = record {
-    len = refl;
-    small = mixed-small 0 (mixed 4 ++ mixed 8 ++ mixed 12 ++ []) (omega arith)
-        (mixed-small 4 (mixed 8 ++ mixed 12 ++ []) (omega arith)
-        (mixed-small 8 (mixed 12 ++ []) (omega arith) (mixed-small 12 [] (omega arith) (All-nil IsByte))));
-  }
+  AreBytes-mix_columns = AreBytes-mix_by 2 3 1 1
 
   abbrev undone : ℕ → ℕ → ℕ → ℕ → List ℕ
   undone a b c d = mix_column 0x0e 0x0b 0x0d 0x09 (row_times 2 3 1 1 a b c d) (row_times 1 2 3 1 a b c d) (row_times 1 1 2 3 a b c d) (row_times 3 1 1 2 a b c d)

@@ -4,5 +4,6 @@ pub mod Chains
 pub mod Ciphers
 pub mod Fields
 pub mod Macs
+pub mod Private
 pub mod Schedules
 pub mod Words

@@ -1,47 +1,77 @@
 //! A block through the rounds.
-ghost use Rattle.std.specs.Prelude.{◌≡◌, ◌+◌, ◌*◌, ◌≤◌, [], ◌∷◌, length};
-ghost use Rattle.std.specs.Int.{w32, to_be_bytes};
-ghost use Rattle.gd_cipher.specs.Fields.{substitute, undo_substitute};
-ghost use Rattle.gd_cipher.specs.Blocks.{mix_column, sub_bytes, shift_rows, mix_columns, undo_sub_bytes, undo_shift_rows, undo_mix_columns};
-ghost use Rattle.gd_cipher.specs.Ciphers.{add_round_key, encrypted, decrypted};
-ghost use Rattle.gd_cipher.specs.Words.{bytes_of, byte_in};
+ghost use Rattle.std.specs.Prelude.{◌≡◌, ℕ, ◌+◌, ◌*◌, ◌≤◌, List, length, map};
+ghost use Rattle.gd_cipher.specs.Blocks.{xor_all, mix_by, shift_rows, undo_shift_rows};
+ghost use Rattle.gd_cipher.specs.Ciphers.{add_round_key, cipher, decipher};
+ghost use Rattle.gd_cipher.specs.Words.{bytes_of};
+ghost use Rattle.gd_cipher.specs.Private.RoundKeys.{AreRoundKeys, AreOpeningKeys};
+ghost use Rattle.gd_cipher.specs.Private.Tables.{AreTables};
 
-use crate::tables::{mixed, substituted, unmixed, unsubstituted};
+use crate::columns::column;
+use crate::tables::{Tables, mixed, substituted, unmixed, unsubstituted};
 use byteorder::{BigEndian, ByteOrder};
 
 /// A state: its four columns.
-type Columns = [u32; 4];
+pub(crate) type Columns = [u32; 4];
 
-/// Encrypts a block with the words of all round keys (FIPS 197 section 5.1).
-pub(crate) fn encrypt(words: &[u32], rounds: usize, block: &mut [u8; 16])
-    requires rounds { 1 ≤ rounds }
+/// Encrypts a state with the words of all round keys (FIPS 197 section 5.1).
+#[inline(always)]
+pub(crate) fn encrypt(words: &[u32], rounds: usize, state: Columns) -> Columns
+    requires rounds { 2 ≤ rounds }
     requires few { rounds ≤ 14 }
     requires len { length words.now ≡ 4 * (rounds + 1) }
-    ensures { block.new ≡ encrypted (bytes_of words.now) rounds block.old }
+    ensures { (key : List ℕ) → AreRoundKeys key rounds words.now → bytes_of result ≡ cipher key (bytes_of state) }
 {
-    let mut state = with_key(read(block), words, 0);
-    for round in 1..rounds {
-        state = with_key(whole_round(state), words, round);
+    let first = with_key(words, 0, state);
+    let mut state = forward(mixed(), words, 1, first);
+    for round in 2..rounds {
+        let next = forward(mixed(), words, round, state);
+        state = next;
     }
-    write(with_key(last_round(state), words, rounds), block);
+    forward(substituted(), words, rounds, state)
 }
 
-/// Decrypts a block (FIPS 197 section 5.3).
-pub(crate) fn decrypt(words: &[u32], rounds: usize, block: &mut [u8; 16])
-    requires rounds { 1 ≤ rounds }
+/// Decrypts a state by the equivalent inverse cipher, with the words of the keys for it (FIPS 197 section 5.3.5).
+#[inline(always)]
+pub(crate) fn decrypt(words: &[u32], rounds: usize, state: Columns) -> Columns
+    requires rounds { 2 ≤ rounds }
     requires few { rounds ≤ 14 }
     requires len { length words.now ≡ 4 * (rounds + 1) }
-    ensures { block.new ≡ decrypted (bytes_of words.now) rounds block.old }
+    ensures { (key : List ℕ) → AreOpeningKeys key rounds words.now → bytes_of result ≡ decipher key (bytes_of state) }
 {
-    let mut state = with_key(read(block), words, rounds);
-    for round in (1..rounds).rev() {
-        state = unmixed_columns(with_key(unsubstituted_columns(state), words, round));
+    let first = with_key(words, rounds, state);
+    let mut state = backward(unmixed(), words, rounds - 1, first);
+    for round in (1..rounds - 1).rev() {
+        let next = backward(unmixed(), words, round, state);
+        state = next;
     }
-    write(with_key(unsubstituted_columns(state), words, 0), block);
+    backward(unsubstituted(), words, 0, state)
+}
+
+/// Encrypts a block with the words of all round keys.
+pub(crate) fn encrypt_block(words: &[u32], rounds: usize, block: &mut [u8; 16])
+    requires rounds { 2 ≤ rounds }
+    requires few { rounds ≤ 14 }
+    requires len { length words.now ≡ 4 * (rounds + 1) }
+    ensures { (key : List ℕ) → AreRoundKeys key rounds words.now → block.new ≡ cipher key block.old }
+{
+    let state = encrypt(words, rounds, read(block));
+    write(state, block);
+}
+
+/// Decrypts a block with the words of the keys for the equivalent inverse cipher.
+pub(crate) fn decrypt_block(words: &[u32], rounds: usize, block: &mut [u8; 16])
+    requires rounds { 2 ≤ rounds }
+    requires few { rounds ≤ 14 }
+    requires len { length words.now ≡ 4 * (rounds + 1) }
+    ensures { (key : List ℕ) → AreOpeningKeys key rounds words.now → block.new ≡ decipher key block.old }
+{
+    let state = decrypt(words, rounds, read(block));
+    write(state, block);
 }
 
 /// The columns of a block.
-fn read(block: &[u8; 16]) -> Columns
+#[inline(always)]
+pub(crate) fn read(block: &[u8; 16]) -> Columns
     ensures { bytes_of result ≡ block.now }
 {
     let mut columns = [0; 4];
@@ -50,14 +80,26 @@ fn read(block: &[u8; 16]) -> Columns
 }
 
 /// The block of these columns.
-fn write(columns: Columns, block: &mut [u8; 16])
+#[inline(always)]
+pub(crate) fn write(columns: Columns, block: &mut [u8; 16])
     ensures { block.new ≡ bytes_of columns }
 {
     BigEndian::write_u32_into(&columns, block);
 }
 
+/// Two states added, column by column.
+#[inline(always)]
+pub(crate) fn sum(these: Columns, those: Columns) -> Columns
+    ensures { bytes_of result ≡ xor_all (bytes_of these) (bytes_of those) }
+{
+    let [a, b, c, d] = these;
+    let [e, f, g, h] = those;
+    [a ^ e, b ^ f, c ^ g, d ^ h]
+}
+
 /// The key of a round added.
-fn with_key(state: Columns, words: &[u32], round: usize) -> Columns
+#[inline(always)]
+fn with_key(words: &[u32], round: usize, state: Columns) -> Columns
     requires { 4 * (round + 1) ≤ length words.now }
     ensures { bytes_of result ≡ add_round_key (bytes_of words.now) round (bytes_of state) }
 {
@@ -71,106 +113,36 @@ fn with_key(state: Columns, words: &[u32], round: usize) -> Columns
     ]
 }
 
-/// A whole round up to its key: the bytes substituted, the rows shifted and the columns mixed.
-fn whole_round(state: Columns) -> Columns
-    ensures { bytes_of result ≡ mix_columns (shift_rows (sub_bytes (bytes_of state))) }
+/// A round of the cipher: bytes changed, rows shifted, columns mixed as the tables say, and the key of the round added.
+#[inline(always)]
+fn forward(tables: &Tables, words: &[u32], round: usize, state: Columns) -> Columns
+    requires { 4 * (round + 1) ≤ length words.now }
+    ensures { (rule : ℕ → ℕ) → (p q r s : ℕ) → AreTables rule p q r s tables.now → bytes_of result ≡
+        add_round_key (bytes_of words.now) round (mix_by p q r s (shift_rows (map rule (bytes_of state)))) }
 {
     let [a, b, c, d] = state;
+    let at = 4 * round;
     [
-        mixed_column(a, b, c, d),
-        mixed_column(b, c, d, a),
-        mixed_column(c, d, a, b),
-        mixed_column(d, a, b, c),
+        column(tables, a, b, c, d, words[at]),
+        column(tables, b, c, d, a, words[at + 1]),
+        column(tables, c, d, a, b, words[at + 2]),
+        column(tables, d, a, b, c, words[at + 3]),
     ]
 }
 
-/// A column of which each row comes from one of these, substituted, and then mixed.
-fn mixed_column(first: u32, second: u32, third: u32, fourth: u32) -> u32
-    ensures { to_be_bytes w32 result ≡ mix_column 0x02 0x03 0x01 0x01
-        (substitute (byte_in first 0)) (substitute (byte_in second 1)) (substitute (byte_in third 2)) (substitute (byte_in fourth 3)) }
-{
-    let [a, _, _, _] = first.to_be_bytes();
-    let [_, b, _, _] = second.to_be_bytes();
-    let [_, _, c, _] = third.to_be_bytes();
-    let [_, _, _, d] = fourth.to_be_bytes();
-    mixed(a) ^ mixed(b).rotate_right(8) ^ mixed(c).rotate_right(16) ^ mixed(d).rotate_right(24)
-}
-
-/// The last round up to its key: the bytes substituted and the rows shifted.
-fn last_round(state: Columns) -> Columns
-    ensures { bytes_of result ≡ shift_rows (sub_bytes (bytes_of state)) }
+/// The same with the rows shifted back, for a round of the equivalent inverse cipher.
+#[inline(always)]
+fn backward(tables: &Tables, words: &[u32], round: usize, state: Columns) -> Columns
+    requires { 4 * (round + 1) ≤ length words.now }
+    ensures { (rule : ℕ → ℕ) → (p q r s : ℕ) → AreTables rule p q r s tables.now → bytes_of result ≡
+        add_round_key (bytes_of words.now) round (mix_by p q r s (undo_shift_rows (map rule (bytes_of state)))) }
 {
     let [a, b, c, d] = state;
+    let at = 4 * round;
     [
-        substituted_column(a, b, c, d),
-        substituted_column(b, c, d, a),
-        substituted_column(c, d, a, b),
-        substituted_column(d, a, b, c),
+        column(tables, a, d, c, b, words[at]),
+        column(tables, b, a, d, c, words[at + 1]),
+        column(tables, c, b, a, d, words[at + 2]),
+        column(tables, d, c, b, a, words[at + 3]),
     ]
-}
-
-/// A column of which each row comes from one of these, substituted.
-fn substituted_column(first: u32, second: u32, third: u32, fourth: u32) -> u32
-    ensures { to_be_bytes w32 result ≡
-        substitute (byte_in first 0) ∷ substitute (byte_in second 1) ∷ substitute (byte_in third 2) ∷ substitute (byte_in fourth 3) ∷ [] }
-{
-    let [a, _, _, _] = first.to_be_bytes();
-    let [_, b, _, _] = second.to_be_bytes();
-    let [_, _, c, _] = third.to_be_bytes();
-    let [_, _, _, d] = fourth.to_be_bytes();
-    u32::from_be_bytes([
-        substituted(a),
-        substituted(b),
-        substituted(c),
-        substituted(d),
-    ])
-}
-
-/// The rows shifted back and the substitutions undone.
-fn unsubstituted_columns(state: Columns) -> Columns
-    ensures { bytes_of result ≡ undo_sub_bytes (undo_shift_rows (bytes_of state)) }
-{
-    let [a, b, c, d] = state;
-    [
-        unsubstituted_column(a, d, c, b),
-        unsubstituted_column(b, a, d, c),
-        unsubstituted_column(c, b, a, d),
-        unsubstituted_column(d, c, b, a),
-    ]
-}
-
-/// A column of which each row comes from one of these, its substitution undone.
-fn unsubstituted_column(first: u32, second: u32, third: u32, fourth: u32) -> u32
-    ensures { to_be_bytes w32 result ≡ undo_substitute (byte_in first 0) ∷ undo_substitute (byte_in second 1)
-        ∷ undo_substitute (byte_in third 2) ∷ undo_substitute (byte_in fourth 3) ∷ [] }
-{
-    let [a, _, _, _] = first.to_be_bytes();
-    let [_, b, _, _] = second.to_be_bytes();
-    let [_, _, c, _] = third.to_be_bytes();
-    let [_, _, _, d] = fourth.to_be_bytes();
-    u32::from_be_bytes([
-        unsubstituted(a),
-        unsubstituted(b),
-        unsubstituted(c),
-        unsubstituted(d),
-    ])
-}
-
-/// The mixing of the columns undone.
-fn unmixed_columns(state: Columns) -> Columns
-    ensures { bytes_of result ≡ undo_mix_columns (bytes_of state) }
-{
-    state.map(unmixed_column)
-}
-
-/// The column before it was mixed.
-fn unmixed_column(column: u32) -> u32
-    ensures { to_be_bytes w32 result ≡ mix_column 0x0e 0x0b 0x0d 0x09
-        (byte_in column 0) (byte_in column 1) (byte_in column 2) (byte_in column 3) }
-{
-    let [a, b, c, d] = column.to_be_bytes();
-    unmixed(a)
-        ^ unmixed(b).rotate_right(8)
-        ^ unmixed(c).rotate_right(16)
-        ^ unmixed(d).rotate_right(24)
 }

@@ -116,6 +116,23 @@ fn generated_texts_are_opened_as_they_were_sealed(rt: HostRuntime) {
     }
 }
 
+/// Texts of 0 to 8 blocks under drawn keys and IVs are sealed again as they were before they were opened.
+#[test]
+fn generated_texts_are_sealed_as_they_were_opened(rt: HostRuntime) {
+    let mut draws = Draws { state: 2 };
+    for round in 0..1_000 {
+        let key = Key128::new(draws.octets());
+        let iv = draws.octets();
+        let sealed: [u8; 128] = draws.octets();
+        let mut text = sealed;
+        let whole = 16 * (round % 9);
+        cbc_open(&key, &iv, &mut text[..whole]);
+        assert!(rt; whole == 0 || text[..whole] != sealed[..whole]);
+        cbc_seal(&key, &iv, &mut text[..whole]);
+        assert_eq!(rt; text, sealed);
+    }
+}
+
 fn sum(these: &[u8; 16], those: &[u8; 16]) -> [u8; 16] {
     let mut sum = *these;
     for (byte, other) in sum.iter_mut().zip(those) {

@@ -2,9 +2,10 @@
 ghost use Rattle.std.specs.Prelude.{◌≡◌};
 ghost use Rattle.gd_cipher.specs.Bytes.{AreBytes};
 ghost use Rattle.gd_cipher.specs.Ciphers.{cipher, decipher};
+ghost use Rattle.gd_cipher.specs.Private.RoundKeys.{AreRoundKeys, AreOpeningKeys};
 
-use crate::blocks::{decrypt, encrypt};
-use crate::schedules::expand;
+use crate::blocks::{decrypt_block, encrypt_block};
+use crate::schedules::{expand, unmix};
 use byteorder::{BigEndian, ByteOrder};
 use std::marker::Model;
 
@@ -42,7 +43,7 @@ impl Key128 {
         ensures block { block.new ≡ cipher self.now block.old }
         ensures key { AreBytes 16 self.now }
     {
-        encrypt(&self.words, 10, block);
+        encrypt_block(self.words(), 10, block);
     }
 
     /// Decrypts a block in place (FIPS 197 section 5.3).
@@ -50,14 +51,27 @@ impl Key128 {
         ensures block { block.new ≡ decipher self.now block.old }
         ensures key { AreBytes 16 self.now }
     {
-        decrypt(&self.words, 10, block);
+        decrypt_block(&self.opening_words(), 10, block);
     }
 
-    /// Tells contracts that the key has 16 bytes.
-    pub(crate) fn has_16_bytes(&self)
-        ensures { AreBytes 16 self.now }
+    /// The words of the round keys.
+    #[inline]
+    pub(crate) fn words(&self) -> &[u32; 44]
+        ensures words { AreRoundKeys self.now 10 result.now }
+        ensures key { AreBytes 16 self.now }
     {
-        let _ = &self.words;
+        &self.words
+    }
+
+    /// The words of the keys for the equivalent inverse cipher.
+    #[inline]
+    pub(crate) fn opening_words(&self) -> [u32; 44]
+        ensures words { AreOpeningKeys self.now 10 result }
+        ensures key { AreBytes 16 self.now }
+    {
+        let mut words = self.words;
+        unmix(&mut words);
+        words
     }
 }
 
@@ -95,7 +109,7 @@ impl Key256 {
         ensures block { block.new ≡ cipher self.now block.old }
         ensures key { AreBytes 32 self.now }
     {
-        encrypt(&self.words, 14, block);
+        encrypt_block(self.words(), 14, block);
     }
 
     /// Decrypts a block in place (FIPS 197 section 5.3).
@@ -103,6 +117,26 @@ impl Key256 {
         ensures block { block.new ≡ decipher self.now block.old }
         ensures key { AreBytes 32 self.now }
     {
-        decrypt(&self.words, 14, block);
+        decrypt_block(&self.opening_words(), 14, block);
+    }
+
+    /// The words of the round keys.
+    #[inline]
+    fn words(&self) -> &[u32; 60]
+        ensures words { AreRoundKeys self.now 14 result.now }
+        ensures key { AreBytes 32 self.now }
+    {
+        &self.words
+    }
+
+    /// The words of the keys for the equivalent inverse cipher.
+    #[inline]
+    fn opening_words(&self) -> [u32; 60]
+        ensures words { AreOpeningKeys self.now 14 result }
+        ensures key { AreBytes 32 self.now }
+    {
+        let mut words = self.words;
+        unmix(&mut words);
+        words
     }
 }

@@ -13,6 +13,7 @@ mod blocks;
 mod chains;
 #[cfg(test)]
 mod cipher_tests;
+mod columns;
 mod keys;
 mod laws;
 #[cfg(test)]

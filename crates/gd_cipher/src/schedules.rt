@@ -1,11 +1,11 @@
 //! The key expansion.
-ghost use Rattle.std.specs.Prelude.{◌≡◌, ◌+◌, ◌*◌, ◌≤◌, length, map, take};
-ghost use Rattle.std.specs.Int.{w32, to_be_bytes};
-ghost use Rattle.gd_cipher.specs.Fields.{times_x, substitute};
+ghost use Rattle.std.specs.Prelude.{◌≡◌, ℕ, ◌+◌, ◌*◌, ◌≤◌, length, take};
+ghost use Rattle.gd_cipher.specs.Fields.{times_x};
 ghost use Rattle.gd_cipher.specs.Schedules.{schedule};
 ghost use Rattle.gd_cipher.specs.Words.{bytes_of};
+ghost use Rattle.gd_cipher.specs.Private.Equivalents.{AreEquivalentKeys};
 
-use crate::tables::substituted;
+use crate::columns::{substituted_word, unmixed_column};
 
 /// Writes the words after the first `key_words` of a key's schedule (FIPS 197 section 5.2).
 pub(crate) fn expand(words: &mut [u32], key_words: usize)
@@ -27,17 +27,15 @@ pub(crate) fn expand(words: &mut [u32], key_words: usize)
     }
 }
 
-/// Each byte of a word substituted.
-fn substituted_word(word: u32) -> u32
-    ensures { to_be_bytes w32 result ≡ map substitute (to_be_bytes w32 word) }
+/// Makes the words of all round keys those for the equivalent inverse cipher (FIPS 197 section 5.3.5): between the first key and the
+/// last, the mixing of each column is undone.
+pub(crate) fn unmix(words: &mut [u32])
+    requires { 8 ≤ length words.old }
+    ensures { (rounds : ℕ) → length words.old ≡ 4 * (rounds + 1) → AreEquivalentKeys rounds (bytes_of words.old) (bytes_of words.new) }
 {
-    let [a, b, c, d] = word.to_be_bytes();
-    u32::from_be_bytes([
-        substituted(a),
-        substituted(b),
-        substituted(c),
-        substituted(d),
-    ])
+    for i in 4..words.len() - 4 {
+        words[i] = unmixed_column(words[i]);
+    }
 }
 
 /// x times a polynomial.

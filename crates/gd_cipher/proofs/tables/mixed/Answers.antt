@@ -1,9 +1,9 @@
--- The table is that of the rule, which computes.
-use Rattle.std.proofs.Common.{ℕ, [], ◌∷◌}
-use Rattle.std.specs.Int.{w32, from_be_bytes}
-use Rattle.gd_cipher.specs.Fields.{times, substitute}
-use Rattle.gd_cipher.proofs.TableLemmas.{entry_at}
+-- The first table is that of the rule, which computes, and the others are turned.
+use Rattle.std.proofs.Common.{refl}
+use Rattle.gd_cipher.specs.Fields.{substitute}
+use Rattle.gd_cipher.proofs.ByteLemmas.{substitute-small}
+use Rattle.gd_cipher.proofs.TableLemmas.{tables_are}
 use Rattle.gd_cipher.proofs.tables.mixed.Goals as goal
 
 pub returns : goal.returns
-returns c = entry_at (λ (b : ℕ). from_be_bytes w32 (times 2 (substitute b) ∷ substitute b ∷ substitute b ∷ times 3 (substitute b) ∷ [])) c.from.result c.args.byte c.from.ensures c.ranges.byte.fits
+returns c = tables_are substitute 2 3 1 1 _ _ (λ byte small. substitute-small byte) refl refl

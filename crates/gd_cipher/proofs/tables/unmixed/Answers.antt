@@ -1,9 +1,9 @@
--- The table is that of the rule, which computes.
-use Rattle.std.proofs.Common.{ℕ, [], ◌∷◌}
-use Rattle.std.specs.Int.{w32, from_be_bytes}
-use Rattle.gd_cipher.specs.Fields.{times}
-use Rattle.gd_cipher.proofs.TableLemmas.{entry_at}
+-- The first table is that of the rule, which computes, and the others are turned.
+use Rattle.std.proofs.Common.{refl}
+use Rattle.gd_cipher.specs.Fields.{undo_substitute}
+use Rattle.gd_cipher.proofs.ByteLemmas.{undo_substitute-small}
+use Rattle.gd_cipher.proofs.TableLemmas.{tables_are}
 use Rattle.gd_cipher.proofs.tables.unmixed.Goals as goal
 
 pub returns : goal.returns
-returns c = entry_at (λ (b : ℕ). from_be_bytes w32 (times 0x0e b ∷ times 0x09 b ∷ times 0x0d b ∷ times 0x0b b ∷ [])) c.from.result c.args.byte c.from.ensures c.ranges.byte.fits
+returns c = tables_are undo_substitute 14 11 13 9 _ _ (λ byte small. undo_substitute-small byte) refl refl

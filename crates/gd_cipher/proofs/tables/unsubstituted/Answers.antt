@@ -1,7 +1,9 @@
--- The table is that of the rule, which computes.
+-- The first table is that of the rule, which computes, and the others are turned.
+use Rattle.std.proofs.Common.{refl}
 use Rattle.gd_cipher.specs.Fields.{undo_substitute}
-use Rattle.gd_cipher.proofs.TableLemmas.{entry_at}
+use Rattle.gd_cipher.proofs.ByteLemmas.{undo_substitute-small}
+use Rattle.gd_cipher.proofs.TableLemmas.{tables_are}
 use Rattle.gd_cipher.proofs.tables.unsubstituted.Goals as goal
 
 pub returns : goal.returns
-returns c = entry_at undo_substitute c.from.result c.args.byte c.from.ensures c.ranges.byte.fits
+returns c = tables_are undo_substitute 1 0 0 0 _ _ (λ byte small. undo_substitute-small byte) refl refl

@@ -1,13 +1,4 @@
-use Rattle.std.proofs.Common.{take, ◌∙◌, arith}
-use Rattle.gd_cipher.specs.Words.{bytes_of}
-use Rattle.gd_cipher.proofs.ExpandLemmas.{rounds_of_front, decrypted_by, AreBytes-front}
 use Rattle.gd_cipher.proofs.keys.Key128.decrypt_block.Goals as goal
 
 pub returns-clause-block : goal.returns-clause-block
-returns-clause-block c =
-    let words = c.self.inside.words in
-    c.decrypt.ensures
-    ∙ decrypted_by (bytes_of words) c.args.self.now (take 16 (bytes_of words)) 10 c.args.block.now c.self.invariant c.self.view_is (rounds_of_front 4 words (omega arith))
-
-pub returns-clause-key : goal.returns-clause-key
-returns-clause-key c = AreBytes-front 16 c.self.inside.words c.args.self.now (omega arith) c.self.view_is
+returns-clause-block c = c.decrypt_block.ensures c.args.self.now c.opening_words.ensures.words

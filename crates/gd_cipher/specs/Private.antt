@@ -1,0 +1,3 @@
+pub mod Equivalents
+pub mod RoundKeys
+pub mod Tables
