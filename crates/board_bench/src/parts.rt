@@ -1,0 +1,50 @@
+//! A publisher and passes with the board that they are of.
+ghost use Rattle.std.specs.Prelude.{◌≡◌};
+
+use epoch_board::{BoardPass, EpochBoard, Publisher};
+
+#[derive(Drop)]
+pub struct Ledger<'a> {
+    pub board: &'a EpochBoard,
+    pub publisher: Publisher,
+    pub ghost one_board: { publisher.board ≡ board.now },
+}
+
+impl Ledger<'_> {
+    /// Publishes a pair of this number twice.
+    pub fn publish(&mut self, number: u32) {
+        self.board.publish(&mut self.publisher, number, number);
+    }
+}
+
+#[derive(Drop)]
+pub struct Watch<'a> {
+    pub board: &'a EpochBoard,
+    pub pass: BoardPass,
+    /// Each pair that was seen had one number twice, and none was less than the one before it.
+    pub rises: bool,
+    pub ghost one_board: { pass.board ≡ board.now },
+}
+
+impl<'a> Watch<'a> {
+    /// Another one over the same board.
+    pub fn another(&mut self) -> Watch<'a> {
+        Watch {
+            board: self.board,
+            pass: self.board.split(&mut self.pass),
+            rises: true,
+        }
+    }
+
+    /// Looks so often.
+    pub fn look(&mut self, looks: u32) {
+        let mut before = self.board.now(&mut self.pass);
+        for _ in 0..looks {
+            let seen = self.board.now(&mut self.pass);
+            if seen < before || seen.epoch != seen.sequence {
+                self.rises = false;
+            }
+            before = seen;
+        }
+    }
+}
