@@ -1,0 +1,4 @@
+pub mod Sums
+pub mod Keeps
+pub mod Steps
+pub mod Meetings

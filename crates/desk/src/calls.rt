@@ -1,0 +1,33 @@
+use crate::Kept;
+use crate::rules::Seen;
+use atomic_table::Badge;
+use std::collections::LinkedList;
+use std::marker::Model;
+
+/// An entry, and its place in the history since the desk's making. No value of it is made.
+pub struct Call<E> {
+    pub place: u64,
+    pub entry: E,
+}
+
+/// What is known of the calls of all passes of a desk that was closed: a list for each pass. It has no bytes.
+pub struct Calls<K: Kept> {
+    pub(crate) note: Badge<Seen<K>>,
+}
+
+impl<K: Kept> Model for Calls<K> {
+    ghost use Rattle.std.specs.Prelude.{List};
+    ghost use Rattle.desk.specs.declared.calls.Call.{Call};
+
+    ghost Value = { List (List (Call K.Entry)) };
+
+    ghost use Rattle.desk.specs.Views.{calls_noted};
+
+    ghost view = { λ calls. calls_noted calls.note.views };
+}
+
+impl<K: Kept> Drop for Calls<K> {
+    fn drop(self) {
+        let Calls { note: _ } = self;
+    }
+}

@@ -1,0 +1,92 @@
+//! The steps of a turn at the table.
+ghost use Rattle.std.specs.Prelude.{◌≡◌, ℕ, ◌+◌, ◌-◌, ◌%◌, ◌^◌, ◌<◌, ◌≤◌, List, [], ◌∷◌, ◌++◌, length, Some};
+ghost use Rattle.desk.specs.declared.views.Phase.TheVariants.{Idle, Waits, Serves};
+ghost use Rattle.desk.specs.Opened.{terms_of};
+ghost use Rattle.desk.specs.Plays.{in_phase, TakesOut};
+ghost use Rattle.desk.specs.Seats.{IsSized, IsSeatOf, IsAtRest, IsPlayer, IsSeat, HasTaken, MayPutBack, HasPutBack, HasTurned};
+
+use crate::Kept;
+use crate::plays::{Count, Draw, Look, PassOn, Read};
+use crate::rules::{COUNT, Place, SERVED, TICKET, Top};
+use crossbeam_utils::Backoff;
+use std::sync::Wait;
+use std::thread::Threads;
+
+fn draw<K: Kept>(top: &Top<K>, seat: &mut Place<K>) -> u64
+    requires table { IsSized top.now.table_id (terms_of K.listed K.tag top.now.key) }
+    requires seat { IsSeatOf top.now.table_id (terms_of K.listed K.tag top.now.key) seat.old }
+    requires rest { IsAtRest seat.old }
+    requires player { (made : ℕ) × IsPlayer made seat.old }
+    ensures { (ticket : ℕ) × (result ≡ ticket % 2 ^ 64) × IsSeat seat.old seat.new (in_phase (Waits ticket) seat.old.me.0, []) }
+{
+    top.fetch_add::<Draw>(seat, TICKET, 1)
+}
+
+/// Waits until the ticket is served. The seat then has the slot in hand.
+fn wait_for<K: Kept, R: Wait>(rt: &R, top: &Top<K>, seat: &mut Place<K>, ticket: u64)
+    requires table { IsSized top.now.table_id (terms_of K.listed K.tag top.now.key) }
+    requires seat { IsSeatOf top.now.table_id (terms_of K.listed K.tag top.now.key) seat.old }
+    requires waits { (own : ℕ) × (ticket ≡ own % 2 ^ 64) × (seat.old.me.0.phase ≡ Waits own) × (seat.old.me.1 ≡ []) }
+    requires player { (made : ℕ) × (made < top.now.key.turns) × IsPlayer made seat.old }
+    ensures { (own : ℕ) × TakesOut K.listed K.spare K.tag own seat.old.me seat.new.me × (seat.new.table_id ≡ seat.old.table_id) × (seat.new.id ≡ seat.old.id) }
+{
+    let backoff = Backoff::new();
+    for _ in rt.forever() {
+        if top.load::<Look>(seat, SERVED) == ticket {
+            return;
+        }
+        backoff.snooze();
+    }
+    unreachable!()
+}
+
+/// Waits for its turn, and takes the value out. Answers the value, and the place of its next entry.
+fn take_out<K: Kept, R: Wait>(rt: &R, top: &Top<K>, seat: &mut Place<K>) -> (K, u64)
+    requires table { IsSized top.now.table_id (terms_of K.listed K.tag top.now.key) }
+    requires seat { IsSeatOf top.now.table_id (terms_of K.listed K.tag top.now.key) seat.old }
+    requires rest { IsAtRest seat.old }
+    requires player { (made : ℕ) × (made < top.now.key.turns) × IsPlayer made seat.old }
+    ensures { HasTaken K.listed K.spare K.tag (terms_of K.listed K.tag top.now.key) seat.old seat.new result.0 result.1 }
+{
+    let ticket = draw(top, seat);
+    wait_for(rt, top, seat, ticket);
+    let kept = top.exchange(seat, 0, None).unwrap();
+    let place = top.load::<Read>(seat, COUNT);
+    (kept, place)
+}
+
+/// Puts the value back with its new entry, counts that, and passes the ticket on. Answers the place of the entry.
+fn put_back<K: Kept>(top: &Top<K>, seat: &mut Place<K>, kept: K) -> u64
+    requires table { IsSized top.now.table_id (terms_of K.listed K.tag top.now.key) }
+    requires seat { IsSeatOf top.now.table_id (terms_of K.listed K.tag top.now.key) seat.old }
+    requires out { MayPutBack K.listed K.spare K.tag (terms_of K.listed K.tag top.now.key) seat.old kept }
+    requires player { (made : ℕ) × (made < top.now.key.turns) × IsPlayer made seat.old }
+    ensures { HasPutBack K.listed K.spare K.tag (terms_of K.listed K.tag top.now.key) seat.old seat.new kept result }
+{
+    let hole = top.exchange(seat, 0, Some(kept));
+    let None = hole else { unreachable!() };
+    let place = top.fetch_add::<Count>(seat, COUNT, 1);
+    top.fetch_add::<PassOn>(seat, SERVED, 1);
+    place
+}
+
+/// One turn.
+pub(crate) fn serve<K: Kept, R: Threads + Wait + Sync>(
+    rt: &R,
+    top: &Top<K>,
+    seat: &mut Place<K>,
+    event: K::Event,
+) -> K::Answer
+    requires table { IsSized top.now.table_id (terms_of K.listed K.tag top.now.key) }
+    requires seat { IsSeatOf top.now.table_id (terms_of K.listed K.tag top.now.key) seat.old }
+    requires rest { IsAtRest seat.old }
+    requires player { (made : ℕ) × (made < top.now.key.turns) × IsPlayer made seat.old }
+    requires suits { K.Suits event (K.tag top.now.key.kept.value) }
+    ensures { HasTurned K.Relates (terms_of K.listed K.tag top.now.key) seat.old seat.new event result }
+{
+    let (mut kept, number) = take_out(rt, top, seat);
+    let answer = kept.take(rt, number, event);
+    let place = put_back(top, seat, kept);
+    prove!(number == place);
+    answer
+}

@@ -1,0 +1,4 @@
+use Rattle.desk_sites.proofs.work.Given as goal
+
+abbrev pub invariant-loop-turn : goal.invariant-loop-turn
+invariant-loop-turn g l = g.S.Site.Own l.site l.pass
