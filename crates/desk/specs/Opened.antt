@@ -10,7 +10,8 @@ use Rattle.desk.specs.declared.rules.Opening.{Opening}
 
 -- the terms of a desk, from what its table was told
 abbrev pub terms_of : {K E G : Type 0} → (K → List E) → (K → G) → Opening K → Terms E G
-terms_of listed tag opening = record { start = listed opening.kept.value; passes = opening.passes; turns = opening.turns; tag = tag opening.kept.value }
+terms_of listed tag opening =
+    record { start = listed opening.kept.value; passes = opening.passes; turns = opening.turns; tag = tag opening.kept.value }
 
 -- what a desk keeps of its table: its size, and what the desk knows itself of what the table was told
 pub record IsDesk {E G : Type 0} (table : TableId) (terms : Terms E G) (passes turns : ℕ) : Type 0 where
@@ -20,7 +21,8 @@ pub record IsDesk {E G : Type 0} (table : TableId) (terms : Terms E G) (passes t
   pub some : 1 ≤ passes
 
 -- a table that was just made for this value, and the seat of its maker
-pub record IsLaid {K E G : Type 0} (listed : K → List E) (tag : K → G) (kept : K) (passes turns : ℕ) (table : TableId) (opening : Opening K) (seat : Seat (Option K) (View E G)) : Type 0 where
+pub record IsLaid {K E G : Type 0} (listed : K → List E) (tag : K → G) (kept : K) (passes turns : ℕ)
+    (table : TableId) (opening : Opening K) (seat : Seat (Option K) (View E G)) : Type 0 where
   pub words : table.words ≡ 3
   pub slots : table.slots ≡ 1
   pub told : terms_of listed tag opening ≡ record { start = listed kept; passes = passes; turns = turns; tag = tag kept }

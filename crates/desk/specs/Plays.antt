@@ -44,7 +44,8 @@ module _ {E G : Type 0} where
 
   -- a view that takes in another one; what either has seen is in it, and the other's shares come first
   abbrev pub taken_in : View E G → View E G → View E G
-  taken_in view other = record view { beside = view.beside ++ other.seen ∷ []; shares = other.shares ++ view.shares; left = view.left + other.left }
+  taken_in view other =
+      record view { beside = view.beside ++ other.seen ∷ []; shares = other.shares ++ view.shares; left = view.left + other.left }
 
 abbrev Mine : Type 0 → Type 0 → Type 0 → Type 0
 Mine K E G = Me (Option K) (View E G)
@@ -60,12 +61,14 @@ module _ {K E G : Type 0} where
 
   -- a view that is served reads how many entries there are since the making
   abbrev pub read : Step (Option K) → Mine K E G → ℕ → Mine K E G → Type 0
-  read step me found after = (after ≡ me) × ((terms : Terms E G) → me.0.terms ≡ Some terms → length me.0.seen ≡ length terms.start + found)
+  read step me found after =
+      (after ≡ me) × ((terms : Terms E G) → me.0.terms ≡ Some terms → length me.0.seen ≡ length terms.start + found)
 
   -- the whole history is seen, and each list that was kept beside is a first part of it
   abbrev pub learned : Step (Option K) → Mine K E G → ℕ → Mine K E G → Type 0
   learned step me found after =
-      (history : List E) × (after ≡ (record me.0 { seen = history; beside = [] }, me.1)) × StartsWith history me.0.seen × All (StartsWith history) me.0.beside
+      (history : List E) × (after ≡ (record me.0 { seen = history; beside = [] }, me.1))
+      × StartsWith history me.0.seen × All (StartsWith history) me.0.beside
 
 module _ {K E G : Type 0} (listed : K → List E) (spare : K → ℕ) (tag : K → G) where
   -- the value is taken out: it has the whole history, which is seen now, and room for an entry
@@ -78,14 +81,22 @@ module _ {K E G : Type 0} (listed : K → List E) (spare : K → ℕ) (tag : K �
 
   -- a ticket that is not served waits on; one that is served takes the value out
   abbrev pub looked : Step (Option K) → Mine K E G → ℕ → Mine K E G → Type 0
-  looked step me found after = (ticket : ℕ) → me.0.phase ≡ Waits ticket → (found ≢ ticket % 2 ^ 64 → after ≡ me) × (found ≡ ticket % 2 ^ 64 → TakesOut ticket me after)
+  looked step me found after = (ticket : ℕ) → me.0.phase ≡ Waits ticket
+      → (found ≢ ticket % 2 ^ 64 → after ≡ me) × (found ≡ ticket % 2 ^ 64 → TakesOut ticket me after)
 
 module _ {K E G : Type 0} (listed : K → List E) where
   -- the entry that the value got while it was out is counted: it is seen, and it is a call of the first share
   abbrev pub counted_view : ℕ → ℕ → ℕ → E → K → View E G → View E G
   counted_view found ticket room entry kept view =
-      record view { phase = Serves ticket (room - 1); seen = listed kept; shares = with_call (record { place = found; entry = entry }) view.shares; left = view.left - 1 }
+      record view {
+        phase = Serves ticket (room - 1);
+        seen = listed kept;
+        shares = with_call (record { place = found; entry = entry }) view.shares;
+        left = view.left - 1;
+      }
 
   abbrev pub counted : Step (Option K) → Mine K E G → ℕ → Mine K E G → Type 0
-  counted step me found after = (kept : K) (ticket room : ℕ) (entry : E) → me.1 ≡ (0, Some kept) ∷ [] → me.0.phase ≡ Serves ticket room → listed kept ≡ me.0.seen ++ entry ∷ []
-      → (after ≡ (counted_view found ticket room entry kept me.0, me.1)) × ((terms : Terms E G) → me.0.terms ≡ Some terms → length me.0.seen ≡ length terms.start + found)
+  counted step me found after = (kept : K) (ticket room : ℕ) (entry : E) → me.1 ≡ (0, Some kept) ∷ []
+      → me.0.phase ≡ Serves ticket room → listed kept ≡ me.0.seen ++ entry ∷ []
+      → (after ≡ (counted_view found ticket room entry kept me.0, me.1))
+      × ((terms : Terms E G) → me.0.terms ≡ Some terms → length me.0.seen ≡ length terms.start + found)

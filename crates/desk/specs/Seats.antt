@@ -38,7 +38,12 @@ module _ {K E G : Type 0} where
 
   -- what contracts see of a pass with this seat
   abbrev pub holder : Seat (Option K) (View E G) → Holder E G
-  holder seat = record { desk = record { table = seat.table_id; told = seat.me.0.terms }; number = first_number seat.me.0.shares; seen = seat.me.0.seen; mine = first_mine seat.me.0.shares }
+  holder seat = record {
+    desk = record { table = seat.table_id; told = seat.me.0.terms };
+    number = first_number seat.me.0.shares;
+    seen = seat.me.0.seen;
+    mine = first_mine seat.me.0.shares;
+  }
 
   -- the seat of a pass that has made so many turns, between two calls
   pub record IsPass (seat : Seat (Option K) (View E G)) (made : ℕ) : Type 0 where
@@ -67,7 +72,8 @@ module _ {K E G : Type 0} where
   -- the seat has the shares of all these passes, in their order, and each pass's list is one that it has seen or keeps beside
   pub record HasAll (passes : List (Holder E G)) (seat : Seat (Option K) (View E G)) : Type 0 where
     pub calls : map (λ share. share.mine) seat.me.0.shares ≡ map (λ pass. pass.mine) passes
-    pub seen : (history : List E) → StartsWith history seat.me.0.seen → All (StartsWith history) seat.me.0.beside → All (λ pass. StartsWith history pass.seen) passes
+    pub seen : (history : List E) → StartsWith history seat.me.0.seen → All (StartsWith history) seat.me.0.beside
+        → All (λ pass. StartsWith history pass.seen) passes
 
 module _ {E G : Type 0} where
   -- the view once a turn is over, which made the history this one and is noted as this call

@@ -23,7 +23,8 @@ module _ {E G : Type 0} where
   -- As many passes as the terms say, by their numbers from 1, all of this desk. Each has seen the history as it was at the making, and none
   -- has made a turn.
   abbrev pub new_passes : DeskId E G → Terms E G → List (Holder E G)
-  new_passes desk terms = map (λ number. record { desk = desk; number = number; seen = terms.start; mine = [] }) (range_with_len 1 terms.passes)
+  new_passes desk terms =
+      map (λ number. record { desk = desk; number = number; seen = terms.start; mine = [] }) (range_with_len 1 terms.passes)
 
   -- what is known when all passes came back: the history is that of the making and what it got since, which is just the calls of the
   -- passes; it begins with all that a pass has seen

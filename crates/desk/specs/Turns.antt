@@ -65,8 +65,9 @@ module _ {E G : Type 0} where
   abbrev pub left_in : List (View E G) → ℕ
   left_in views = sum_by (λ view. view.left) views
 
-  -- What a view knows. What it has seen, and each list beside that, is a first part of the history. Its calls stand in the history since the
-  -- making, each share's by rising place. It has made, or has left, as many turns as its pass numbers give it, and without a pass number it has no ticket.
+  -- What a view knows. What it has seen, and each list beside that, is a first part of the history. Its calls stand in what the history got
+  -- since the making, each share's by rising place. It has made, or has left, as many turns as its pass numbers give it, and without a pass
+  -- number it has no ticket.
   pub record Knows (terms : Terms E G) (news : List E) (view : View E G) : Type 0 where
     pub seen : StartsWith (terms.start ++ news) view.seen
     pub beside : All (StartsWith (terms.start ++ news)) view.beside
@@ -96,7 +97,8 @@ module _ {K E G : Type 0} where
     pub serves : view.phase ≡ Serves ticket room
 
   -- A view that is served has the served ticket, has seen the whole history, and has the value, with room for all turns that are left.
-  pub record IsServed (terms : Terms E G) (news : List E) (front : ℕ) (homes : List (maybe.Option (Option K))) (views : List (View E G)) (view : View E G) (ticket room : ℕ) : Type 0 where
+  pub record IsServed (terms : Terms E G) (news : List E) (front : ℕ) (homes : List (maybe.Option (Option K)))
+      (views : List (View E G)) (view : View E G) (ticket room : ℕ) : Type 0 where
     pub served : ticket ≡ front
     pub away : homes ≡ none ∷ []
     pub seen : view.seen ≡ terms.start ++ news
@@ -111,8 +113,8 @@ module _ {K E G : Type 0} (listed : K → List E) (spare : K → ℕ) (tag : K �
     pub words : state.words ≡ (next % 2 ^ 64) ∷ (front % 2 ^ 64) ∷ length news ∷ []
     pub tickets : AreTickets front next state.views
     pub slot : AtHome listed spare tag terms news state.homes state.views ⊎ IsOut state.homes state.views
-    pub served : (id : ℕ) (view : View E G) (ticket room : ℕ) → get_elem? state.views id ≡ some view → view.phase ≡ Serves ticket room
-        → IsServed terms news front state.homes state.views view ticket room
+    pub served : (id : ℕ) (view : View E G) (ticket room : ℕ) → get_elem? state.views id ≡ some view
+        → view.phase ≡ Serves ticket room → IsServed terms news front state.homes state.views view ticket room
     pub knows : (id : ℕ) (view : View E G) → get_elem? state.views id ≡ some view → Knows terms news view
     pub places : ArePlaces news state.views
     pub numbers : AreNumbers terms.passes state.views
@@ -129,7 +131,15 @@ module _ {E : Type 0} where
 module _ {E G : Type 0} where
   -- the view of who makes the desk: it has all pass numbers
   abbrev pub maker : Terms E G → View E G
-  maker terms = record { terms = Some terms; phase = Idle; seen = terms.start; beside = []; shares = blank_shares 1 terms.passes; left = terms.passes * terms.turns; noted = [] }
+  maker terms = record {
+    terms = Some terms;
+    phase = Idle;
+    seen = terms.start;
+    beside = [];
+    shares = blank_shares 1 terms.passes;
+    left = terms.passes * terms.turns;
+    noted = [];
+  }
 
   -- Spent views: the view of a seat that another one took in has nothing.
   abbrev pub spent : View E G

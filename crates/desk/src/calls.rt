@@ -1,5 +1,4 @@
-use crate::Kept;
-use crate::rules::Seen;
+use crate::views::View;
 use atomic_table::Badge;
 use std::collections::LinkedList;
 use std::marker::Model;
@@ -11,22 +10,22 @@ pub struct Call<E> {
 }
 
 /// What is known of the calls of all passes of a desk that was closed: a list for each pass. It has no bytes.
-pub struct Calls<K: Kept> {
-    pub(crate) note: Badge<Seen<K>>,
+pub struct Calls<E, G> {
+    pub(crate) note: Badge<View<E, G>>,
 }
 
-impl<K: Kept> Model for Calls<K> {
+impl<E, G> Model for Calls<E, G> {
     ghost use Rattle.std.specs.Prelude.{List};
     ghost use Rattle.desk.specs.declared.calls.Call.{Call};
 
-    ghost Value = { List (List (Call K.Entry)) };
+    ghost Value = { List (List (Call E)) };
 
     ghost use Rattle.desk.specs.Views.{calls_noted};
 
     ghost view = { λ calls. calls_noted calls.note.views };
 }
 
-impl<K: Kept> Drop for Calls<K> {
+impl<E, G> Drop for Calls<E, G> {
     fn drop(self) {
         let Calls { note: _ } = self;
     }

@@ -12,7 +12,7 @@ use group_terms::List;
 #[derive(Drop)]
 pub struct Closed<K: Kept> {
     pub kept: K,
-    pub calls: Calls<K>,
+    pub calls: Calls<K::Entry, K::Tag>,
 }
 
 /// Fewer passes came back than were made. All comes back as it was.
@@ -27,7 +27,8 @@ pub struct DeskOpen<K: Kept> {
 fn gather<K: Kept>(top: &Top<K>, mut passes: List<Pass<K>>) -> Place<K>
     requires table { IsSized top.now.table_id (terms_of K.listed K.tag top.now.key) }
     requires some { 0 < length passes }
-    requires own { All (λ pass. pass.desk ≡ record { table = top.now.table_id; told = Some (terms_of K.listed K.tag top.now.key) }) passes }
+    requires own { All (λ pass. pass.desk ≡
+        record { table = top.now.table_id; told = Some (terms_of K.listed K.tag top.now.key) }) passes }
     ensures seat { IsSeatOf top.now.table_id (terms_of K.listed K.tag top.now.key) result × IsAtRest result }
     ensures all { HasAll passes result }
 {
@@ -53,7 +54,7 @@ fn take_home<K: Kept>(table: Board<K>, seat: Place<K>) -> K
 }
 
 impl<K: Kept> Desk<K> {
-    /// Gives the value back, once all passes have come back.
+    /// Gives the value back, once all passes have come back. `DeskOpen` where a pass is missing.
     pub fn close(self, passes: List<Pass<K>>) -> Result<Closed<K>, DeskOpen<K>>
         requires { All (λ pass. pass.desk ≡ self.id) passes }
         ensures ok { IfOk result (λ closed. IsWhole self.terms passes (K.listed closed.kept)) }

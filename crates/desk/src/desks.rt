@@ -24,7 +24,10 @@ impl<K: Kept> Model for Desk<K> {
     ghost use Rattle.std.specs.Prelude.{Some};
     ghost use Rattle.desk.specs.Opened.{terms_of, IsDesk};
 
-    ghost view = { λ desk. record { id = record { table = desk.table.shared.table_id; told = Some (terms_of K.listed K.tag desk.table.shared.key) }; terms = terms_of K.listed K.tag desk.table.shared.key } };
+    ghost view = { λ desk. record {
+      id = record { table = desk.table.shared.table_id; told = Some (terms_of K.listed K.tag desk.table.shared.key) };
+      terms = terms_of K.listed K.tag desk.table.shared.key;
+    } };
 
     ghost invariant = { λ desk. IsDesk desk.table.shared.table_id (terms_of K.listed K.tag desk.table.shared.key) desk.passes desk.turns };
 }

@@ -43,7 +43,8 @@ pub trait Kept {
         requires shared { IsSync R.row }
         requires room { 0 < spare self.old }
         requires suits { Suits event (tag self.old) }
-        ensures entry { (entry : Self.Entry) × (listed self.new ≡ listed self.old ++ entry ∷ []) × Relates (listed self.old) event entry result }
+        ensures entry { (entry : Self.Entry) × (listed self.new ≡ listed self.old ++ entry ∷ [])
+            × Relates (listed self.old) event entry result }
         ensures spare { spare self.old ≤ spare self.new + 1 }
         ensures tag { tag self.new ≡ tag self.old };
 

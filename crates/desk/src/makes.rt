@@ -91,10 +91,13 @@ fn hand_over<K: Kept>(
     requires table { IsSized top.now.table_id (terms_of K.listed K.tag top.now.key) × (top.now.key.passes ≡ passes) }
     requires seat { IsSeatOf top.now.table_id (terms_of K.listed K.tag top.now.key) maker }
     requires rest { IsAtRest maker }
-    requires shares { (maker.me.0.shares ≡ blank_shares 1 passes) × (maker.me.0.left ≡ passes * top.now.key.turns) × (maker.me.0.seen ≡ K.listed top.now.key.kept.value) }
+    requires shares { (maker.me.0.shares ≡ blank_shares 1 passes) × (maker.me.0.left ≡ passes * top.now.key.turns)
+        × (maker.me.0.seen ≡ K.listed top.now.key.kept.value) }
     requires room { (room.items ≡ []) × (passes ≤ vec_capacity room) }
-    ensures passes { result ≡ new_passes (record { table = top.now.table_id; told = Some (terms_of K.listed K.tag top.now.key) }) (terms_of K.listed K.tag top.now.key) }
-    ensures own { All (λ pass. pass.desk ≡ record { table = top.now.table_id; told = Some (terms_of K.listed K.tag top.now.key) }) result }
+    ensures passes { result ≡ new_passes
+        (record { table = top.now.table_id; told = Some (terms_of K.listed K.tag top.now.key) }) (terms_of K.listed K.tag top.now.key) }
+    ensures own { All (λ pass. pass.desk ≡
+        record { table = top.now.table_id; told = Some (terms_of K.listed K.tag top.now.key) }) result }
 {
     let mut maker = maker;
     let mut made = room;
@@ -107,6 +110,7 @@ fn hand_over<K: Kept>(
 
 impl<K: Kept> Desk<K> {
     /// A desk with 1 to 64 passes, of which each may make 1 to 4,096 turns. Room for all turns of all passes is reserved.
+    /// `DeskLost` gives the value back where there is no memory.
     pub fn new(
         alloc: Global,
         mut kept: K,
@@ -115,7 +119,8 @@ impl<K: Kept> Desk<K> {
     ) -> Result<DeskMade<K>, DeskLost<K>>
         requires passes { (1 ≤ passes) × (passes ≤ 64) }
         requires turns { (1 ≤ turns) × (turns ≤ 4096) }
-        ensures desk { IfOk result (λ made. made.desk.terms ≡ record { start = K.listed kept; passes = passes; turns = turns; tag = K.tag kept }) }
+        ensures desk { IfOk result (λ made. made.desk.terms ≡
+            record { start = K.listed kept; passes = passes; turns = turns; tag = K.tag kept }) }
         ensures passes { IfOk result (λ made. made.passes ≡ new_passes made.desk.id made.desk.terms) }
         ensures own { IfOk result (λ made. All (λ pass. pass.desk ≡ made.desk.id) made.passes) }
         ensures many { IfOk result (λ made. length made.passes ≡ passes) }

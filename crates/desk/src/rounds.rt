@@ -28,7 +28,8 @@ fn wait_for<K: Kept, R: Wait>(rt: &R, top: &Top<K>, seat: &mut Place<K>, ticket:
     requires seat { IsSeatOf top.now.table_id (terms_of K.listed K.tag top.now.key) seat.old }
     requires waits { (own : ℕ) × (ticket ≡ own % 2 ^ 64) × (seat.old.me.0.phase ≡ Waits own) × (seat.old.me.1 ≡ []) }
     requires player { (made : ℕ) × (made < top.now.key.turns) × IsPlayer made seat.old }
-    ensures { (own : ℕ) × TakesOut K.listed K.spare K.tag own seat.old.me seat.new.me × (seat.new.table_id ≡ seat.old.table_id) × (seat.new.id ≡ seat.old.id) }
+    ensures { (own : ℕ) × TakesOut K.listed K.spare K.tag own seat.old.me seat.new.me
+        × (seat.new.table_id ≡ seat.old.table_id) × (seat.new.id ≡ seat.old.id) }
 {
     let backoff = Backoff::new();
     for _ in rt.forever() {

@@ -1,10 +1,13 @@
 //! A desk at one sum, in one thread and in several.
-ghost use Rattle.std.specs.Prelude.{◌≡◌, ◌≤◌, All, IfOk, OnOk};
+ghost use Rattle.std.specs.Prelude.{◌≡◌, ℕ, ◌≤◌, List, [], ◌∷◌, ◌++◌, All, IfOk, OnOk};
+ghost use Rattle.desk.specs.Views.{StartsWith};
 
 use crate::{Closed, Desk, DeskMade, DeskOpen, Kept, LedgerFull, Pass};
 use group_terms::List;
 use std::alloc::Global;
+use std::sync::Wait;
 use std::test::Fail;
+use std::thread::Threads;
 use sums::Sums;
 
 mod sums;
@@ -45,15 +48,36 @@ fn put<K: Kept>(desk: &Desk<K>, passes: &mut List<Pass<K>>, pass: Pass<K>) -> Re
     Ok(())
 }
 
+/// Turns of 5 and 7 by two passes, which then meet: the first has seen the entries of both.
+fn two_turns_seen<'a, R: Threads + Wait + Sync>(
+    rt: &R,
+    desk: &Desk<Sums<'a>>,
+    first: &mut Pass<Sums<'a>>,
+    second: &mut Pass<Sums<'a>>,
+) -> Result<(u64, u64), LedgerFull>
+    requires first { first.old.desk ≡ desk.now.id }
+    requires second { second.old.desk ≡ desk.now.id }
+    ensures first { first.new.desk ≡ desk.now.id }
+    ensures second { second.new.desk ≡ desk.now.id }
+    ensures five { OnOk result ((before : List ℕ) × StartsWith first.new.seen (before ++ 5 ∷ [])) }
+    ensures seven { OnOk result ((before : List ℕ) × StartsWith first.new.seen (before ++ 7 ∷ [])) }
+{
+    let five = desk.turn(rt, first, 5)?;
+    let seven = desk.turn(rt, second, 7)?;
+    desk.meet(first, second);
+    Ok((five, seven))
+}
+
 #[test]
 fn two_passes_take_turns_and_meet(rt: HostRuntime) -> Result<(), Fail> {
     let rate = 1;
     let DeskMade { desk, mut passes } = desk_of(rt.alloc(), &rate, 2, 4)?;
     let mut second = taken(&desk, &mut passes)?;
     let mut first = taken(&desk, &mut passes)?;
-    assert_eq!(rt; desk.turn(&rt, &mut first, 5), Ok(5));
-    assert_eq!(rt; desk.turn(&rt, &mut second, 7), Ok(12));
-    desk.meet(&mut first, &mut second);
+    assert_eq!(rt;
+        two_turns_seen(&rt, &desk, &mut first, &mut second),
+        Ok((5, 12))
+    );
     put(&desk, &mut passes, first)?;
     let Err(
         DeskOpen {

@@ -6,14 +6,15 @@ use crate::{Desk, Kept, Pass};
 use std::sync::Wait;
 use std::thread::Threads;
 
-/// The pass has made all its turns, so many.
+/// The pass has made all its turns; `held` is how many.
 #[derive(Clone, Copy, Debug, PartialEq, Eq)]
 pub struct LedgerFull {
     pub held: u64,
 }
 
 impl<K: Kept> Desk<K> {
-    /// Waits for its turn, and has the value take the event in. Where the pass has no turn left nothing is done, and the event is dropped.
+    /// Waits for its turn, and has the value take the event in. `LedgerFull` where the pass has no turn left: nothing is done, and
+    /// the event is dropped.
     pub fn turn<R: Threads + Wait + Sync>(
         &self,
         rt: &R,

@@ -1,3 +1,6 @@
+ghost use Rattle.std.specs.Prelude.{◌≡◌};
+ghost use Rattle.desk_bench.specs.Totals.{total_from};
+
 use desk::Kept;
 use group_terms::{List, Log, NoMemory};
 use std::alloc::Global;
@@ -9,6 +12,7 @@ use std::thread::Threads;
 pub struct Sum {
     entries: Log<u64>,
     sum: u64,
+    ghost summed: { sum ≡ total_from 0 entries.items },
 }
 
 impl Sum {
@@ -33,7 +37,8 @@ impl Kept for Sum {
 
     type Tag = ();
 
-    ghost use Rattle.std.specs.Prelude.{◌≡◌, ⊤};
+    ghost use Rattle.std.specs.Prelude.{◌≡◌, [], ◌∷◌, ◌++◌, ⊤};
+    ghost use Rattle.desk_bench.specs.Totals.{total_from};
 
     ghost listed = { λ sum. sum.entries.items };
 
@@ -43,7 +48,8 @@ impl Kept for Sum {
 
     ghost Suits = { λ _ _. ⊤ };
 
-    ghost Relates = { λ _ event entry _. entry ≡ event };
+    ghost Relates = { λ before event entry answer.
+        (entry ≡ event) × (answer ≡ total_from 0 (before ++ entry ∷ [])) };
 
     fn take<R: Threads + Wait + Sync>(&mut self, _rt: &R, _number: u64, event: u64) -> u64 {
         self.sum = self.sum.wrapping_add(event);

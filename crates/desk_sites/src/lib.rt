@@ -1,7 +1,7 @@
 //! Workers that take turns at a desk and know it by a trait alone, so that they are proved for every kept value, also one that borrows.
 #![tactic(auto)]
 
-ghost use Rattle.std.specs.Prelude.{◌≡◌, ℕ, ◌+◌, ◌<◌, All, MatchResult};
+ghost use Rattle.std.specs.Prelude.{◌≡◌, ◌↔◌, ◌⊎◌, ℕ, ◌+◌, ◌<◌, ◌≤◌, All, IsErr, IfErr, MatchResult};
 ghost use Rattle.std.specs.Thread.{IsSync};
 
 use desk::{Desk, Kept, LedgerFull, Pass};
@@ -29,6 +29,9 @@ pub trait Site {
     // How many turns a pass has made.
     ghost made: { Self.Pass → ℕ };
 
+    // How many turns each pass may make.
+    ghost turns: { Self → ℕ };
+
     /// Makes a turn. Where the pass has none left, nothing is done.
     fn turn_in<R: Threads + Wait + Sync>(
         &self,
@@ -40,7 +43,9 @@ pub trait Site {
         requires own { Own self.now pass.old }
         requires fits { Fits self.now event }
         ensures own { Own self.now pass.new }
-        ensures made { MatchResult result (λ _. made pass.new ≡ made pass.old + 1) (λ _. made pass.new ≡ made pass.old) };
+        ensures made { MatchResult result (λ _. made pass.new ≡ made pass.old + 1) (λ _. made pass.new ≡ made pass.old) }
+        ensures full { IsErr result ↔ (made pass.old ≡ turns self.now) }
+        ensures held { IfErr result (λ full. full.held ≡ turns self.now) };
 }
 
 /// Makes so many turns with a pass, by events that count up from `first`, or as many as it has left.
@@ -53,7 +58,8 @@ fn work<R: Threads + Wait + Sync, P, S: Site<Pass = P, Event = u64>>(
 )
     requires own { S.Own site.now pass.old }
     requires fits { (event : ℕ) → S.Fits site.now event }
-    ensures { S.Own site.now pass.new }
+    ensures own { S.Own site.now pass.new }
+    ensures made { (turns ≤ S.made pass.new) ⊎ (S.made pass.new ≡ S.turns site.now) }
 {
     for turn in 0..turns {
         let event = first.saturating_add(u64::from(turn));
@@ -74,11 +80,13 @@ pub fn work_all<R: Threads + Wait + Sync, P: Send, S: Site<Pass = P, Event = u64
     requires threads { 0 < threads }
     requires own { All (λ pass. S.Own site.now pass) passes.old }
     requires fits { (event : ℕ) → S.Fits site.now event }
-    ensures { All (λ pass. S.Own site.now pass) passes.new }
+    ensures own { All (λ pass. S.Own site.now pass) passes.new }
+    ensures made { All (λ pass. (turns ≤ S.made pass) ⊎ (S.made pass ≡ S.turns site.now)) passes.new }
 {
     let step = |at: usize, pass: &mut P|
         requires { S.Own site.now pass.now × ((event : ℕ) → S.Fits site.now event) × IsSync R.row }
-        ensures { S.Own site.entry.now pass.exit.now }
+        ensures own { S.Own site.entry.now pass.exit.now }
+        ensures made { (turns ≤ S.made pass.exit.now) ⊎ (S.made pass.exit.now ≡ S.turns site.entry.now) }
     {
         work(
             rt,
@@ -106,6 +114,8 @@ where
     ghost Fits = { λ desk event. K.Suits event desk.terms.tag };
 
     ghost made = { λ pass. length pass.mine };
+
+    ghost turns = { λ desk. desk.terms.turns };
 
     fn turn_in<R: Threads + Wait + Sync>(
         &self,
