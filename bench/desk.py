@@ -2,8 +2,8 @@
 
     python3 bench/desk.py        at the top of the repository
 
-It builds `desk_bench` and `bench/desk.rs`, and prints for 1, 2, 4 and 16 threads how many thousand turns each makes in a second, and the
-second figure divided by the first. A turn adds a number to a sum and to the list of all numbers.
+It builds `desk_bench` and `bench/desk.rs`, and prints for 1, 2, 4 and 16 threads how many thousand turns all threads together make at each in
+a second, and the second figure divided by the first. A turn adds a number to a sum and to the list of all numbers.
 """
 
 import pathlib
