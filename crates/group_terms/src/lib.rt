@@ -3,6 +3,7 @@
 #![tactic(auto)]
 
 pub use changes::{Batch, Change, MOST_CHANGES};
+pub use groups::GroupName;
 pub use keys::{KeyName, Wrap};
 pub use lists::{List, Octets};
 pub use logs::Log;
@@ -11,12 +12,15 @@ pub use members::{MOST_MEMBERS, MemberNames};
 pub use memory::NoMemory;
 pub use names::MemberName;
 pub use paths::{Keyed, LONGEST_PATH, Path, PathKey};
+pub use phases::Phase1;
 pub use positions::LkhId;
+pub use pushes::PushRefusal;
 pub use signatures::SignKind;
 pub use values::{IV_OCTETS, KEY_OCTETS, NodeValue, TrafficValue};
 pub use wires::{WireFault, WireWhat};
 
 mod changes;
+mod groups;
 mod keys;
 mod lists;
 mod logs;
@@ -25,7 +29,9 @@ mod members;
 mod memory;
 mod names;
 mod paths;
+mod phases;
 mod positions;
+mod pushes;
 mod signatures;
 #[cfg(test)]
 mod tests;

@@ -6,7 +6,8 @@ ghost use Rattle.group_terms.specs.Names.{is_name_octet, is_name, name_of, same_
 
 use std::marker::Model;
 
-const MOST_OCTETS: usize = 32;
+/// How many octets a name has at the most.
+pub(crate) const MOST_OCTETS: usize = 32;
 
 /// What a script calls a member: 1 to 32 octets out of a to z, 0 to 9 and `_`.
 #[derive(Clone, Copy, Debug, Hash)]
@@ -83,7 +84,8 @@ impl Eq for MemberName {
     ghost laws = { nat_list_eq_equiv };
 }
 
-fn field_of(text: &[u8]) -> [u8; MOST_OCTETS]
+/// A text at the front of a field, with zeros after it.
+pub(crate) fn field_of(text: &[u8]) -> [u8; MOST_OCTETS]
     requires { length text.now ≤ MOST_OCTETS }
     ensures { result ≡ padded text.now }
 {

@@ -1,5 +1,6 @@
 use crate::{
-    Batch, Change, List, Log, MOST_CHANGES, MemberName, NoMemory, WireFault, WireWhat, marks_above,
+    Batch, Change, GroupName, List, Log, MOST_CHANGES, MemberName, NoMemory, WireFault, WireWhat,
+    marks_above,
 };
 use std::test::Fail;
 
@@ -73,5 +74,16 @@ fn faults_have_a_text_for_people(rt: HostRuntime) -> Result<(), Fail> {
         text.as_str(),
         "octet 40: kind 17, where another kind or another form of it is due"
     );
+    Ok(())
+}
+
+#[test]
+fn names_of_groups_have_any_octets(rt: HostRuntime) -> Result<(), Fail> {
+    let name = GroupName::read(&[0, 255]).ok_or("a name")?;
+    assert_eq!(rt; name.text(), [0, 255].as_slice());
+    assert!(rt; name != GroupName::default());
+    assert!(rt; GroupName::read(&[7; 32]).is_some());
+    assert!(rt; GroupName::read(b"").is_none());
+    assert!(rt; GroupName::read(&[7; 33]).is_none());
     Ok(())
 }
