@@ -20,3 +20,14 @@ pub fn a_text_is_sealed_in_one_way()
     ensures { (key iv text one other : List ℕ) → length iv ≡ 16 →
         IsSealed key iv text one → IsSealed key iv text other → one ≡ other }
 {}
+
+/// A sealed text has one opened form under a key and an IV.
+pub fn a_text_is_opened_in_one_way()
+    ensures { (key iv sealed one other : List ℕ) → IsOpened key iv sealed one → IsOpened key iv sealed other → one ≡ other }
+{}
+
+/// What was sealed is opened as the text that it was.
+pub fn what_was_sealed_opens()
+    ensures { (key iv text sealed : List ℕ) → IsKey key → AreBytes 16 iv → All IsByte text →
+        IsSealed key iv text sealed → IsOpened key iv sealed text }
+{}

@@ -18,3 +18,7 @@ accepts_test digest signature = bytes_eq signature (test_signature digest)
 -- an algorithm for private use, whose stated key length is the length of the hash, 256 bits
 abbrev pub test_kind : SignKind
 test_kind = record { algorithm = 128; key_bits = 256 }
+
+-- the octets of the hash
+abbrev pub test_size : ℕ
+test_size = 32

@@ -1,6 +1,6 @@
 //! Signatures of tests, which keep nobody out: everybody knows their key.
 ghost use Rattle.std.specs.Prelude.{◌≡◌, ◌<◌, ◌≤◌, ℕ, List, true, length};
-ghost use Rattle.gd_edges.specs.Signatures.{test_signature, accepts_test, test_kind};
+ghost use Rattle.gd_edges.specs.Signatures.{test_signature, accepts_test, test_kind, test_size};
 
 use crate::{SigBytes, SignKind, Signer, Verifier};
 use gd_cipher::Hmac;
@@ -10,6 +10,9 @@ const TEST_KIND: SignKind = SignKind {
     algorithm: 128,
     key_bits: 256,
 };
+
+/// The octets of the hash.
+const TEST_SIZE: usize = 32;
 
 /// Signs by HMAC with SHA-256 under a key that everybody knows: for tests alone.
 #[derive(Clone, Copy, Debug, Default, PartialEq, Eq)]
@@ -21,6 +24,7 @@ impl TestSigner {
         ensures octets { (digest : List ℕ) →
             ⟦<TestSigner as Signer>⟧.signature result digest ≡ test_signature digest }
         ensures kind { ⟦<TestSigner as Signer>⟧.kind_of result ≡ test_kind }
+        ensures size { ⟦<TestSigner as Signer>⟧.size_of result ≡ test_size }
     {
         TestSigner
     }
@@ -31,17 +35,23 @@ impl Signer for TestSigner {
 
     ghost kind_of = { λ _. test_kind };
 
+    ghost size_of = { λ _. test_size };
+
     fn sign(&self, digest: &[u8; 32]) -> SigBytes
         ensures octets { result ≡ test_signature digest.now }
+        ensures size { length result ≡ test_size }
         ensures some { 0 < length result }
         ensures few { length result ≤ 512 }
-        ensures len { length result ≡ 32 }
     {
         SigBytes::new(&keyed_hash(digest))
     }
 
     fn kind(&self) -> SignKind {
         TEST_KIND
+    }
+
+    fn size(&self) -> usize {
+        TEST_SIZE
     }
 }
 

@@ -5,7 +5,7 @@ use Rattle.std.specs.Prelude.{◌==◌, nat_lt}
 use Rattle.std.specs.List.{position, position_or_len}
 use Rattle.std.proofs.lemmas.Bool.{eqb-true, ltb-true, eq-eqb, le-leb, lt-ltb}
 use Rattle.std.proofs.lemmas.Bool.Decides.{nat_tests}
-use Rattle.std.proofs.lemmas.List.{length-replicate, length-take, take_at, drop_at}
+use Rattle.std.proofs.lemmas.List.{length-replicate, length-take, take_at, drop_at, drop-drop}
 use Rattle.std.proofs.lemmas.List.Elements.{All-nil, All-cons, All-head, All-tail, All-take, All-drop}
 use Rattle.byteorder.specs.Numbers.{big_number-reads_back}
 use Rattle.group_terms.specs.Octets.{IsOctet, AreOctets}
@@ -15,11 +15,11 @@ use Rattle.gd_wire.specs.declared.chains.Part.{Part}
 use Rattle.gd_wire.specs.declared.chains.Named.{Named}
 use Rattle.gd_wire.specs.Readings.{Cursor, value_of, number, octet, octets, part, due_octet}
 use Rattle.gd_wire.specs.Chains
-use Rattle.gd_wire.specs.Chains.{Payload, PayloadFits, PayloadsFit, padded, payload_text, payloads_text, payloads_at, first_kind, kinds_of, body_of}
+use Rattle.gd_wire.specs.Chains.{GoesThrough, Payload, PayloadFits, PayloadsFit, padded, payload_text, payloads_text, payloads_at, first_kind, kinds_of, body_of}
 use Rattle.gd_wire.specs.Chains.{after_parts, payload_then, no_payload, no_other, payload, chain_end, chain_from}
 use Rattle.gd_wire.proofs.ReadingLemmas.{check_ok}
 use Rattle.gd_wire.proofs.PartLemmas.{IsPayload, payload_read}
-use Rattle.gd_wire.proofs.ChainReadings.{Reads, reads_on, body_is}
+use Rattle.gd_wire.proofs.ChainReadings.{reads_on, body_is}
 
 -- ---- what a chain without fault is
 
@@ -72,7 +72,7 @@ pub record IsChain (text : List ℕ) (due : List ℕ) (named : Named) (cursor : 
 
 -- with one more payload before it
 chain_more : (text : List ℕ) (base kind : ℕ) (due : List ℕ) (named : Named) (cursor : Cursor) (read : (Part × Named) × Cursor)
-    (others : List Part) → Reads text base cursor
+    (others : List Part) → GoesThrough text base cursor
     → IsPayload kind named cursor read → IsChain text due read.0.1 read.1 (payloads_at text others)
     → IsChain text (kind ∷ due) named cursor (payloads_at text (read.0.0 ∷ others))
 chain_more text base kind due named cursor read others reads is later =
@@ -99,7 +99,7 @@ chain_more text base kind due named cursor read others reads is later =
           );
     }
 
-pub chain_read : (text : List ℕ) (base : ℕ) (due : List ℕ) (named : Named) (cursor : Cursor) (parts : List Part) → Reads text base cursor
+pub chain_read : (text : List ℕ) (base : ℕ) (due : List ℕ) (named : Named) (cursor : Cursor) (parts : List Part) → GoesThrough text base cursor
     → chain_from due named cursor ≡ Ok parts
     → IsChain text due named cursor (payloads_at text parts)
 chain_read text base [] named cursor parts reads e =
@@ -130,7 +130,7 @@ fills_block text written zeros few same whole =
 -- ---- what was written is read
 
 -- a payload is read whatever comes after it
-payload_written : (kind next base at : ℕ) (named : Named) (body later : List ℕ) → named.kind ≡ kind → length body ≤ 65531
+pub payload_written : (kind next base at : ℕ) (named : Named) (body later : List ℕ) → named.kind ≡ kind → length body ≤ 65531
     → payload kind named (record { base = base; at = at; left = payload_text next body ++ later })
     ≡ Ok (
       (record { kind = kind; at = base + at; start = at + 4; length = length body }, record { kind = next; at = base + at }),
@@ -160,6 +160,12 @@ payload_written kind next base at named body later same small =
       record { base = base; at = place i; left = rest i },
     ))
 
+-- the body of a payload that comes next in a text
+pub written_body : (text : List ℕ) (kind next base at : ℕ) (body later : List ℕ) → drop at text ≡ payload_text next body ++ later
+    → body_of text (record { kind = kind; at = base + at; start = at + 4; length = length body }) ≡ body
+written_body text kind next base at body later left =
+    ap (take (length body)) (sym (drop-drop 4 at text) ∙ ap (drop 4) left) ∙ take_at body later (length body) refl
+
 zeros_pass : (count : ℕ) → position_or_len (λ octet. not (octet == 0)) (replicate count 0) ≡ count
 zeros_pass zero = refl
 zeros_pass (suc count) = let rest = zeros_pass count in omega arith
@@ -167,7 +173,7 @@ zeros_pass (suc count) = let rest = zeros_pass count in omega arith
 zeros_end : (count : ℕ) → position (λ octet. not (octet == 0)) (replicate count 0) ≡ None
 zeros_end count = let pass = zeros_pass count in let long = length-replicate {A = ℕ} count 0 in grind (arith, nat_tests)
 
-end_written : (zeros : ℕ) (named : Named) (cursor : Cursor) → zeros < 16 → named.kind ≡ 0 → cursor.left ≡ replicate zeros 0
+pub end_written : (zeros : ℕ) (named : Named) (cursor : Cursor) → zeros < 16 → named.kind ≡ 0 → cursor.left ≡ replicate zeros 0
     → value_of (chain_end named cursor) ≡ Ok tt
 unfolding chain_end
 end_written zeros named cursor few none left =
@@ -181,7 +187,7 @@ end_written zeros named cursor few none left =
 
 pub chain_written : (text : List ℕ) (base zeros : ℕ) → zeros < 16 → (payloads : List Payload) (named : Named) (cursor : Cursor)
     → PayloadsFit payloads → named.kind ≡ first_kind payloads
-    → Reads text base cursor → cursor.left ≡ payloads_text payloads ++ replicate zeros 0
+    → GoesThrough text base cursor → cursor.left ≡ payloads_text payloads ++ replicate zeros 0
     → (parts : List Part) × (chain_from (kinds_of payloads) named cursor ≡ Ok parts) × (payloads_at text parts ≡ payloads)
 chain_written text base zeros few [] named cursor fit first reads left =
     ([], ap no_payload (end_written zeros named cursor few first left), refl)

@@ -8,8 +8,8 @@ use Rattle.group_terms.specs.declared.wires.WireFault.{WireFault}
 use Rattle.gd_wire.specs.declared.chains.ChainFault.{ChainFault}
 use Rattle.gd_wire.specs.declared.chains.Part.{Part}
 use Rattle.gd_wire.specs.declared.chains.Named.{Named}
-use Rattle.gd_wire.specs.Readings.{Cursor, value_of, from_start}
-use Rattle.gd_wire.specs.Chains.{PartFits, body_of, after_parts, payload_then, no_payload, payload, chain_end, chain_from, chain}
+use Rattle.gd_wire.specs.Readings.{Cursor, Gives, value_of, from_start}
+use Rattle.gd_wire.specs.Chains.{PartFits, GoesThrough, body_of, after_parts, payload_then, no_payload, payload, chain_end, chain_from, chain}
 use Rattle.gd_wire.proofs.PartLemmas.{IsPayload, payload_read}
 
 -- A chain was read up to a place: what is left of it from there, after the payloads before, is the whole.
@@ -18,17 +18,11 @@ pub record Reaches (first : ℕ) (due : List ℕ) (start : Cursor) (count : ℕ)
     pub counted : length before ≡ count
     pub whole : after_parts before (chain_from (drop count due) named cursor) ≡ chain first due start
 
--- a cursor that reads this text
-pub record Reads (text : List ℕ) (base : ℕ) (cursor : Cursor) : Type 0 where
-  pub base_is : cursor.base ≡ base
-  pub within : cursor.at ≤ length text
-  pub left : cursor.left ≡ drop cursor.at text
-
-pub at_start : (text : List ℕ) (base : ℕ) → Reads text base (from_start base text)
+pub at_start : (text : List ℕ) (base : ℕ) → GoesThrough text base (from_start base text)
 at_start text base = record { base_is = refl; within = omega arith; left = refl }
 
 module _ (text : List ℕ) (base kind : ℕ) (named : Named) (cursor : Cursor) (read : (Part × Named) × Cursor)
-    (reads : Reads text base cursor) (is : IsPayload kind named cursor read) where
+    (reads : GoesThrough text base cursor) (is : IsPayload kind named cursor read) where
   -- a payload lies in that text, and so does what comes after it
   part_fits : PartFits text base read.0.0
   part_fits =
@@ -37,7 +31,7 @@ module _ (text : List ℕ) (base kind : ℕ) (named : Named) (cursor : Cursor) (
       let within = reads.within in
       record { within = omega (arith, is.start); place = omega (arith, is.at, is.start, reads.base_is) }
 
-  pub reads_on : Reads text base read.1
+  pub reads_on : GoesThrough text base read.1
   reads_on =
       let room = ap length reads.left ∙ length-drop cursor.at text in
       let fits = is.fits in
@@ -55,6 +49,23 @@ module _ (text : List ℕ) (base kind : ℕ) (named : Named) (cursor : Cursor) (
       ap (λ octets. take read.0.0.length (drop 4 octets)) reads.left ∙ ap (take read.0.0.length) (drop-drop 4 cursor.at text)
       ∙ ap (λ place. take read.0.0.length (drop place text)) (sym is.start)
 
+-- what a call that read a payload knows of it
+pub payload_lies : (text : List ℕ) (base kind : ℕ) (named : Named) (cursor : Cursor) (result : Result (Part × Named) WireFault) (now : Cursor)
+    → GoesThrough text base cursor → Gives result now (payload kind named cursor)
+    → IfOk result (λ read. PartFits text base read.0 × GoesThrough text base now)
+payload_lies text base kind named cursor (Ok read) now through gives =
+    let is = payload_read kind named cursor.base cursor.at cursor.left (read, now) gives in
+    (part_fits text base kind named cursor (read, now) through is, reads_on text base kind named cursor (read, now) through is)
+payload_lies text base kind named cursor (Err fault) now through gives = _
+
+-- and it went on
+pub payload_rises : (kind : ℕ) (named : Named) (cursor : Cursor) (result : Result (Part × Named) WireFault) (now : Cursor)
+    → Gives result now (payload kind named cursor) → IfOk result (λ read. cursor.at ≤ now.at)
+payload_rises kind named cursor (Ok read) now gives =
+    let is = payload_read kind named cursor.base cursor.at cursor.left (read, now) gives in
+    omega (arith, is.place)
+payload_rises kind named cursor (Err fault) now gives = _
+
 -- ---- each payload that was read lies in the text
 
 abbrev PartsFit : List ℕ → ℕ → Result (List Part) ChainFault → Type 0
@@ -70,7 +81,7 @@ parts_none : (text : List ℕ) (base : ℕ) (ended : Result (Unit {0}) WireFault
 parts_none text base (Ok read) = All-nil (PartFits text base)
 parts_none text base (Err fault) = All-nil (PartFits text base)
 
-parts_fit : (text : List ℕ) (base : ℕ) (due : List ℕ) (named : Named) (cursor : Cursor) → Reads text base cursor
+parts_fit : (text : List ℕ) (base : ℕ) (due : List ℕ) (named : Named) (cursor : Cursor) → GoesThrough text base cursor
     → PartsFit text base (chain_from due named cursor)
 parts_fit text base [] named cursor reads = parts_none text base (value_of (chain_end named cursor))
 parts_fit text base (kind ∷ due) named cursor reads =

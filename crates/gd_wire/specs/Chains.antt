@@ -111,8 +111,11 @@ chain_from [] named cursor = no_payload (value_of (chain_end named cursor))
 chain_from (kind ∷ due) named cursor = payload_then (payload kind named cursor) (chain_from due)
 
 -- the first kind is named in the header of the datagram, at place 16
+abbrev pub named_first : ℕ → Named
+named_first kind = record { kind = kind; at = 16 }
+
 abbrev pub chain : ℕ → List ℕ → Cursor → Result (List Part) ChainFault
-chain first due cursor = chain_from due (record { kind = first; at = 16 }) cursor
+chain first due cursor = chain_from due (named_first first) cursor
 
 -- ---- what was read
 
@@ -120,6 +123,12 @@ chain first due cursor = chain_from due (record { kind = first; at = 16 }) curso
 pub record PartFits (text : List ℕ) (base : ℕ) (part : Part) : Type 0 where
   pub within : part.start + part.length ≤ length text
   pub place : part.at + 4 ≡ base + part.start
+
+-- a cursor that goes through a text from its first octet on, which has the place `base` in the datagram
+pub record GoesThrough (text : List ℕ) (base : ℕ) (cursor : Cursor) : Type 0 where
+  pub base_is : cursor.base ≡ base
+  pub within : cursor.at ≤ length text
+  pub left : cursor.left ≡ drop cursor.at text
 
 -- its body
 abbrev pub body_of : List ℕ → Part → List ℕ

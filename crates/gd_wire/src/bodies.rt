@@ -1,6 +1,6 @@
 //! The bodies of payloads of fixed fields, in a text in which `read_chain` found the payload. The body of a GAP payload (RFC 6407 section
 //! 5.4) is any octets: `Part::body`.
-ghost use Rattle.std.specs.Prelude.{◌≡◌, ◌+◌, ◌≤◌, ◌++◌, length, OnOk, OnErr};
+ghost use Rattle.std.specs.Prelude.{◌≡◌, ◌+◌, ◌≤◌, ◌++◌, length, OnOk, OnErr, IfOk};
 ghost use Rattle.gd_wire.specs.Readings.{Gives, Shows, Answers, value_of};
 ghost use Rattle.gd_wire.specs.Bodies.{body_cursor, length_place, due_size, sized, hash_octets, hash, nonce, signature, sequence};
 ghost use Rattle.gd_wire.specs.Bodies.{sequence_text, identification, identification_text};
@@ -46,7 +46,8 @@ impl Part {
     pub fn nonce<'a>(&self, text: &'a [u8]) -> Result<&'a [u8], WireFault>
         requires within { self.now.start + self.now.length ≤ length text.now }
         requires small { self.now.at + 4 + self.now.length ≤ 4294967295 }
-        ensures { Answers (λ octets. octets.now) result (nonce (length_place self.now) (body_cursor text.now self.now)) }
+        ensures answer { Answers (λ octets. octets.now) result (nonce (length_place self.now) (body_cursor text.now self.now)) }
+        ensures size { IfOk result (λ octets. (8 ≤ length octets.now) × (length octets.now ≤ 128)) }
     {
         self.reader(text).nonce(self.at + 2)
     }
@@ -95,7 +96,8 @@ impl<'a> Reader<'a> {
     /// All octets, at least and at most so many; else `Length`, at a place.
     #[tactic(auto, unfolding(crate::specs::Bodies::sized))]
     fn sized(&mut self, least: usize, most: usize, at: u32) -> Result<&'a [u8], WireFault>
-        ensures { Shows (λ octets. octets.now) result self.new (sized least most at self.old) }
+        ensures shows { Shows (λ octets. octets.now) result self.new (sized least most at self.old) }
+        ensures size { IfOk result (λ octets. (least ≤ length octets.now) × (length octets.now ≤ most)) }
     {
         let left = self.left().len();
         if left < least || left > most {
@@ -114,7 +116,8 @@ impl<'a> Reader<'a> {
 
     #[tactic(auto, unfolding(crate::specs::Bodies::nonce))]
     fn nonce(&mut self, at: u32) -> Result<&'a [u8], WireFault>
-        ensures { Shows (λ octets. octets.now) result self.new (nonce at self.old) }
+        ensures shows { Shows (λ octets. octets.now) result self.new (nonce at self.old) }
+        ensures size { IfOk result (λ octets. (8 ≤ length octets.now) × (length octets.now ≤ 128)) }
     {
         self.sized(8, 128, at)
     }

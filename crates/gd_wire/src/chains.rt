@@ -1,8 +1,9 @@
 //! Payloads one after the other.
-ghost use Rattle.std.specs.Prelude.{◌≡◌, ◌+◌, ◌≤◌, ◌<◌, ◌==◌, ◌++◌, [], ◌∷◌, length, not, OnOk, OnErr, IfOk, IfErr, IfSome, All};
+ghost use Rattle.std.specs.Prelude.{◌≡◌, ℕ, List, ◌+◌, ◌≤◌, ◌<◌, ◌==◌, ◌++◌, [], ◌∷◌, length, not, OnOk, OnErr, IfOk, IfErr, IfSome, All};
 ghost use Rattle.std.specs.List.{position};
 ghost use Rattle.gd_wire.specs.Readings.{Cursor, Gives, value_of, from_start};
-ghost use Rattle.gd_wire.specs.Chains.{due_named, payload, padding_end, chain_end, chain, payload_text, PartFits, body_of};
+ghost use Rattle.gd_wire.specs.Chains.{due_named, named_first, payload, padding_end, chain_end, chain, payload_text};
+ghost use Rattle.gd_wire.specs.Chains.{PartFits, GoesThrough, body_of};
 
 use crate::attributes::append;
 use crate::faults::fault;
@@ -17,6 +18,9 @@ pub const MOST_PAYLOADS: usize = 8;
 
 /// The size of a payload's header.
 const HEADER: usize = 4;
+
+/// Where the header of a datagram names the kind of the first payload.
+const FIRST: u32 = 16;
 
 /// The zeros after a chain are fewer than a block of the cipher has.
 const BLOCK: usize = 16;
@@ -104,14 +108,21 @@ pub fn read_chain(first: u8, due: &[u8], text: &[u8], base: u32) -> Result<Chain
     reader.chain(first, due)
 }
 
-/// The kind that was named for the next payload, 0 for none, and the place of the octet that names it.
-#[derive(Clone, Copy, Debug)]
-struct Named {
-    kind: u8,
-    at: u32,
+/// The kind that was named for the next payload, 0 for none, and the place in the datagram of the octet that names it.
+#[derive(Clone, Copy, Debug, PartialEq, Eq)]
+pub struct Named {
+    pub kind: u8,
+    pub at: u32,
 }
 
 impl Named {
+    /// The kind that the header of a datagram names for the first payload.
+    pub fn first(kind: u8) -> Self
+        ensures { result ≡ named_first kind }
+    {
+        Named { kind, at: FIRST }
+    }
+
     /// Finds that this kind was named; else `Kind`, where another one is.
     fn due(&self, kind: u8) -> Result<(), WireFault>
         ensures { (cursor : Cursor) → Gives result cursor (due_named kind self.now cursor) }
@@ -130,13 +141,10 @@ impl<'a> Reader<'a> {
         requires { length due.now ≤ MOST_PAYLOADS }
         ensures { result ≡ chain first due.now self.old }
     {
-        let mut named = Named {
-            kind: first,
-            at: 16,
-        };
+        let mut named = Named::first(first);
         let mut before = Chain::new();
         for kind in due {
-            match self.payload(*kind, named) {
+            match self.next_payload(*kind, named) {
                 Ok((part, next)) => {
                     before.push(part);
                     named = next;
@@ -150,9 +158,20 @@ impl<'a> Reader<'a> {
         }
     }
 
-    /// The generic header of a payload of this kind, which was named before; goes on after its body.
+    /// A payload of this kind, whose kind was named before (RFC 2408 section 3.2): where it is, and what it names; goes on after its body.
+    /// Else its first fault: `Kind` where another kind was named, `Short` where its header is not whole, `Reserved`, and `Length` where its
+    /// length is less than its header or leads out of the text.
+    pub fn payload(&mut self, kind: u8, named: Named) -> Result<(Part, Named), WireFault>
+        ensures gives { Gives result self.new (payload kind named self.old) }
+        ensures lies { (text : List ℕ) (base : ℕ) → GoesThrough text base self.old →
+            IfOk result (λ read. PartFits text base read.0 × GoesThrough text base self.new) }
+        ensures rises { IfOk result (λ read. self.old.at ≤ self.new.at) }
+    {
+        self.next_payload(kind, named)
+    }
+
     #[tactic(auto, unfolding(crate::specs::Chains::payload))]
-    fn payload(&mut self, kind: u8, named: Named) -> Result<(Part, Named), WireFault>
+    fn next_payload(&mut self, kind: u8, named: Named) -> Result<(Part, Named), WireFault>
         ensures { Gives result self.new (payload kind named self.old) }
     {
         named.due(kind)?;
@@ -179,9 +198,10 @@ impl<'a> Reader<'a> {
         Ok((part, Named { kind: next, at }))
     }
 
-    /// What comes after the last payload.
+    /// Finds that no payload was named, and that zeros alone fill a block (RFC 2409 appendix B). Else the first fault: `Kind` where one was
+    /// named, `Length` where 16 octets or more are left, and `Padding` at the first octet that is not zero.
     #[tactic(auto, unfolding(crate::specs::Chains::chain_end))]
-    fn chain_end(&self, named: Named) -> Result<(), WireFault>
+    pub fn chain_end(&self, named: Named) -> Result<(), WireFault>
         ensures { result ≡ value_of (chain_end named self.now) }
     {
         named.due(0)?;

@@ -1,5 +1,6 @@
 //! What is written is read again, and what is read is the one text of its fields.
-ghost use Rattle.std.specs.Prelude.{◌≡◌, ◌+◌, ◌-◌, ◌%◌, ◌<◌, ℕ, List, [], ◌∷◌, ◌++◌, length, take, drop, replicate, All, Option, None, Ok};
+ghost use Rattle.std.specs.Prelude.{◌≡◌, ◌+◌, ◌-◌, ◌%◌, ◌<◌, ◌≤◌, ℕ, List, []};
+ghost use Rattle.std.specs.Prelude.{◌∷◌, ◌++◌, length, take, drop, replicate, All, Option, None, Ok};
 ghost use Rattle.gd_wire.specs.declared.headers.Header.{Header};
 ghost use Rattle.gd_wire.specs.declared.attributes.Attribute.{Attribute};
 ghost use Rattle.gd_wire.specs.declared.attributes.AttrValue.TheVariants as Values;
@@ -8,8 +9,10 @@ ghost use Rattle.byteorder.specs.Endian.{big_bytes};
 ghost use Rattle.group_terms.specs.declared.wires.WireWhat.{WireWhat};
 ghost use Rattle.gd_wire.specs.Attributes.{attribute_text, short_text, long_text};
 ghost use Rattle.gd_wire.specs.Attributes.{attribute};
-ghost use Rattle.gd_wire.specs.Bodies.{sequence, sequence_text, identification, identification_text};
+ghost use Rattle.gd_wire.specs.Bodies.{hash, nonce, sequence, sequence_text, signature, identification, identification_text};
+ghost use Rattle.gd_wire.specs.Chains.{payload, payload_text, chain_end, body_of};
 ghost use Rattle.group_terms.specs.Octets.{AreOctets};
+ghost use Rattle.gd_wire.specs.declared.chains.Named.{Named};
 ghost use Rattle.gd_wire.specs.declared.chains.Part.{Part};
 ghost use Rattle.gd_wire.specs.Readings.{Cursor, value_of, from_start, from_place, part, octets, octet, number, long_number};
 ghost use Rattle.gd_wire.specs.Chains.{Payload, first_kind, payloads_text, padded, payloads_at, kinds_of, PayloadsFit, chain};
@@ -69,12 +72,32 @@ pub fn an_attribute_has_one_text()
         drop at text ≡ attribute_text text found ++ now.left }
 {}
 
-/// The body of a SEQ or an ID payload that is written is read.
+/// The body of a HASH, a nonce, a SEQ, a SIG or an ID payload that is written is read.
 pub fn a_written_body_is_read()
+    ensures hash { (base at : ℕ) (octets : List ℕ) → length octets ≡ 32 →
+        value_of (hash at (from_start base octets)) ≡ Ok octets }
+    ensures nonce { (base at : ℕ) (octets : List ℕ) → 8 ≤ length octets → length octets ≤ 128 →
+        value_of (nonce at (from_start base octets)) ≡ Ok octets }
+    ensures signature { (base at : ℕ) (octets : List ℕ) → 1 ≤ length octets → length octets ≤ 512 →
+        value_of (signature at (from_start base octets)) ≡ Ok octets }
     ensures sequence { (number base at : ℕ) → number < 4294967296 →
         value_of (sequence at (from_start base (sequence_text number))) ≡ Ok number }
     ensures identification { (type base : ℕ) (octets : List ℕ) →
         value_of (identification (from_start base (identification_text type octets))) ≡ Ok (type, octets) }
+{}
+
+/// A payload that is written is read wherever it is, if it is named before, and its body is found in the text; zeros end a chain.
+pub fn a_written_payload_is_read()
+    ensures payload { (kind next base at : ℕ) (named : Named) (body later : List ℕ) → named.kind ≡ kind → length body ≤ 65531 →
+        payload kind named (record { base = base; at = at; left = payload_text next body ++ later })
+        ≡ Ok (
+          (record { kind = kind; at = base + at; start = at + 4; length = length body }, record { kind = next; at = base + at }),
+          record { base = base; at = at + 4 + length body; left = later },
+        ) }
+    ensures body { (text : List ℕ) (kind next base at : ℕ) (body later : List ℕ) → drop at text ≡ payload_text next body ++ later →
+        body_of text (record { kind = kind; at = base + at; start = at + 4; length = length body }) ≡ body }
+    ensures end { (zeros base at named_at : ℕ) → zeros < 16 →
+        value_of (chain_end (record { kind = 0; at = named_at }) (record { base = base; at = at; left = replicate zeros 0 })) ≡ Ok tt }
 {}
 
 /// Payloads that are written with fewer than 16 zeros after them are read.

@@ -5,17 +5,17 @@ pub use attributes::{
     AttrValue, Attribute, AttributeType, read_attribute, write_long, write_short,
 };
 pub use bodies::{HASH_OCTETS, Identification, write_identification, write_sequence};
-pub use chains::{Chain, ChainFault, MOST_PAYLOADS, Part, read_chain, write_payload};
+pub use chains::{Chain, ChainFault, MOST_PAYLOADS, Named, Part, read_chain, write_payload};
 pub use faults::fault;
 pub use group_terms::{WireFault, WireWhat};
 pub use headers::{Header, read_header, write_header};
 pub use laws::{
     a_chain_has_one_text, a_header_has_one_text, a_written_attribute_is_read,
     a_written_body_is_read, a_written_field_is_read, a_written_header_is_read,
-    an_attribute_has_one_text, parts_of_octets_are_octets, what_is_read_can_be_written,
-    written_payloads_are_read,
+    a_written_payload_is_read, an_attribute_has_one_text, parts_of_octets_are_octets,
+    what_is_read_can_be_written, written_payloads_are_read,
 };
-pub use payloads::write_payload_head;
+pub use payloads::{write_padding, write_payload_head};
 pub use readers::Reader;
 pub use rooms::Room;
 pub use text_laws::{a_payload_is_its_head_and_its_body, written_framing_is_octets};

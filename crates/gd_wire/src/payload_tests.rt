@@ -1,4 +1,4 @@
-use crate::{write_payload, write_payload_head};
+use crate::{write_padding, write_payload, write_payload_head};
 use group_terms::List;
 use std::test::Fail;
 
@@ -28,5 +28,19 @@ fn heads_tell_the_length_of_the_whole(rt: HostRuntime) -> Result<(), Fail> {
         out.as_slice(),
         [0, 0, 0, 4, 9, 0, 0x48, 0x9d, 0, 0, 0xff, 0xff].as_slice()
     );
+    Ok(())
+}
+
+/// A header and 17 octets get 15 zeros; then the block is full.
+#[test]
+fn zeros_fill_the_last_block(rt: HostRuntime) -> Result<(), Fail> {
+    let mut out = List::copy_of(rt.alloc(), &[7; 45])?;
+    write_padding(&mut out)?;
+    assert_eq!(rt;
+        (out.len(), &out.as_slice()[44..47]),
+        (60, [7, 0, 0].as_slice())
+    );
+    write_padding(&mut out)?;
+    assert_eq!(rt; out.len(), 60);
     Ok(())
 }
