@@ -4,8 +4,9 @@
 
 It builds `cipher_bench`, and prints for each row what that does in a second, what openssl does, and openssl's figure divided by ours.
 Rows: a key of 128 bits expanded and a text sealed or opened under it by cipher block chaining, of 18 KiB, in MiB/s, and of 64 octets, in
-thousands a second; a key expanded and two blocks encrypted, the work of one wrap, in thousands a second; HMAC with SHA-256 over pieces of
-4,096 octets, in MiB/s; and the 286 update arrays that a batch may send in a tree of 512 leaves, in batches a second.
+thousands a second; a key expanded and two blocks encrypted, the work of one wrap, in thousands a second; the 286 update arrays that a batch
+may send in a tree of 512 leaves, in batches a second; the membership push with them, written and opened, in pushes a second; and HMAC with
+SHA-256 over pieces of 4,096 octets, in MiB/s.
 """
 
 import os
@@ -76,7 +77,7 @@ def main():
     assert platform.machine() == "x86_64", "the switches for openssl are those of x86-64"
     subprocess.run(["rt", "run", "--", "seal", "1"], cwd=CRATE, check=True, stdout=subprocess.DEVNULL)
     with tempfile.TemporaryDirectory() as folder:
-        chain, wrap, updates = (built(folder, source) for source in ("chain.c", "wrap.c", "updates.c"))
+        chain, wrap, updates, pushes = (built(folder, source) for source in ("chain.c", "wrap.c", "updates.c", "pushes.c"))
         rows = [
             ("18 KiB sealed, MiB/s", compared("seal", (chain, "seal", str(LONG)), 5_000, LONG / MIB)),
             ("18 KiB opened, MiB/s", compared("open", (chain, "open", str(LONG)), 5_000, LONG / MIB)),
@@ -84,6 +85,8 @@ def main():
             ("64 octets opened, thousands/s", compared("open-short", (chain, "open", "64"), 500_000, 1 / 1000)),
             ("wraps, thousands/s", compared("wrap", (wrap,), 1_000_000, 1 / 1000)),
             ("286 arrays, batches/s", compared("updates", (updates,), 5_000, 1)),
+            ("push of 286 arrays written, /s", compared("push-write", (pushes, "write"), 3_000, 1)),
+            ("push of 286 arrays opened, /s", compared("push-open", (pushes, "open"), 3_000, 1)),
             ("HMAC, MiB/s", [a_second([(PROGRAM, "mac")], 50_000)[0] * 4096 / MIB, openssl_speed("-hmac", "sha256") / MIB]),
         ]
     version = subprocess.run(["openssl", "version"], check=True, capture_output=True, text=True).stdout.split()[1]

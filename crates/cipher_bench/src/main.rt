@@ -1,6 +1,7 @@
-//! Works a cipher call many times over, so that the time of it can be taken from outside: `seal N` expands a key and seals 18 KiB under it N
-//! times in place, `open N` opens them, `seal-short N` and `open-short N` do the same with 64 octets, `wrap N` expands a key and encrypts two
-//! blocks N times, `mac N` hashes N pieces of 4,096 octets, and `updates N` writes 286 update arrays N times.
+//! Works a call many times over, so that the time of it can be taken from outside: `seal N` expands a key and seals 18 KiB under it N times
+//! in place, `open N` opens them, `seal-short N` and `open-short N` do the same with 64 octets, `wrap N` expands a key and encrypts two blocks
+//! N times, `mac N` hashes N pieces of 4,096 octets, `updates N` writes 286 update arrays N times, `push-write N` writes the membership push
+//! with that many N times, and `push-open N` opens it N times.
 #![tactic(auto)]
 
 ghost use Rattle.std.specs.Prelude.{◌≡◌, ◌%◌, ◌≤◌, length};
@@ -12,6 +13,8 @@ use std::alloc::Global;
 use std::io::ErrorKind;
 use std::process::ExitCode;
 use std::{env, io};
+
+mod pushes;
 
 /// The octets of a large datagram.
 const LONG: usize = 18 * 1024;
@@ -39,6 +42,8 @@ fn run(rt: &HostRuntime) -> io::Result<()> {
         "wrap" => wrap(count),
         "mac" => mac(count),
         "updates" => updates(rt.alloc(), count).map_err(|_| ErrorKind::OutOfMemory)?,
+        "push-write" => { pushes::written(rt.alloc(), count).map_err(|_| ErrorKind::OutOfMemory)? }
+        "push-open" => pushes::opened(rt.alloc(), count)?,
         _ => return Err(ErrorKind::InvalidInput.into()),
     };
     for octet in octets {
@@ -123,7 +128,7 @@ fn last_or_first(octets: &[u8]) -> [u8; 16] {
     }
 }
 
-/// A key sealed under this one.
+/// A key of the root, sealed under this one.
 fn job_under(key: [u8; 16]) -> WrapJob {
     let iv = [2; 16];
     let by = PathKey {

@@ -60,7 +60,8 @@ pub struct KdFields<'a> {
 impl fmt::Display for KdFields<'_> {
     fn fmt<W: fmt::Write>(&self, f: &mut fmt::Formatter<W>) -> fmt::Result {
         if let Some(traffic) = self.view.tek {
-            fmt_traffic(&traffic, f)?;
+            let keys = TrafficKeys { traffic };
+            write!(f, "traffic {keys}")?;
         }
         match self.view.lkh_spi {
             Some(spi) => fmt_lkh(self, spi, f),
@@ -83,17 +84,25 @@ fn fmt_lkh<W: fmt::Write>(
     fmt_given(fields.view, fields.body, f)
 }
 
-fn fmt_traffic<W: fmt::Write>(traffic: &TrafficValue, f: &mut fmt::Formatter<W>) -> fmt::Result {
-    let cipher_key = Hex {
-        octets: &traffic.cipher_key,
-    };
-    let integrity_key = Hex {
-        octets: &traffic.integrity_key,
-    };
-    let spi = Hex {
-        octets: &traffic.spi,
-    };
-    write!(f, "traffic {cipher_key} {integrity_key} {spi}")
+/// `CIPHER-KEY INTEGRITY-KEY SPI`.
+#[derive(Clone, Copy)]
+pub struct TrafficKeys {
+    pub traffic: TrafficValue,
+}
+
+impl fmt::Display for TrafficKeys {
+    fn fmt<W: fmt::Write>(&self, f: &mut fmt::Formatter<W>) -> fmt::Result {
+        let cipher_key = Hex {
+            octets: &self.traffic.cipher_key,
+        };
+        let integrity_key = Hex {
+            octets: &self.traffic.integrity_key,
+        };
+        let spi = Hex {
+            octets: &self.traffic.spi,
+        };
+        write!(f, "{cipher_key} {integrity_key} {spi}")
+    }
 }
 
 fn fmt_path_key<W: fmt::Write>(key: &PathKey, f: &mut fmt::Formatter<W>) -> fmt::Result {
@@ -113,17 +122,30 @@ fn fmt_given<W: fmt::Write>(view: &KdView, body: &[u8], f: &mut fmt::Formatter<W
     };
     for array in span.arrays(body) {
         for key in array.keys {
-            fmt_sealed(&key, f)?;
+            fmt_sealed(key, f)?;
         }
     }
     Ok(())
 }
 
-fn fmt_sealed<W: fmt::Write>(key: &SealedKey, f: &mut fmt::Formatter<W>) -> fmt::Result {
-    let (by, by_made) = (key.by.number(), key.by_made);
-    let (id, made) = (key.gives.id.number(), key.gives.made);
+fn fmt_sealed<W: fmt::Write>(key: SealedKey, f: &mut fmt::Formatter<W>) -> fmt::Result {
+    let names = SealedNames { key };
     let sealed = Hex {
         octets: &key.gives.sealed,
     };
-    write!(f, " given {by}.{by_made}>{id}.{made} {sealed}")
+    write!(f, " given {names} {sealed}")
+}
+
+/// `ID.EPOCH>ID.EPOCH`: the key that seals, and the key that is given.
+#[derive(Clone, Copy)]
+pub struct SealedNames {
+    pub key: SealedKey,
+}
+
+impl fmt::Display for SealedNames {
+    fn fmt<W: fmt::Write>(&self, f: &mut fmt::Formatter<W>) -> fmt::Result {
+        let SealedKey { by, by_made, gives } = self.key;
+        let (by, id, made) = (by.number(), gives.id.number(), gives.made);
+        write!(f, "{by}.{by_made}>{id}.{made}")
+    }
 }

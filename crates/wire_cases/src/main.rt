@@ -1,6 +1,7 @@
-//! Asks the readers of the framing and of payloads what they find: each line of standard input names a reader, its arguments and octets in
-//! hexadecimal (`-` for none). For each a line says `ok`, or the first fault and its place; the last two readers say what an accepted body
-//! holds.
+//! Asks the readers of the framing, of payloads and of pushes what they find: each line of standard input names a reader, its arguments
+//! and octets in hexadecimal (`-` for none). For each a line says `ok`, or the first fault and its place; `sa-fields` and `kd-fields` say
+//! what an accepted body holds. A line `kek` has no answer: it names the SPI and the key of the pushes after it. A push is answered by what
+//! it gives, or by why it is refused.
 //!
 //! ```text
 //! header EXCHANGE OCTETS
@@ -10,6 +11,8 @@
 //! kd BASE OCTETS
 //! sa-fields BASE OCTETS
 //! kd-fields BASE OCTETS
+//! kek SPI IV KEY
+//! push LAST OCTETS
 //! ```
 #![tactic(auto)]
 
@@ -18,7 +21,9 @@ ghost use Rattle.std.specs.Prelude.{◌+◌, ◌≤◌, ◌↔◌, length, vec_l
 use answers::Answer;
 use fields::{KdFields, SaFields};
 use gd_wire::{MOST_PAYLOADS, WireFault, read_attribute, read_chain, read_header};
+use group_terms::NodeValue;
 use kd_wire::read_kd;
+use pushes::{Pushes, RekeyKey};
 use sa_wire::read_sa;
 use std::alloc::Global;
 use std::io;
@@ -26,21 +31,36 @@ use std::io::{BufRead, BufReader, ErrorKind};
 
 mod answers;
 mod fields;
+mod pushes;
 
 fn main(rt: HostRuntime) -> io::Result<()> {
     let input = BufReader::new(rt.alloc(), rt.reader())?;
+    let mut pushes = Pushes::new(rt.alloc())?;
     for line in input.lines(rt.alloc()) {
         let line = line?;
-        let answer = answer(rt.alloc(), line.as_str())?;
-        println!(rt; "{answer}")?;
+        if let Some(answer) = answer(rt.alloc(), line.as_str(), &mut pushes)? {
+            println!(rt; "{answer}")?;
+        }
     }
     Ok(())
 }
 
-/// What the reader that a line names finds.
-fn answer(alloc: Global, line: &str) -> io::Result<String> {
+/// The answer to a line, if it asks for one.
+fn answer(alloc: Global, line: &str, pushes: &mut Pushes) -> io::Result<Option<String>> {
     let words = line.split_whitespace().collect::<Vec<_>>(alloc)?;
     match words.as_slice() {
+        ["kek", spi, iv, key] => {
+            pushes.know(rekey_key(spi, iv, key)?);
+            Ok(None)
+        }
+        ["push", last, octets] => Ok(Some(push(alloc, last, octets, pushes)?)),
+        words => Ok(Some(found(alloc, words)?)),
+    }
+}
+
+/// What the reader that these words name finds.
+fn found(alloc: Global, words: &[&str]) -> io::Result<String> {
+    match words {
         ["header", exchange, octets] => fault_text(alloc, header(alloc, exchange, octets)?),
         ["attribute", at, base, octets] => fault_text(alloc, attribute(alloc, at, base, octets)?),
         ["chain", first, due, base, octets] => {
@@ -126,6 +146,31 @@ fn kd_fields(alloc: Global, base: &str, octets: &str) -> io::Result<String> {
         }
         Err(fault) => fault_text(alloc, Some(fault)),
     }
+}
+
+fn push(alloc: Global, last: &str, octets: &str, pushes: &mut Pushes) -> io::Result<String> {
+    let last = last.parse::<u32>().map_err(|_| ErrorKind::InvalidInput)?;
+    let datagram = decode(alloc, octets)?;
+    pushes.answer(alloc, last, datagram.as_slice())
+}
+
+/// A SPI and a KEK in words of hexadecimal.
+fn rekey_key(spi: &str, iv: &str, key: &str) -> io::Result<RekeyKey> {
+    let kek = NodeValue {
+        iv: block(iv)?,
+        key: block(key)?,
+    };
+    Ok(RekeyKey {
+        spi: block(spi)?,
+        kek,
+    })
+}
+
+/// Sixteen octets in hexadecimal.
+fn block(text: &str) -> io::Result<[u8; 16]> {
+    let mut octets = [0; 16];
+    hex::decode_to_slice(text, &mut octets).map_err(|_| ErrorKind::InvalidInput)?;
+    Ok(octets)
 }
 
 /// The body of a payload, whose first octet has the place `base` in its datagram.

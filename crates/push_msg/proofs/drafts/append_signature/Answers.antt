@@ -1,0 +1,6 @@
+use Rattle.std.proofs.Common.{arith}
+use Rattle.push_msg.proofs.HeaderLemmas.{octets_from}
+use Rattle.push_msg.proofs.drafts.append_signature.Goals as goal
+
+pub returns-clause-octets : goal.returns-clause-octets
+returns-clause-octets c = octets_from c.args.signature.now (λ i within. omega (arith, c.type_inv.signature i))

@@ -1,0 +1,27 @@
+//! The pushes of GDOI (RFC 6407 section 4), by which a group gets new keys: the membership push and the traffic push, written and opened
+//! exactly.
+#![tactic(auto)]
+
+pub use bodies::{OpenBody, OpenPush};
+pub use group_terms::{Octets, PushRefusal};
+pub use laws::{a_written_push_is_read, written_pushes_have_their_size};
+pub use opening::open_push;
+pub use rooms::Room;
+pub use writers::{PushHead, write_membership, write_traffic};
+
+mod bodies;
+mod digests;
+mod drafts;
+mod kinds;
+mod laws;
+mod opening;
+mod reading;
+mod rooms;
+mod rows;
+#[cfg(test)]
+mod shape_tests;
+#[cfg(test)]
+mod test_octets;
+#[cfg(test)]
+mod tests;
+mod writers;

@@ -1,0 +1,51 @@
+//! Room in which pushes are opened.
+ghost use Rattle.std.specs.Prelude.{◌≡◌, [], IfOk};
+
+use gd_wire::Room as Octets;
+use group_terms::NoMemory;
+use std::alloc::Global;
+use std::marker::Model;
+
+/// The most octets that UDP over IPv4 holds.
+const MOST: usize = 65_507;
+
+/// Room in which pushes are opened one after the other. It is reserved once, and serves for all stores of a process.
+#[derive(Debug, Drop)]
+pub struct Room {
+    pub(crate) octets: Octets,
+    /// Where the body of the key download is.
+    pub(crate) start: usize,
+    pub(crate) size: usize,
+}
+
+impl Model for Room {
+    ghost use Rattle.std.specs.Prelude.{◌≤◌, ◌+◌, ℕ, List, length, take, drop};
+
+    ghost Value = { List ℕ };
+
+    ghost view = { λ room. take room.size (drop room.start room.octets.octets) };
+
+    ghost invariant = { λ room.
+        (65507 ≤ room.octets.room) × (room.start + room.size ≤ length room.octets.octets) };
+}
+
+impl Room {
+    /// Room for the largest datagram, with no push in it.
+    pub fn new(alloc: Global) -> Result<Self, NoMemory>
+        ensures { IfOk result (λ room. room ≡ []) }
+    {
+        Ok(Room {
+            octets: Octets::new(alloc, MOST)?,
+            start: 0,
+            size: 0,
+        })
+    }
+
+    /// The body of the key download of the push that was opened last, if it was taken; the span of that push counts its places in it. Else
+    /// no octets.
+    pub fn text(&self) -> &[u8]
+        ensures { result.now ≡ self.now }
+    {
+        &self.octets.text()[self.start..][..self.size]
+    }
+}
