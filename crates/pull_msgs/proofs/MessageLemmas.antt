@@ -1,0 +1,250 @@
+-- The payloads of a message that was written are read.
+use Rattle.std.proofs.Common.{◌≡◌, ◌≤◌, ◌<◌, ◌+◌, ◌-◌, ◌∙◌, ℕ, List, [], ◌++◌, length, take, drop, replicate, Option, Some, None, Result, Ok, Err, refl, ap, sym, subst, arith, append_assoc, length-append}
+use Rattle.std.proofs.lemmas.List.{take_at, drop_at, drop-drop}
+use Rattle.std.proofs.lemmas.Slice.Eq.{bytes_eq-Decides}
+use Rattle.std.specs.Prelude.{true, IsSome}
+use Rattle.std.specs.Str.{bytes_eq}
+use Rattle.gd_wire.specs.declared.chains.Named.{Named}
+use Rattle.gd_wire.specs.declared.chains.Part.{Part}
+use Rattle.gd_wire.specs.Bodies as bodies
+use Rattle.gd_wire.specs.Bodies.{sequence_text, identification_text}
+use Rattle.gd_wire.specs.Chains.{payload, payload_text, chain_end, body_of, named_first}
+use Rattle.gd_wire.specs.Readings.{Cursor, from_start, value_of, mapped}
+use Rattle.group_terms.specs.declared.paths.Keyed.{Keyed}
+use Rattle.group_terms.specs.declared.wires.WireFault.{WireFault}
+use Rattle.kd_wire.specs.Bodies.{kd_view}
+use Rattle.kd_wire.specs.Texts.{reply_kd}
+use Rattle.kd_wire.specs.declared.spis.SpiPlaces.{SpiPlaces}
+use Rattle.sa_wire.specs.Policies.{sa, policy_of, option_kek, option_tek}
+use Rattle.sa_wire.specs.declared.places.PlacedKek.{PlacedKek}
+use Rattle.sa_wire.specs.declared.places.PlacedSa.{PlacedSa}
+use Rattle.sa_wire.specs.declared.places.PlacedTek.{PlacedTek}
+use Rattle.sa_wire.specs.declared.policies.SaPolicy.{SaPolicy}
+use Rattle.pull_msgs.specs.Readings.{hash_payload, nonce_payload, covered, both_policies, policies, maybe_gap, first, second, third, fourth}
+
+-- what the framing promises of payloads that are written
+pub record Laws : Type 0 where
+  pub payload_is : (kind next base at : ℕ) (named : Named) (body later : List ℕ) → named.kind ≡ kind → length body ≤ 65531 →
+      payload kind named (record { base = base; at = at; left = payload_text next body ++ later })
+      ≡ Ok (
+        (record { kind = kind; at = base + at; start = at + 4; length = length body }, record { kind = next; at = base + at }),
+        record { base = base; at = at + 4 + length body; left = later },
+      )
+  pub body_is : (text : List ℕ) (kind next base at : ℕ) (body later : List ℕ) → drop at text ≡ payload_text next body ++ later →
+      body_of text (record { kind = kind; at = base + at; start = at + 4; length = length body }) ≡ body
+  pub end_is : (zeros base at named_at : ℕ) → zeros < 16 →
+      value_of (chain_end (record { kind = 0; at = named_at }) (record { base = base; at = at; left = replicate zeros 0 })) ≡ Ok tt
+  pub hash_is : (base at : ℕ) (octets : List ℕ) → length octets ≡ 32 → value_of (bodies.hash at (from_start base octets)) ≡ Ok octets
+  pub nonce_is : (base at : ℕ) (octets : List ℕ) → 8 ≤ length octets → length octets ≤ 128 → value_of (bodies.nonce at (from_start base octets)) ≡ Ok octets
+  pub number_is : (number base at : ℕ) → number < 4294967296 → value_of (bodies.sequence at (from_start base (sequence_text number))) ≡ Ok number
+  pub identification_is : (type base : ℕ) (octets : List ℕ) → value_of (bodies.identification (from_start base (identification_text type octets))) ≡ Ok (type, octets)
+
+pub same_bytes : (xs : List ℕ) → bytes_eq xs xs ≡ true
+same_bytes xs = (bytes_eq-Decides xs xs).1 refl
+
+-- ---- a HASH alone
+
+module _ (laws : Laws) (digest : List ℕ) (zeros : ℕ) (long : length digest ≡ 32) (few : zeros < 16) where
+  abbrev alone : List ℕ
+  alone = payload_text 0 digest ++ replicate zeros 0
+
+  alone_read : value_of (bodies.hash 30 (from_start 32 (body_of alone (record { kind = 8; at = 28 + 0; start = 0 + 4; length = length digest })))) ≡ Ok digest
+  alone_read =
+      ap (λ octets. value_of (bodies.hash 30 (from_start 32 octets))) (laws.body_is alone 8 0 28 0 digest (replicate zeros 0) refl)
+      ∙ laws.hash_is 32 30 digest long
+
+  pub third_is_read : value_of (third alone 8 (from_start 28 alone)) ≡ Ok (record { hash = digest; covered = []; said = tt })
+  unfolding third hash_payload maybe_gap covered
+  third_is_read =
+      let none : (0 + 4 + length digest) - (0 + 4 + length digest) ≡ 0 = omega arith in
+      rw (
+        laws.payload_is 8 0 28 0 (named_first 8) digest (replicate zeros 0) refl (omega (arith, long)),
+        alone_read,
+        laws.end_is zeros 28 (0 + 4 + length digest) 28 few,
+      ) (ap (λ size. Ok (record { hash = digest; covered = take size (drop (0 + 4 + length digest) alone); said = tt })) none)
+
+-- ---- a HASH and two payloads
+
+module _ (laws : Laws) (kind next : ℕ) (digest one two : List ℕ) (zeros : ℕ) (long : length digest ≡ 32) (few : zeros < 16)
+    (one_fits : length one ≤ 65531) (two_fits : length two ≤ 65531) where
+  abbrev end : List ℕ
+  end = replicate zeros 0
+
+  abbrev from_two : List ℕ
+  from_two = payload_text 0 two ++ end
+
+  abbrev from_one : List ℕ
+  from_one = payload_text next one ++ from_two
+
+  abbrev pub text : List ℕ
+  text = payload_text kind digest ++ from_one
+
+  -- the places of the payloads after the first
+  abbrev one_at : ℕ
+  one_at = 0 + 4 + length digest
+
+  abbrev two_at : ℕ
+  two_at = one_at + 4 + length one
+
+  abbrev end_at : ℕ
+  end_at = two_at + 4 + length two
+
+  abbrev part : ℕ → ℕ → ℕ → Part
+  part kind at size = record { kind = kind; at = 28 + at; start = at + 4; length = size }
+
+  rest_one : drop one_at text ≡ from_one
+  rest_one = drop_at (payload_text kind digest) from_one one_at (omega arith)
+
+  rest_two : drop two_at text ≡ from_two
+  rest_two =
+      sym (drop-drop (4 + length one) one_at text ∙ ap (λ place. drop place text) (omega arith))
+      ∙ ap (drop (4 + length one)) rest_one ∙ drop_at (payload_text next one) from_two (4 + length one) (omega arith)
+
+  digest_read : value_of (bodies.hash 30 (from_start 32 (body_of text (part 8 0 (length digest))))) ≡ Ok digest
+  digest_read =
+      ap (λ octets. value_of (bodies.hash 30 (from_start 32 octets))) (laws.body_is text 8 kind 28 0 digest from_one refl)
+      ∙ laws.hash_is 32 30 digest long
+
+  body_one : (kind : ℕ) → body_of text (part kind one_at (length one)) ≡ one
+  body_one named = laws.body_is text named next 28 one_at one from_two rest_one
+
+  body_two : (kind : ℕ) → body_of text (part kind two_at (length two)) ≡ two
+  body_two named = laws.body_is text named 0 28 two_at two end rest_two
+
+  -- what the HASH covers
+  covered_is : take (end_at - one_at) (drop one_at text) ≡ payload_text next one ++ payload_text 0 two
+  covered_is =
+      ap (take (end_at - one_at)) (rest_one ∙ sym (append_assoc (payload_text next one) (payload_text 0 two) end))
+      ∙ take_at (payload_text next one ++ payload_text 0 two) end (end_at - one_at)
+      (omega (arith, length-append (payload_text next one) (payload_text 0 two)))
+
+  nonce_read : 8 ≤ length one → length one ≤ 128
+      → value_of (bodies.nonce (28 + one_at + 2) (from_start (28 + one_at + 4) (body_of text (part 10 one_at (length one))))) ≡ Ok one
+  nonce_read least most =
+      ap (λ octets. value_of (bodies.nonce (28 + one_at + 2) (from_start (28 + one_at + 4) octets))) (body_one 10)
+      ∙ laws.nonce_is (28 + one_at + 4) (28 + one_at + 2) one least most
+
+module _ (laws : Laws) (digest ni id : List ℕ) (type zeros : ℕ) (long : length digest ≡ 32) (few : zeros < 16)
+    (least : 8 ≤ length ni) (most : length ni ≤ 128) (small : length id ≤ 65000) where
+  abbrev named : List ℕ
+  named = identification_text type id
+
+  abbrev first_text : List ℕ
+  first_text = text laws 10 5 digest ni named zeros long few (omega (arith, most)) (omega (arith, small))
+
+  pub first_is_read : value_of (first first_text 8 (from_start 28 first_text))
+      ≡ Ok (record { hash = digest; covered = payload_text 5 ni ++ payload_text 0 named; said = record { ni = ni; id_type = type; id = id } })
+  unfolding first hash_payload nonce_payload covered
+  first_is_read =
+      let one_fits : length ni ≤ 65531 = omega (arith, most) in
+      let two_fits : length named ≤ 65531 = omega (arith, small) in
+      let one_at : ℕ = 0 + 4 + length digest in
+      let two_at : ℕ = one_at + 4 + length ni in
+      rw (
+        laws.payload_is 8 10 28 0 (named_first 8) digest (payload_text 5 ni ++ (payload_text 0 named ++ replicate zeros 0)) refl (omega (arith, long)),
+        digest_read laws 10 5 digest ni named zeros long few one_fits two_fits,
+        laws.payload_is 10 5 28 one_at (record { kind = 10; at = 28 + 0 }) ni (payload_text 0 named ++ replicate zeros 0) refl one_fits,
+        nonce_read laws 10 5 digest ni named zeros long few one_fits two_fits least most,
+        laws.payload_is 5 0 28 two_at (record { kind = 5; at = 28 + one_at }) named (replicate zeros 0) refl two_fits,
+        body_two laws 10 5 digest ni named zeros long few one_fits two_fits 5,
+        laws.identification_is type (28 + two_at + 4) id,
+        laws.end_is zeros 28 (two_at + 4 + length named) (28 + two_at) few,
+        covered_is laws 10 5 digest ni named zeros long few one_fits two_fits,
+      ) refl
+
+-- ---- the policies
+
+abbrev policy_in : SaPolicy → Result SaPolicy WireFault → SaPolicy
+policy_in other (Ok policy) = policy
+policy_in other (Err fault) = other
+
+-- policies that were read, with their places
+placed_from : (read : Result (PlacedSa × Cursor) WireFault) (policy : SaPolicy) → value_of (mapped policy_of read) ≡ Ok policy
+    → (placed : PlacedSa) × (value_of read ≡ Ok placed) × (policy_of placed ≡ policy)
+placed_from (Ok found) policy is = (found.0, refl, ap (policy_in policy) is)
+placed_from (Err fault) policy is = absurd (cc)
+
+both_read : (kek : Option PlacedKek) (tek : Option PlacedTek) (policy : SaPolicy) (base : ℕ) (cursor : Cursor)
+    → option_kek kek ≡ policy.kek → option_tek tek ≡ policy.tek → IsSome policy.kek → IsSome policy.tek
+    → both_policies base kek tek cursor ≡ Ok (policy, cursor)
+both_read (Some kek) (Some tek) policy base cursor kek_is tek_is has_kek has_tek = λ i. Ok (record { kek = kek_is i; tek = tek_is i }, cursor)
+both_read None tek policy base cursor kek_is tek_is has_kek has_tek = let none = subst IsSome (sym kek_is) has_kek in absurd (cc)
+both_read (Some kek) None policy base cursor kek_is tek_is has_kek has_tek = let none = subst IsSome (sym tek_is) has_tek in absurd (cc)
+
+pub policies_read : (policy : SaPolicy) (body : List ℕ) (base : ℕ) (cursor : Cursor) → IsSome policy.kek → IsSome policy.tek
+    → sa base body ≡ Ok policy → policies base body cursor ≡ Ok (policy, cursor)
+unfolding policies
+policies_read policy body base cursor has_kek has_tek is =
+    let placed = placed_from _ _ is in
+    rw placed.1 (both_read placed.0.kek placed.0.tek policy base cursor (ap (λ (policy : SaPolicy). policy.kek) placed.2)
+    (ap (λ (policy : SaPolicy). policy.tek) placed.2) has_kek has_tek)
+
+module _ (laws : Laws) (digest nr body : List ℕ) (policy : SaPolicy) (zeros : ℕ) (long : length digest ≡ 32) (few : zeros < 16)
+    (least : 8 ≤ length nr) (most : length nr ≤ 128) (small : length body ≤ 65000)
+    (are_policies : (base : ℕ) (cursor : Cursor) → policies base body cursor ≡ Ok (policy, cursor)) where
+  abbrev second_text : List ℕ
+  second_text = text laws 10 1 digest nr body zeros long few (omega (arith, most)) (omega (arith, small))
+
+  pub second_is_read : value_of (second second_text 8 (from_start 28 second_text))
+      ≡ Ok (record { hash = digest; covered = payload_text 1 nr ++ payload_text 0 body; said = record { nr = nr; policy = policy } })
+  unfolding second hash_payload nonce_payload covered
+  second_is_read =
+      let one_fits : length nr ≤ 65531 = omega (arith, most) in
+      let two_fits : length body ≤ 65531 = omega (arith, small) in
+      let one_at : ℕ = 0 + 4 + length digest in
+      let two_at : ℕ = one_at + 4 + length nr in
+      rw (
+        laws.payload_is 8 10 28 0 (named_first 8) digest (payload_text 1 nr ++ (payload_text 0 body ++ replicate zeros 0)) refl (omega (arith, long)),
+        digest_read laws 10 1 digest nr body zeros long few one_fits two_fits,
+        laws.payload_is 10 1 28 one_at (record { kind = 10; at = 28 + 0 }) nr (payload_text 0 body ++ replicate zeros 0) refl one_fits,
+        nonce_read laws 10 1 digest nr body zeros long few one_fits two_fits least most,
+        laws.payload_is 1 0 28 two_at (record { kind = 1; at = 28 + one_at }) body (replicate zeros 0) refl two_fits,
+        body_two laws 10 1 digest nr body zeros long few one_fits two_fits 1,
+        are_policies (28 + two_at + 4) (record { base = 28; at = two_at + 4 + length body; left = replicate zeros 0 }),
+        laws.end_is zeros 28 (two_at + 4 + length body) (28 + two_at) few,
+        covered_is laws 10 1 digest nr body zeros long few one_fits two_fits,
+      ) refl
+
+module _ (laws : Laws) (digest : List ℕ) (keyed : Keyed) (zeros : ℕ) (long : length digest ≡ 32) (few : zeros < 16)
+    (small : keyed.sequence < 4294967296) (keys_fit : length (reply_kd keyed) ≤ 65000) (places : ℕ → SpiPlaces) (spi_at : ℕ → ℕ)
+    (placed : (base : ℕ) → (places base).lkh ≡ Some (spi_at base))
+    (are_keys : (base : ℕ) → kd_view base (reply_kd keyed) ≡ Ok (record {
+      tek = Some keyed.traffic;
+      lkh_spi = Some keyed.spi;
+      download = keyed.path;
+      updates = None;
+      spis = places base;
+    })) where
+  abbrev number : List ℕ
+  number = sequence_text keyed.sequence
+
+  abbrev fourth_text : List ℕ
+  fourth_text = text laws 18 17 digest number (reply_kd keyed) zeros long few (omega arith) (omega (arith, keys_fit))
+
+  pub fourth_is_read : value_of (fourth keyed.spi fourth_text 8 (from_start 28 fourth_text))
+      ≡ Ok (record {
+        hash = digest;
+        covered = payload_text 17 number ++ payload_text 0 (reply_kd keyed);
+        said = record { sequence = keyed.sequence; traffic = keyed.traffic; spi = keyed.spi; path = keyed.path };
+      })
+  unfolding fourth hash_payload covered
+  fourth_is_read =
+      let one_fits : length number ≤ 65531 = omega arith in
+      let two_fits : length (reply_kd keyed) ≤ 65531 = omega (arith, keys_fit) in
+      let one_at : ℕ = 0 + 4 + length digest in
+      let two_at : ℕ = one_at + 4 + 4 in
+      rw (
+        laws.payload_is 8 18 28 0 (named_first 8) digest (payload_text 17 number ++ (payload_text 0 (reply_kd keyed) ++ replicate zeros 0)) refl
+            (omega (arith, long)),
+        digest_read laws 18 17 digest number (reply_kd keyed) zeros long few one_fits two_fits,
+        laws.payload_is 18 17 28 one_at (record { kind = 18; at = 28 + 0 }) number (payload_text 0 (reply_kd keyed) ++ replicate zeros 0) refl one_fits,
+        body_one laws 18 17 digest number (reply_kd keyed) zeros long few one_fits two_fits 18,
+        laws.number_is keyed.sequence (28 + one_at + 4) (28 + one_at + 2) small,
+        laws.payload_is 17 0 28 two_at (record { kind = 17; at = 28 + one_at }) (reply_kd keyed) (replicate zeros 0) refl two_fits,
+        body_two laws 18 17 digest number (reply_kd keyed) zeros long few one_fits two_fits 17,
+        are_keys (28 + two_at + 4),
+        placed (28 + two_at + 4),
+        laws.end_is zeros 28 (two_at + 4 + length (reply_kd keyed)) (28 + two_at) few,
+        covered_is laws 18 17 digest number (reply_kd keyed) zeros long few one_fits two_fits,
+        same_bytes keyed.spi,
+      ) refl

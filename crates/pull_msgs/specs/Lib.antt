@@ -1,0 +1,7 @@
+pub mod Fits
+pub mod Hashes
+pub mod Nonces
+pub mod Private
+pub mod Pulls
+pub mod Readings
+pub mod Texts

@@ -1,0 +1,114 @@
+-- The texts of a pull (RFC 6407 section 3): a header with the cookies of the phase 1 SA and the message id of the pull, and the payload of
+-- the HASH and others after it, encrypted under the key of the phase 1 SA (RFC 2409 appendix B).
+use Rattle.std.specs.Prelude.{◌≡◌, ℕ, ◌+◌, ◌-◌, ◌%◌, List, [], ◌∷◌, ◌++◌, length, drop}
+use Rattle.gd_cipher.specs.Chains.{IsSealed}
+use Rattle.gd_cipher.specs.Macs.{phase2_iv}
+use Rattle.gd_wire.specs.Bodies.{sequence_text, identification_text}
+use Rattle.gd_wire.specs.Chains.{Payload, payloads_text, padded}
+use Rattle.gd_wire.specs.Headers.{header_text}
+use Rattle.group_terms.specs.declared.paths.Keyed.{Keyed}
+use Rattle.group_terms.specs.declared.phases.Phase1.{Phase1}
+use Rattle.kd_wire.specs.Texts.{reply_kd}
+use Rattle.sa_wire.specs.Texts.{sa_text}
+use Rattle.sa_wire.specs.declared.policies.SaPolicy.{SaPolicy}
+use Rattle.pull_msgs.specs.Hashes.{hash_of}
+
+-- the kinds of its payloads (RFC 2408 section 3.1, RFC 6407 section 5), its exchange (RFC 6407 section 3), and the type of an identification
+-- that is the octets of a key id (RFC 2407 section 4.6.2.1)
+abbrev pub hash_kind : ℕ
+hash_kind = 8
+
+abbrev pub nonce_kind : ℕ
+nonce_kind = 10
+
+abbrev pub identification_kind : ℕ
+identification_kind = 5
+
+abbrev pub sa_kind : ℕ
+sa_kind = 1
+
+abbrev pub gap_kind : ℕ
+gap_kind = 22
+
+abbrev pub sequence_kind : ℕ
+sequence_kind = 18
+
+abbrev pub kd_kind : ℕ
+kd_kind = 17
+
+abbrev pub pull_exchange : ℕ
+pull_exchange = 32
+
+abbrev pub key_id_type : ℕ
+key_id_type = 11
+
+-- what a message says: the message id, the bodies of the nonces of earlier messages one after the other, and its own payloads after that of
+-- the HASH
+pub record Message : Type 0 where
+  pub message : List ℕ
+  pub nonces : List ℕ
+  pub payloads : List Payload
+
+abbrev pub payload_of : ℕ → List ℕ → Payload
+payload_of kind body = record { kind = kind; body = body }
+
+-- the member's first: its nonce, and the name of the group
+abbrev pub first_message : List ℕ → List ℕ → List ℕ → Message
+first_message message ni group = record {
+  message = message;
+  nonces = [];
+  payloads = payload_of nonce_kind ni ∷ payload_of identification_kind (identification_text key_id_type group) ∷ [];
+}
+
+-- the server's answer: its nonce, and the policies of the group
+abbrev pub second_message : List ℕ → List ℕ → List ℕ → SaPolicy → Message
+second_message message ni nr policy = record {
+  message = message;
+  nonces = ni;
+  payloads = payload_of nonce_kind nr ∷ payload_of sa_kind (sa_text policy) ∷ [];
+}
+
+-- the member's agreement
+abbrev pub third_message : List ℕ → List ℕ → List ℕ → Message
+third_message message ni nr = record { message = message; nonces = ni ++ nr; payloads = [] }
+
+-- the server's keys, after the number of the last push
+abbrev pub fourth_message : List ℕ → List ℕ → List ℕ → Keyed → Message
+fourth_message message ni nr keyed = record {
+  message = message;
+  nonces = ni ++ nr;
+  payloads = payload_of sequence_kind (sequence_text keyed.sequence) ∷ payload_of kd_kind (reply_kd keyed) ∷ [];
+}
+
+abbrev pub message_hash : Phase1 → Message → List ℕ
+message_hash phase said = hash_of phase said.message said.nonces (payloads_text said.payloads)
+
+-- as many octets, filled up to whole blocks
+abbrev pub filled : ℕ → ℕ
+filled size = size + (16 - size % 16) % 16
+
+-- all payloads, filled up to whole blocks
+abbrev pub plain_text : Phase1 → Message → List ℕ
+plain_text phase said = padded (payloads_text (payload_of hash_kind (message_hash phase said) ∷ said.payloads))
+
+abbrev pub head_text : Phase1 → Message → List ℕ
+head_text phase said = header_text (record {
+  cookies = phase.cookies;
+  next = hash_kind;
+  exchange = pull_exchange;
+  message = said.message;
+  length = 28 + length (plain_text phase said);
+})
+
+-- the datagram of a message under an IV
+pub record IsPullText (phase : Phase1) (iv : List ℕ) (said : Message) (datagram : List ℕ) : Type 0 where
+  pub sealed : List ℕ
+  pub is_sealed : IsSealed phase.key iv (plain_text phase said) sealed
+  pub is_text : datagram ≡ head_text phase said ++ sealed
+
+-- The IV of the first message; and of each later one, which is the last block of the one before (RFC 2409 appendix B).
+abbrev pub first_iv : Phase1 → List ℕ → List ℕ
+first_iv phase message = phase2_iv phase.last message
+
+abbrev pub next_iv : List ℕ → List ℕ
+next_iv datagram = drop (length datagram - 16) datagram

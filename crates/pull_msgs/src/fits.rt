@@ -1,0 +1,52 @@
+//! That values fit what is written of them, as their types say.
+ghost use Rattle.std.specs.Prelude.{◌<◌, IsSome};
+ghost use Rattle.group_terms.specs.Octets.{AreOctets};
+ghost use Rattle.pull_msgs.specs.Fits.{PhaseFits};
+ghost use Rattle.sa_wire.specs.Texts.{KekPolicyFits, TekPolicyFits, PolicyFits};
+
+use group_terms::Phase1;
+use sa_wire::{KekPolicy, SaPolicy, TekPolicy};
+
+/// A slice of octets has octets.
+fn are_octets(octets: &[u8])
+    ensures { AreOctets octets.now }
+{}
+
+/// The cookies and the key fit.
+pub fn phase_fits(phase: &Phase1)
+    ensures { PhaseFits phase.now }
+{
+    are_octets(&phase.cookies);
+    are_octets(&phase.key);
+}
+
+/// A number of 16 bits has 2 octets.
+fn has_two_octets(number: u16)
+    ensures { number < 65536 }
+{}
+
+fn kek_policy_fits(kek: &KekPolicy)
+    ensures { KekPolicyFits kek.now }
+{
+    are_octets(&kek.spi);
+    has_two_octets(kek.sign.algorithm);
+    has_two_octets(kek.sign.key_bits);
+}
+
+fn tek_policy_fits(tek: &TekPolicy)
+    ensures { TekPolicyFits tek.now }
+{
+    are_octets(&tek.spi);
+}
+
+/// Both policies fit.
+pub(crate) fn policies_fit(policy: &SaPolicy)
+    requires kek { IsSome policy.now.kek }
+    requires tek { IsSome policy.now.tek }
+    ensures { PolicyFits policy.now }
+{
+    if let (Some(kek), Some(tek)) = (&policy.kek, &policy.tek) {
+        kek_policy_fits(kek);
+        tek_policy_fits(tek);
+    }
+}
