@@ -79,7 +79,8 @@ fn fmt_lkh<W: fmt::Write>(
     let spi = Hex { octets: &spi };
     write!(f, "{gap}lkh {spi}")?;
     for key in fields.view.download.keys() {
-        fmt_path_key(key, f)?;
+        let key = PathKeyFields { key: *key };
+        write!(f, " path {key}")?;
     }
     fmt_given(fields.view, fields.body, f)
 }
@@ -105,15 +106,23 @@ impl fmt::Display for TrafficKeys {
     }
 }
 
-fn fmt_path_key<W: fmt::Write>(key: &PathKey, f: &mut fmt::Formatter<W>) -> fmt::Result {
-    let (id, made) = (key.id.number(), key.made);
-    let iv = Hex {
-        octets: &key.value.iv,
-    };
-    let key = Hex {
-        octets: &key.value.key,
-    };
-    write!(f, " path {id}.{made} {iv} {key}")
+/// `ID.EPOCH IV KEY`.
+#[derive(Clone, Copy)]
+pub struct PathKeyFields {
+    pub key: PathKey,
+}
+
+impl fmt::Display for PathKeyFields {
+    fn fmt<W: fmt::Write>(&self, f: &mut fmt::Formatter<W>) -> fmt::Result {
+        let (id, made) = (self.key.id.number(), self.key.made);
+        let iv = Hex {
+            octets: &self.key.value.iv,
+        };
+        let key = Hex {
+            octets: &self.key.value.key,
+        };
+        write!(f, "{id}.{made} {iv} {key}")
+    }
 }
 
 fn fmt_given<W: fmt::Write>(view: &KdView, body: &[u8], f: &mut fmt::Formatter<W>) -> fmt::Result {

@@ -1,7 +1,10 @@
-//! Asks the readers of the framing, of payloads and of pushes what they find: each line of standard input names a reader, its arguments
-//! and octets in hexadecimal (`-` for none). For each a line says `ok`, or the first fault and its place; `sa-fields` and `kd-fields` say
-//! what an accepted body holds. A line `kek` has no answer: it names the SPI and the key of the pushes after it. A push is answered by what
-//! it gives, or by why it is refused.
+//! Asks the readers of the framing, of payloads, of pushes and of the messages of a pull what they find: each line of standard input names
+//! a reader, its arguments and octets in hexadecimal (`-` for none). For each a line says `ok`, or the first fault and its place;
+//! `sa-fields` and `kd-fields` say what an accepted body holds. A push and a message of a pull are answered by what they give, or by why
+//! they are refused.
+//!
+//! A line that says what is known has no answer: `kek` names the SPI and the key of the pushes after it, `phase` the phase 1 SA of the
+//! messages after it, and `pull` their message id, IV, nonces and SPI (`-` where a nonce or the SPI is not given).
 //!
 //! ```text
 //! header EXCHANGE OCTETS
@@ -13,6 +16,12 @@
 //! kd-fields BASE OCTETS
 //! kek SPI IV KEY
 //! push LAST OCTETS
+//! phase COOKIES SKEYID-A KEY LAST
+//! pull MESSAGE IV NI NR SPI
+//! first OCTETS
+//! second OCTETS
+//! third OCTETS
+//! fourth OCTETS
 //! ```
 #![tactic(auto)]
 
@@ -21,39 +30,63 @@ ghost use Rattle.std.specs.Prelude.{◌+◌, ◌≤◌, ◌↔◌, length, vec_l
 use answers::Answer;
 use fields::{KdFields, SaFields};
 use gd_wire::{MOST_PAYLOADS, WireFault, read_attribute, read_chain, read_header};
-use group_terms::NodeValue;
 use kd_wire::read_kd;
-use pushes::{Pushes, RekeyKey};
+use pulls::{Message, Pulls};
+use pushes::Pushes;
 use sa_wire::read_sa;
 use std::alloc::Global;
 use std::io;
 use std::io::{BufRead, BufReader, ErrorKind};
+use words::{decode, kinds, phase, pull, rekey_key};
 
 mod answers;
 mod fields;
+mod pulls;
 mod pushes;
+mod words;
 
 fn main(rt: HostRuntime) -> io::Result<()> {
     let input = BufReader::new(rt.alloc(), rt.reader())?;
-    let mut pushes = Pushes::new(rt.alloc())?;
+    let mut known = Known {
+        pushes: Pushes::new(rt.alloc())?,
+        pulls: Pulls::new(),
+    };
     for line in input.lines(rt.alloc()) {
         let line = line?;
-        if let Some(answer) = answer(rt.alloc(), line.as_str(), &mut pushes)? {
+        if let Some(answer) = answer(rt.alloc(), line.as_str(), &mut known)? {
             println!(rt; "{answer}")?;
         }
     }
     Ok(())
 }
 
+/// What the lines so far have said.
+#[derive(Drop)]
+struct Known {
+    pushes: Pushes,
+    pulls: Pulls,
+}
+
 /// The answer to a line, if it asks for one.
-fn answer(alloc: Global, line: &str, pushes: &mut Pushes) -> io::Result<Option<String>> {
+fn answer(alloc: Global, line: &str, known: &mut Known) -> io::Result<Option<String>> {
     let words = line.split_whitespace().collect::<Vec<_>>(alloc)?;
     match words.as_slice() {
         ["kek", spi, iv, key] => {
-            pushes.know(rekey_key(spi, iv, key)?);
+            known.pushes.know(rekey_key(spi, iv, key)?);
             Ok(None)
         }
-        ["push", last, octets] => Ok(Some(push(alloc, last, octets, pushes)?)),
+        ["phase", cookies, skeyid_a, key, last] => {
+            known.pulls.know_phase(phase(cookies, skeyid_a, key, last)?);
+            Ok(None)
+        }
+        ["pull", message, iv, ni, nr, spi] => {
+            known
+                .pulls
+                .know_pull(pull(alloc, message, iv, ni, nr, spi)?);
+            Ok(None)
+        }
+        ["push", last, octets] => Ok(Some(push(alloc, last, octets, &mut known.pushes)?)),
+        [message, octets] => Ok(Some(pull_message(alloc, message, octets, &known.pulls)?)),
         words => Ok(Some(found(alloc, words)?)),
     }
 }
@@ -154,23 +187,16 @@ fn push(alloc: Global, last: &str, octets: &str, pushes: &mut Pushes) -> io::Res
     pushes.answer(alloc, last, datagram.as_slice())
 }
 
-/// A SPI and a KEK in words of hexadecimal.
-fn rekey_key(spi: &str, iv: &str, key: &str) -> io::Result<RekeyKey> {
-    let kek = NodeValue {
-        iv: block(iv)?,
-        key: block(key)?,
+fn pull_message(alloc: Global, name: &str, octets: &str, pulls: &Pulls) -> io::Result<String> {
+    let message = match name {
+        "first" => Message::First,
+        "second" => Message::Second,
+        "third" => Message::Third,
+        "fourth" => Message::Fourth,
+        _ => return Err(ErrorKind::InvalidInput.into()),
     };
-    Ok(RekeyKey {
-        spi: block(spi)?,
-        kek,
-    })
-}
-
-/// Sixteen octets in hexadecimal.
-fn block(text: &str) -> io::Result<[u8; 16]> {
-    let mut octets = [0; 16];
-    hex::decode_to_slice(text, &mut octets).map_err(|_| ErrorKind::InvalidInput)?;
-    Ok(octets)
+    let datagram = decode(alloc, octets)?;
+    pulls.answer(alloc, message, datagram.as_slice())
 }
 
 /// The body of a payload, whose first octet has the place `base` in its datagram.
@@ -188,22 +214,6 @@ fn payload(alloc: Global, base: &str, octets: &str) -> io::Result<Placed> {
         return Err(ErrorKind::InvalidInput.into());
     }
     Ok(Placed { base, body })
-}
-
-/// The kinds of payloads in a text, with commas between them.
-fn kinds(alloc: Global, text: &str) -> io::Result<Vec<u8>> {
-    let mut kinds = Vec::new(alloc);
-    for kind in text.split(',') {
-        kinds.push(kind.parse::<u8>().map_err(|_| ErrorKind::InvalidInput)?)?;
-    }
-    Ok(kinds)
-}
-
-fn decode(alloc: Global, text: &str) -> io::Result<Vec<u8>> {
-    if text == "-" {
-        return Ok(Vec::new(alloc));
-    }
-    Ok(hex::decode(alloc, text).map_err(|_| ErrorKind::InvalidInput)?)
 }
 
 /// Whether the place of each of these octets in a datagram can be told.
