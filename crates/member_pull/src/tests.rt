@@ -45,6 +45,14 @@ fn phase() -> Result<Phase1, Fail> {
     })
 }
 
+fn kek() -> KekPolicy {
+    let sign = SignKind {
+        algorithm: 128,
+        key_bits: 256,
+    };
+    KekPolicy { spi: [1; 16], sign }
+}
+
 /// A pull with this message id, and its first message.
 fn begin(alloc: Global, message: &str) -> Result<(MemberPull, [u8; 108]), Fail> {
     let group = GroupName::read(b"console").ok_or("a name")?;
@@ -111,23 +119,40 @@ fn another_hash_is_told(rt: HostRuntime) -> Result<(), Fail> {
     let alloc = rt.alloc();
     let (mut pull, first) = begin(alloc, "80000001")?;
     let other = Nonce::read(&[7; 8]).ok_or("a nonce")?;
-    let policy = SaPolicy {
-        kek: Some(KekPolicy {
-            spi: [1; 16],
-            sign: SignKind {
-                algorithm: 128,
-                key_bits: 256,
-            },
-        }),
-        tek: Some(TekPolicy { spi: [2; 4] }),
-    };
     let message = octets("80000001")?;
     let iv = next_iv(&first);
+    let policy = SaPolicy {
+        kek: Some(kek()),
+        tek: Some(TekPolicy { spi: [2; 4] }),
+    };
     let answer = write_second(alloc, &phase()?, &message, &iv, &other, &other, &policy)?;
     let answer = pull.second(alloc, answer.as_slice());
     let Err(PullRefusal::BadHash { carried, expected }) = answer else {
         return Err("taken".into());
     };
     assert!(rt; carried != expected);
+    Ok(())
+}
+
+/// A later pull that waits for its keys does not take those of an earlier one, and still waits.
+#[test]
+fn keys_of_an_earlier_pull_are_refused(rt: HostRuntime) -> Result<(), Fail> {
+    let alloc = rt.alloc();
+    let (mut pull, first) = begin(alloc, "80000002")?;
+    let ni = octets::<16>("000102030405060708090a0b0c0d0e0f")?;
+    let ni = Nonce::read(&ni).ok_or("a nonce")?;
+    let message = octets("80000002")?;
+    let iv = next_iv(&first);
+    let policy = SaPolicy {
+        kek: Some(kek()),
+        tek: Some(TekPolicy { spi: [2; 4] }),
+    };
+    let answer = write_second(alloc, &phase()?, &message, &iv, &ni, &ni, &policy)?;
+    pull.second(alloc, answer.as_slice())?;
+    let earlier = octets::<332>(FOURTH)?;
+    for _ in 0..2 {
+        let refused = pull.fourth(alloc, &earlier).err();
+        assert_eq!(rt; refused, Some(PullRefusal::Malformed { at: 20 }));
+    }
     Ok(())
 }

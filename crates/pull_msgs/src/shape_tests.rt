@@ -194,3 +194,58 @@ fn what_is_known_has_to_be_the_same(rt: HostRuntime) -> Result<(), Fail> {
     );
     Ok(())
 }
+
+/// Each reader under the key of another phase 1 SA, after another IV, and for another message id.
+#[test]
+fn no_reader_takes_a_message_of_another_pull(rt: HostRuntime) -> Result<(), Fail> {
+    let alloc = rt.alloc();
+    let nonce = Nonce::read(&[5; 16]).ok_or("a nonce")?;
+    let mut other = phase();
+    other.key = [8; 16];
+    let datagram = first(alloc, nonce.octets(), b"console")?;
+    assert!(rt; read_first(alloc, datagram.as_slice(), &other).is_err());
+
+    let mut payloads = Octets::new(alloc);
+    write_payload(SA, nonce.octets(), &mut payloads)?;
+    let datagram = message(alloc, &IV, NONCE, &payloads, nonce.octets())?;
+    let datagram = datagram.as_slice();
+    let id = [128, 0, 0, 2];
+    let by_id = malformed(WireWhat::Value, 20);
+    let by_kind = malformed(WireWhat::Kind { number: 11 }, 28);
+    let mut iv = IV;
+    iv[0] = 8;
+    assert!(rt; read_second(alloc, datagram, &other, &MESSAGE, &IV, &nonce).is_err());
+    let answer = read_second(alloc, datagram, &phase(), &MESSAGE, &iv, &nonce);
+    assert_eq!(rt; answer.err(), Some(by_kind));
+    let answer = read_second(alloc, datagram, &phase(), &id, &IV, &nonce);
+    assert_eq!(rt; answer.err(), Some(by_id));
+    Ok(())
+}
+
+/// The same of the server's keys.
+#[test]
+fn no_keys_of_another_pull_are_taken(rt: HostRuntime) -> Result<(), Fail> {
+    let alloc = rt.alloc();
+    let nonce = Nonce::read(&[5; 16]).ok_or("a nonce")?;
+    let mut payloads = Octets::new(alloc);
+    write_payload_head(KD, 4, &mut payloads)?;
+    write_sequence(7, &mut payloads)?;
+    let datagram = message(alloc, &IV, SEQUENCE, &payloads, &[5; 32])?;
+    let datagram = datagram.as_slice();
+    let (phase, spi) = (phase(), [1; 16]);
+    let id = [128, 0, 0, 2];
+    let answer = read_fourth(alloc, datagram, &phase, &id, &IV, &nonce, &nonce, &spi);
+    assert_eq!(rt; answer.err(), Some(malformed(WireWhat::Value, 20)));
+    let mut iv = IV;
+    iv[0] = 8;
+    let answer = read_fourth(alloc, datagram, &phase, &MESSAGE, &iv, &nonce, &nonce, &spi);
+    assert_eq!(rt;
+        answer.err(),
+        Some(malformed(WireWhat::Kind { number: 19 }, 28))
+    );
+    let mut other = phase;
+    other.key = [8; 16];
+    let answer = read_fourth(alloc, datagram, &other, &MESSAGE, &IV, &nonce, &nonce, &spi);
+    assert!(rt; answer.is_err());
+    Ok(())
+}
