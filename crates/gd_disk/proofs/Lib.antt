@@ -1,0 +1,2 @@
+mod MediumLemmas
+mod TornLemmas

@@ -1,0 +1,22 @@
+//! Disks: what a disk promises of its octets and of what a crash may leave, a disk in memory that
+//! fails at chosen calls and can be crashed, and a file of the operating system.
+#![tactic(auto)]
+
+pub use disks::Disk;
+pub use faults::Failed;
+pub use file_disks::FileDisk;
+pub use mem_disks::MemDisk;
+
+mod crashes;
+mod disks;
+mod events;
+mod faults;
+mod file_disks;
+mod files;
+mod mem_calls;
+mod mem_disks;
+mod octets;
+mod places;
+mod schedules;
+#[cfg(test)]
+mod tests;
