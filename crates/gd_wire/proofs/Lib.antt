@@ -7,3 +7,4 @@ pub mod NumberLemmas
 pub mod OctetLemmas
 pub mod PartLemmas
 pub mod ReadingLemmas
+pub mod SizeLemmas

@@ -37,7 +37,7 @@ hash at = do
   due_size hash_octets at
   octets hash_octets
 
--- a nonce (RFC 2408 section 3.13), by our choice of 8 to 128 octets; RFC 2409 section 5 lets it have 256
+-- a nonce (RFC 2408 section 3.13), which has 8 to 128 octets (RFC 6407 section 5.8)
 unfoldable pub nonce : ℕ → Reading (List ℕ)
 nonce at = sized 8 128 at
 

@@ -10,8 +10,8 @@ use Rattle.group_terms.specs.declared.wires.WireWhat.TheVariants.{Short, Length,
 use Rattle.gd_wire.specs.declared.chains.ChainFault.{ChainFault}
 use Rattle.gd_wire.specs.declared.chains.Named.{Named}
 use Rattle.gd_wire.specs.declared.chains.Part.{Part}
-use Rattle.gd_wire.specs.Readings.{Cursor, Reading, ◌>>=◌, ◌>>◌, value_of, give, place, here, fail, check, octets_left, rest, part, octet}
-use Rattle.gd_wire.specs.Readings.{number, due_octet}
+use Rattle.gd_wire.specs.Readings.{Cursor, Reading, ◌>>=◌, ◌>>◌, value_of, told, give, place, here, fail, check, octets_left, rest}
+use Rattle.gd_wire.specs.Readings.{part, octet, number, due_octet}
 
 -- ---- texts
 
@@ -33,7 +33,11 @@ abbrev pub payloads_text : List Payload → List ℕ
 payloads_text [] = []
 payloads_text (payload ∷ payloads) = payload_text (first_kind payloads) payload.body ++ payloads_text payloads
 
--- a text filled up to whole blocks of 16 octets
+-- as many octets, filled up to whole blocks of 16
+abbrev pub filled : ℕ → ℕ
+filled size = size + (16 - size % 16) % 16
+
+-- a text filled up to whole blocks
 abbrev pub padded : List ℕ → List ℕ
 padded text = text ++ replicate ((16 - length text % 16) % 16) 0
 
@@ -89,6 +93,10 @@ chain_end named = do
   left ← octets_left
   check (nat_lt left 16) Length at
   padding_end
+
+-- nothing but zeros comes after the payloads; they are looked at, and reading stays where they begin
+abbrev pub ends : Named → Reading (Unit {0})
+ends named cursor = told (value_of (chain_end named cursor)) cursor
 
 -- A chain gives its payloads, or the first fault and the payloads before that: here after some that were read before.
 abbrev pub after_parts : List Part → Result (List Part) ChainFault → Result (List Part) ChainFault

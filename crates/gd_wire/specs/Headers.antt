@@ -75,3 +75,9 @@ pub record HeaderFits (header : Header) (body : List ℕ) : Type 0 where
   pub some : 0 < length body
   pub blocks : length body % 16 ≡ 0
   pub small : 28 + length body ≤ 65507
+
+-- how many octets a datagram has whose header is read: those of the header, and whole blocks after it
+pub record HasPayloads (datagram : List ℕ) : Type 0 where
+  pub header : 28 ≤ length datagram
+  pub few : length datagram ≤ 65507
+  pub whole : (length datagram - 28) % 16 ≡ 0

@@ -47,6 +47,11 @@ value_of (Err fault) = Err fault
 
 -- ---- readings that take no octet
 
+-- what the reading of a text of its own gave, or its fault
+abbrev pub told : {A : Type 0} → Result A WireFault → Reading A
+told (Ok value) cursor = Ok (value, cursor)
+told (Err fault) cursor = Err fault
+
 abbrev pub give : {A : Type 0} → A → Reading A
 give value cursor = Ok (value, cursor)
 

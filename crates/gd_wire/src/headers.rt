@@ -1,7 +1,8 @@
 //! The header of a datagram.
-ghost use Rattle.std.specs.Prelude.{◌≡◌};
+ghost use Rattle.std.specs.Prelude.{◌≡◌, IfOk};
 ghost use Rattle.gd_wire.specs.Readings.{Gives, value_of, from_start};
-ghost use Rattle.gd_wire.specs.Headers.{header_text, header, header_fields, message_id, told_length, suits_exchange, is_due_length};
+ghost use Rattle.gd_wire.specs.Headers.{header_text, header, header_fields, message_id, told_length};
+ghost use Rattle.gd_wire.specs.Headers.{suits_exchange, is_due_length, HasPayloads};
 
 use crate::faults::fault;
 use crate::readers::Reader;
@@ -37,9 +38,16 @@ pub struct Header {
 }
 
 /// Reads the header of a datagram of this exchange; else the first fault: a header that is cut off is a fault at the datagram's end, a
-/// datagram of more than 65,507 octets at that place, and anything else at its field.
-#[tactic(auto, unfolding(crate::specs::Headers::header))]
+/// datagram of more than 65,507 octets at that place, and anything else at its field. After a header without fault there are whole blocks.
 pub fn read_header(datagram: &[u8], exchange: u8) -> Result<Header, WireFault>
+    ensures answer { result ≡ value_of (header exchange (from_start 0 datagram.now)) }
+    ensures sizes { IfOk result (λ header. HasPayloads datagram.now) }
+{
+    Ok(header_of(datagram, exchange)?)
+}
+
+#[tactic(auto, unfolding(crate::specs::Headers::header))]
+fn header_of(datagram: &[u8], exchange: u8) -> Result<Header, WireFault>
     ensures { result ≡ value_of (header exchange (from_start 0 datagram.now)) }
 {
     let size = datagram.len();

@@ -3,14 +3,14 @@ use Rattle.std.proofs.Common.{◌≡◌, ◌+◌, ◌-◌, ◌%◌, ◌≤◌, �
 use Rattle.std.proofs.lemmas.List.{take_at, drop_at, drop-drop, length-take-le, length-drop, length-replicate, append-nil}
 use Rattle.byteorder.specs.Endian.{big_bytes}
 use Rattle.gd_cipher.specs.Chains.{IsSealed}
-use Rattle.gd_wire.specs.Chains.{Payload, payload_text, payloads_text, first_kind, padded}
+use Rattle.gd_wire.specs.Chains.{filled, Payload, payload_text, payloads_text, first_kind, padded}
 use Rattle.gd_wire.specs.Headers.{header_text}
 use Rattle.gd_wire.specs.Payloads.{payload_head}
 use Rattle.gd_wire.specs.declared.headers.Header.{Header}
 use Rattle.group_terms.specs.declared.phases.Phase1.{Phase1}
 use Rattle.pull_msgs.specs.Hashes.{hash_of}
 use Rattle.pull_msgs.specs.Private.Drafts.{before_covered, draft_text}
-use Rattle.pull_msgs.specs.Texts.{Message, IsPullText, filled, payload_of, hash_kind, message_hash, plain_text, head_text}
+use Rattle.pull_msgs.specs.Texts.{Message, IsPullText, payload_of, hash_kind, message_hash, plain_text, head_text}
 
 -- 32 octets are put in their place
 pub put_between : (out now placed hash : List ℕ) → now ≡ out → placed ≡ hash → length hash ≡ 32 → 64 ≤ length out

@@ -1,7 +1,6 @@
 pub mod CauseLemmas
 pub mod DraftLemmas
 pub mod HashLemmas
-pub mod HeaderLemmas
 pub mod MessageLemmas
 pub mod OpeningLemmas
 pub mod PartLemmas

@@ -7,7 +7,7 @@ use Rattle.std.specs.Str.{bytes_eq}
 use Rattle.gd_cipher.specs.Bytes.{IsByte, AreBytes, IsKey}
 use Rattle.gd_cipher.specs.Chains.{IsSealed, IsOpened}
 use Rattle.gd_wire.specs.declared.headers.Header.{Header}
-use Rattle.gd_wire.specs.Chains.{payload_text, payloads_text, first_kind}
+use Rattle.gd_wire.specs.Chains.{filled, payload_text, payloads_text, first_kind}
 use Rattle.gd_wire.specs.Headers.{header, header_text, HeaderFits}
 use Rattle.gd_wire.specs.Readings.{Cursor, from_start, value_of}
 use Rattle.group_terms.specs.Octets.{IsOctet, AreOctets}
@@ -22,7 +22,7 @@ use Rattle.pull_msgs.specs.Fits.{PhaseFits, MessageFits, PoliciesFit}
 use Rattle.pull_msgs.specs.Hashes.{hash_of}
 use Rattle.pull_msgs.specs.Pulls.{Awaited, IsAnswer, IsOfHead, IsOfText, answer_for, due_message, head, head_of}
 use Rattle.pull_msgs.specs.Readings.{PullRead}
-use Rattle.pull_msgs.specs.Texts.{Message, IsPullText, filled, message_hash, plain_text, head_text}
+use Rattle.pull_msgs.specs.Texts.{Message, IsPullText, message_hash, plain_text, head_text}
 use Rattle.pull_msgs.proofs.DraftLemmas.{head_long, plain_long}
 use Rattle.pull_msgs.proofs.HashLemmas.{octets-hash_of, length-hash_of}
 use Rattle.pull_msgs.proofs.MessageLemmas.{same_bytes}

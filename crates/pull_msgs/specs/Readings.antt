@@ -5,8 +5,8 @@ use Rattle.std.specs.Str.{bytes_eq}
 use Rattle.gd_wire.specs.declared.chains.Named.{Named}
 use Rattle.gd_wire.specs.Bodies as bodies
 use Rattle.gd_wire.specs.Bodies.{body_cursor, length_place}
-use Rattle.gd_wire.specs.Chains.{payload, chain_end, named_first, body_of}
-use Rattle.gd_wire.specs.Readings.{Reading, ◌>>=◌, ◌>>◌, give, fail, check, place, value_of}
+use Rattle.gd_wire.specs.Chains.{payload, ends, named_first, body_of}
+use Rattle.gd_wire.specs.Readings.{Reading, ◌>>=◌, ◌>>◌, give, fail, told, check, place, value_of}
 use Rattle.group_terms.specs.declared.paths.PathKey.{PathKey}
 use Rattle.group_terms.specs.declared.values.TrafficValue.{TrafficValue}
 use Rattle.group_terms.specs.declared.wires.WireFault.{WireFault}
@@ -17,11 +17,6 @@ use Rattle.sa_wire.specs.declared.places.PlacedKek.{PlacedKek}
 use Rattle.sa_wire.specs.declared.places.PlacedTek.{PlacedTek}
 use Rattle.sa_wire.specs.Policies.{placed_sa}
 use Rattle.pull_msgs.specs.Texts.{hash_kind, nonce_kind, identification_kind, sa_kind, gap_kind, sequence_kind, kd_kind}
-
--- what a text of its own gives, or its fault
-abbrev pub told : {A : Type 0} → Result A WireFault → Reading A
-told (Ok value) cursor = Ok (value, cursor)
-told (Err fault) cursor = Err fault
 
 -- What is read of a message: the HASH that it carries, the payloads that this covers, and what they say.
 pub record PullRead (A : Type 0) : Type 0 where
@@ -36,10 +31,6 @@ hash_payload text first = do
   hash ← told (value_of (bodies.hash (length_place part.0) (body_cursor text part.0)))
   after ← place
   give (hash, (after, part.1))
-
--- nothing but zeros comes after the payloads; they are looked at, and reading stays where they begin
-abbrev pub ends : Named → Reading (Unit {0})
-ends named cursor = told (value_of (chain_end named cursor)) cursor
 
 -- the end of the payloads; gives what the HASH covers, which begins at a place
 unfoldable pub covered : List ℕ → ℕ → Named → Reading (List ℕ)

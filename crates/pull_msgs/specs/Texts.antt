@@ -1,6 +1,6 @@
 -- The texts of a pull (RFC 6407 section 3): a header with the cookies of the phase 1 SA and the message id of the pull, and the payload of
 -- the HASH and others after it, encrypted under the key of the phase 1 SA (RFC 2409 appendix B).
-use Rattle.std.specs.Prelude.{◌≡◌, ℕ, ◌+◌, ◌-◌, ◌%◌, List, [], ◌∷◌, ◌++◌, length, drop}
+use Rattle.std.specs.Prelude.{◌≡◌, ℕ, ◌+◌, ◌-◌, List, [], ◌∷◌, ◌++◌, length, drop}
 use Rattle.gd_cipher.specs.Chains.{IsSealed}
 use Rattle.gd_cipher.specs.Macs.{phase2_iv}
 use Rattle.gd_wire.specs.Bodies.{sequence_text, identification_text}
@@ -13,8 +13,8 @@ use Rattle.sa_wire.specs.Texts.{sa_text}
 use Rattle.sa_wire.specs.declared.policies.SaPolicy.{SaPolicy}
 use Rattle.pull_msgs.specs.Hashes.{hash_of}
 
--- the kinds of its payloads (RFC 2408 section 3.1, RFC 6407 section 5), its exchange (RFC 6407 section 3), and the type of an identification
--- that is the octets of a key id (RFC 2407 section 4.6.2.1)
+-- the kinds of its payloads (RFC 2408 section 3.1, RFC 6407 section 5), its exchange (RFC 6407 section 3), and the type of an
+-- identification that is the octets of a key id (RFC 2407 section 4.6.2.1)
 abbrev pub hash_kind : ℕ
 hash_kind = 8
 
@@ -82,10 +82,6 @@ fourth_message message ni nr keyed = record {
 
 abbrev pub message_hash : Phase1 → Message → List ℕ
 message_hash phase said = hash_of phase said.message said.nonces (payloads_text said.payloads)
-
--- as many octets, filled up to whole blocks
-abbrev pub filled : ℕ → ℕ
-filled size = size + (16 - size % 16) % 16
 
 -- all payloads, filled up to whole blocks
 abbrev pub plain_text : Phase1 → Message → List ℕ

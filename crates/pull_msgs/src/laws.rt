@@ -1,6 +1,7 @@
 //! A message that was written is read again, how long it is, and what the causes of an answer are.
 ghost use Rattle.std.specs.Prelude.{◌≡◌, ◌≤◌, ◌+◌, ◌*◌, ◌⊎◌, ℕ, List, length, Result, Ok, Err};
 ghost use Rattle.gd_cipher.specs.Bytes.{AreBytes};
+ghost use Rattle.gd_wire.specs.Chains.{filled};
 ghost use Rattle.group_terms.specs.Octets.{AreOctets};
 ghost use Rattle.group_terms.specs.declared.paths.Keyed.{Keyed};
 ghost use Rattle.group_terms.specs.declared.phases.Phase1.{Phase1};
@@ -11,7 +12,7 @@ ghost use Rattle.pull_msgs.specs.declared.messages.Second.{Second};
 ghost use Rattle.pull_msgs.specs.declared.messages.Third.{Third};
 ghost use Rattle.pull_msgs.specs.Fits.{PhaseFits, MessageFits, NonceFits, ReplyFits, PoliciesFit};
 ghost use Rattle.pull_msgs.specs.Pulls.{IsAnswer, HasCauses, first_awaited, second_awaited, third_awaited, fourth_awaited};
-ghost use Rattle.pull_msgs.specs.Texts.{IsPullText, filled, first_iv, next_iv, key_id_type};
+ghost use Rattle.pull_msgs.specs.Texts.{IsPullText, first_iv, next_iv, key_id_type};
 ghost use Rattle.pull_msgs.specs.Texts.{first_message, second_message, third_message, fourth_message};
 ghost use Rattle.sa_wire.specs.declared.policies.SaPolicy.{SaPolicy};
 
@@ -78,8 +79,8 @@ pub fn written_messages_have_their_size()
     ensures second { (phase : Phase1) (message iv ni nr datagram : List ℕ) (policy : SaPolicy) → PhaseFits phase → length message ≡ 4 →
         PoliciesFit policy → IsPullText phase iv (second_message message ni nr policy) datagram →
         length datagram ≡ 28 + filled (180 + length nr) }
-    ensures second_of_16 { (phase : Phase1) (message iv ni nr datagram : List ℕ) (policy : SaPolicy) → PhaseFits phase → length message ≡ 4 →
-        PoliciesFit policy → IsPullText phase iv (second_message message ni nr policy) datagram → length nr ≡ 16 →
+    ensures second_of_16 { (phase : Phase1) (message iv ni nr datagram : List ℕ) (policy : SaPolicy) → PhaseFits phase →
+        length message ≡ 4 → PoliciesFit policy → IsPullText phase iv (second_message message ni nr policy) datagram → length nr ≡ 16 →
         length datagram ≡ 236 }
     ensures third { (phase : Phase1) (message iv ni nr datagram : List ℕ) → PhaseFits phase → length message ≡ 4 →
         IsPullText phase iv (third_message message ni nr) datagram → length datagram ≡ 76 }
@@ -91,8 +92,8 @@ pub fn written_messages_have_their_size()
     written_policies_have_their_size();
 }
 
-/// The answer for a datagram has its cause: a fault of the header; or of the text as which its other octets are opened; or another HASH than
-/// is due. Else the message is taken. A datagram is opened in one way, so two answers are the same, if memory is not short.
+/// The answer for a datagram has its cause: a fault of the header; or of the text as which its other octets are opened; or another HASH
+/// than is due. Else the message is taken. A datagram is opened in one way, so two answers are the same, if memory is not short.
 pub fn each_answer_has_its_cause()
     ensures first { (phase : Phase1) (datagram : List ℕ) (answer : Result First PullFault) →
         IsAnswer phase (first_awaited phase) datagram answer → HasCauses _ _ phase (first_awaited phase) datagram answer }

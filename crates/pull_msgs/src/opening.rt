@@ -1,13 +1,13 @@
 //! The header of a message, and the text after it.
 ghost use Rattle.std.specs.Prelude.{◌≡◌, ◌+◌, ◌≤◌, length, drop, IfOk};
 ghost use Rattle.gd_cipher.specs.Chains.{IsOpened};
-ghost use Rattle.pull_msgs.specs.Private.Sizes.{HasPayloads};
+ghost use Rattle.gd_wire.specs.Headers.{HasPayloads};
 ghost use Rattle.pull_msgs.specs.Pulls.{head, head_of};
 ghost use Rattle.pull_msgs.specs.Texts.{next_iv};
 
 use crate::kinds::{HEADER, PULL};
 use gd_cipher::{Key128, cbc_open};
-use gd_wire::{Header, a_header_has_one_text, fault, read_header, what_is_read_can_be_written};
+use gd_wire::{Header, fault, read_header};
 use group_terms::{NoMemory, Octets, Phase1, WireFault, WireWhat};
 use std::alloc::Global;
 
@@ -21,8 +21,6 @@ pub(crate) fn pull_header(
     ensures answer { result ≡ head_of phase.now known datagram.now }
     ensures sizes { IfOk result (λ head. HasPayloads datagram.now) }
 {
-    a_header_has_one_text();
-    what_is_read_can_be_written();
     let read = read_header(datagram, PULL)?;
     if read.cookies != phase.cookies {
         return Err(fault(WireWhat::Value, 0));

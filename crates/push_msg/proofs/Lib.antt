@@ -1,5 +1,5 @@
 pub mod DraftLemmas
-pub mod HeaderLemmas
+pub mod OctetLemmas
 pub mod OpeningLemmas
 pub mod PartLemmas
 pub mod PushLemmas

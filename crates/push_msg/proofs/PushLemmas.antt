@@ -4,12 +4,12 @@ use Rattle.std.proofs.lemmas.List.{drop_at, drop-drop}
 use Rattle.gd_wire.specs.declared.chains.Named.{Named}
 use Rattle.gd_wire.specs.declared.chains.Part.{Part}
 use Rattle.gd_wire.specs.Bodies.{sequence, sequence_text, signature, body_cursor}
-use Rattle.gd_wire.specs.Chains.{payload, payload_text, chain_end, body_of, named_first}
+use Rattle.gd_wire.specs.Chains.{payload, payload_text, chain_end, ends, body_of, named_first}
 use Rattle.gd_wire.specs.Readings.{Cursor, from_start, value_of}
 use Rattle.group_terms.specs.declared.signatures.SignKind.{SignKind}
 use Rattle.push_msg.specs.declared.bodies.OpenBody.{OpenBody}
 use Rattle.push_msg.specs.declared.rows.Row.{Row}
-use Rattle.push_msg.specs.Readings.{PushRead, push, row, key_download, number_in, signature_in, ends}
+use Rattle.push_msg.specs.Readings.{PushRead, push, row, key_download, number_in, signature_in}
 
 -- what the framing promises of payloads that are written
 pub record Laws : Type 0 where

@@ -2,7 +2,7 @@
 use Rattle.std.proofs.Common.{◌≡◌, ◌∙◌, ℕ, ◌+◌, List, [], Bool, true, false, Option, Some, None, Result, Ok, Err, ltb, eq-eqb, refl, ap, sym, arith}
 use Rattle.std.proofs.lemmas.Slice.Eq.{bytes_eq-Decides}
 use Rattle.std.specs.Str.{bytes_eq}
-use Rattle.gd_wire.specs.Readings.{Cursor, Reading, and_then, give, check, value_of, mapped, from_start}
+use Rattle.gd_wire.specs.Readings.{Cursor, Reading, and_then, give, told, check, value_of, mapped, from_start}
 use Rattle.group_terms.specs.declared.signatures.SignKind.{SignKind}
 use Rattle.group_terms.specs.declared.values.TrafficValue.{TrafficValue}
 use Rattle.group_terms.specs.declared.wires.WireFault.{WireFault}
@@ -20,7 +20,7 @@ use Rattle.sa_wire.specs.Policies.{placed_sa, sa, policy_of, option_kek, option_
 use Rattle.push_msg.specs.declared.bodies.OpenBody.TheVariants.{Membership, Traffic}
 use Rattle.push_msg.specs.declared.rows.Row.{Row}
 use Rattle.push_msg.specs.declared.rows.Row.TheVariants as rows
-use Rattle.push_msg.specs.Readings.{told, due_sign, membership, row_of, row, body_for, key_download, epoch_of}
+use Rattle.push_msg.specs.Readings.{due_sign, membership, row_of, row, body_for, key_download, epoch_of}
 
 pub same_bytes : (xs : List ℕ) → bytes_eq xs xs ≡ true
 same_bytes xs = (bytes_eq-Decides xs xs).1 refl

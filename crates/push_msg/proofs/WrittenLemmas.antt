@@ -7,7 +7,7 @@ use Rattle.gd_cipher.specs.Bytes.{IsByte, AreBytes, IsKey}
 use Rattle.gd_cipher.specs.Chains.{IsSealed, IsOpened}
 use Rattle.gd_wire.specs.declared.headers.Header.{Header}
 use Rattle.gd_wire.specs.Bodies.{sequence_text}
-use Rattle.gd_wire.specs.Chains.{payload_text, padded}
+use Rattle.gd_wire.specs.Chains.{payload_text, padded, filled}
 use Rattle.gd_wire.specs.Headers.{header, header_text, HeaderFits}
 use Rattle.gd_wire.specs.Readings.{Cursor, from_start, value_of}
 use Rattle.group_terms.specs.Octets.{IsOctet, AreOctets}
@@ -20,7 +20,7 @@ use Rattle.push_msg.specs.Digests.{digest}
 use Rattle.push_msg.specs.Readings.{push, row, key_download}
 use Rattle.push_msg.specs.Texts.{Push, signed_text, plain_text, push_header, head_text, IsPushText}
 use Rattle.push_msg.specs.Pushes.{Opens, Reads, digest_of, header_of}
-use Rattle.push_msg.specs.Written.{KekFits, IsReadAs, filled}
+use Rattle.push_msg.specs.Written.{KekFits, IsReadAs}
 use Rattle.push_msg.proofs.DraftLemmas.{head_long}
 use Rattle.push_msg.proofs.PushLemmas.{Laws, push_is_read, read, signature_at}
 

@@ -1,3 +1,2 @@
 pub mod Drafts
 pub mod Seen
-pub mod Sizes

@@ -3,12 +3,11 @@
 use Rattle.std.specs.Prelude.{ℕ, ◌+◌, ◌==◌, nat_lt, List, [], ◌∷◌, take, Option, None, Some, Result, Ok, Err, if◌then◌else◌}
 use Rattle.std.specs.Option.{is_none}
 use Rattle.std.specs.Str.{bytes_eq}
-use Rattle.gd_wire.specs.declared.chains.Named.{Named}
 use Rattle.gd_wire.specs.declared.chains.Part.{Part}
 use Rattle.gd_wire.specs.Bodies.{body_cursor, length_place}
 use Rattle.gd_wire.specs.Bodies as bodies
-use Rattle.gd_wire.specs.Chains.{payload, chain_end, named_first, body_of}
-use Rattle.gd_wire.specs.Readings.{Reading, ◌>>=◌, ◌>>◌, give, fail, check, place, value_of}
+use Rattle.gd_wire.specs.Chains.{payload, ends, named_first, body_of}
+use Rattle.gd_wire.specs.Readings.{Reading, ◌>>=◌, ◌>>◌, give, fail, told, check, place, value_of}
 use Rattle.group_terms.specs.declared.signatures.SignKind.{SignKind}
 use Rattle.group_terms.specs.declared.wires.WireFault.{WireFault}
 use Rattle.group_terms.specs.declared.wires.WireWhat.{WireWhat}
@@ -26,11 +25,6 @@ use Rattle.push_msg.specs.declared.bodies.OpenBody.TheVariants.{Membership, Traf
 use Rattle.push_msg.specs.declared.rows.Row.{Row}
 use Rattle.push_msg.specs.declared.rows.Row.TheVariants as rows
 use Rattle.push_msg.specs.Texts.{sequence_kind, sa_kind, kd_kind, signature_kind}
-
--- what a text of its own gives, or its fault
-abbrev pub told : {A : Type 0} → Result A WireFault → Reading A
-told (Ok value) cursor = Ok (value, cursor)
-told (Err fault) cursor = Err fault
 
 -- what is there; else this is wrong at a place
 abbrev pub there : {A : Type 0} → Option A → WireWhat → ℕ → Reading A
@@ -119,10 +113,6 @@ number_in text part = value_of (bodies.sequence (length_place part) (body_cursor
 
 abbrev pub signature_in : List ℕ → Part → Result (List ℕ) WireFault
 signature_in text part = value_of (bodies.signature (length_place part) (body_cursor text part))
-
--- nothing but zeros comes after them
-abbrev pub ends : Named → Reading (Unit {0})
-ends named cursor = told (value_of (chain_end named cursor)) cursor
 
 unfoldable pub push : List ℕ → SignKind → List ℕ → ℕ → Reading PushRead
 push spi sign text first = do

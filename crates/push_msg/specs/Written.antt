@@ -1,5 +1,5 @@
 -- What is known of a push that was written: what is read of it, and how many octets it has.
-use Rattle.std.specs.Prelude.{◌≡◌, ◌<◌, ◌+◌, ◌-◌, ◌%◌, ℕ, List, length}
+use Rattle.std.specs.Prelude.{◌≡◌, ◌<◌, ℕ, List, length}
 use Rattle.gd_cipher.specs.Bytes.{AreBytes}
 use Rattle.group_terms.specs.Octets.{AreOctets, rekey_spi_octets}
 use Rattle.group_terms.specs.declared.signatures.SignKind.{SignKind}
@@ -34,7 +34,3 @@ pub record IsReadAs (sign : List ℕ → List ℕ) (kind : SignKind) (kek : Node
   pub gives : read.body ≡ body
   pub keys : read.keys ≡ push.keys
   pub signed : read.signature ≡ sign (digest_of datagram read)
-
--- as many octets, filled up to whole blocks
-abbrev pub filled : ℕ → ℕ
-filled size = size + (16 - size % 16) % 16

@@ -1,5 +1,6 @@
 //! A push that was written is read again, and how long it is.
 ghost use Rattle.std.specs.Prelude.{◌≡◌, ◌≤◌, ◌+◌, ◌*◌, ℕ, List, length};
+ghost use Rattle.gd_wire.specs.Chains.{filled};
 ghost use Rattle.group_terms.specs.Octets.{AreOctets};
 ghost use Rattle.group_terms.specs.declared.signatures.SignKind.{SignKind};
 ghost use Rattle.group_terms.specs.declared.values.NodeValue.{NodeValue};
@@ -15,7 +16,7 @@ ghost use Rattle.push_msg.specs.declared.bodies.OpenBody.TheVariants.{Membership
 ghost use Rattle.push_msg.specs.declared.writers.PushHead.{PushHead};
 ghost use Rattle.push_msg.specs.Readings.{epoch_of};
 ghost use Rattle.push_msg.specs.Texts.{membership_push, traffic_push, IsPushText};
-ghost use Rattle.push_msg.specs.Written.{HeadFits, KekFits, KindFits, IsReadAs, filled};
+ghost use Rattle.push_msg.specs.Written.{HeadFits, KekFits, KindFits, IsReadAs};
 
 use gd_cipher::what_was_sealed_opens;
 use gd_wire::{

@@ -2,11 +2,11 @@
 ghost use Rattle.std.specs.Prelude.{◌≡◌, ◌+◌, ◌%◌, ◌<◌, ◌≤◌, ℕ, List, [], length, Ok, Err, IsErr, IfOk, false, true};
 ghost use Rattle.gd_cipher.specs.Chains.{IsOpened};
 ghost use Rattle.gd_wire.specs.Chains.{PartFits, body_of};
+ghost use Rattle.gd_wire.specs.Headers.{HasPayloads};
 ghost use Rattle.gd_wire.specs.declared.chains.Part.{Part};
 ghost use Rattle.gd_wire.specs.declared.headers.Header.{Header};
 ghost use Rattle.group_terms.specs.declared.wires.WireFault.{WireFault};
 ghost use Rattle.group_terms.specs.declared.pushes.PushRefusal.TheVariants.{OtherSpi, Malformed, BadSignature, Stale};
-ghost use Rattle.push_msg.specs.Private.Sizes.{HasPayloads};
 ghost use Rattle.push_msg.specs.Pushes.{header_of, Opens, Reads, HasFault, payloads_of, digest_of, given_by};
 ghost use Rattle.push_msg.specs.Readings.{PushRead};
 
@@ -17,9 +17,7 @@ use crate::reading::read_push;
 use crate::rooms::Room;
 use gd_cipher::{Key128, a_text_is_opened_in_one_way, cbc_open};
 use gd_edges::Verifier;
-use gd_wire::{
-    Header, Part, Room as Octets, a_header_has_one_text, read_header, what_is_read_can_be_written,
-};
+use gd_wire::{Header, Part, Room as Octets, read_header};
 use group_terms::{NodeValue, PushRefusal};
 
 /// Opens a push for this SPI under this KEK (RFC 6407 section 4), where `last` is the number of the last one that was accepted. It takes no
@@ -78,8 +76,6 @@ fn push_header(datagram: &[u8], spi: &[u8; 16]) -> Result<Header, PushRefusal>
     ensures ok { (head : Header) → header_of datagram.now ≡ Ok head → head.cookies ≡ spi.now → result ≡ Ok head }
     ensures sizes { IfOk result (λ head. HasPayloads datagram.now) }
 {
-    a_header_has_one_text();
-    what_is_read_can_be_written();
     let head = match read_header(datagram, PUSH) {
         Ok(head) => head,
         Err(fault) => return Err(PushRefusal::Malformed { at: fault.at }),

@@ -1,9 +1,9 @@
 -- The datagram of a message while it is written.
 use Rattle.std.specs.Prelude.{ℕ, ◌+◌, List, ◌++◌, length, replicate}
-use Rattle.gd_wire.specs.Chains.{payload_text, payloads_text, first_kind}
+use Rattle.gd_wire.specs.Chains.{payload_text, payloads_text, first_kind, filled}
 use Rattle.gd_wire.specs.Headers.{header_text}
 use Rattle.group_terms.specs.declared.phases.Phase1.{Phase1}
-use Rattle.pull_msgs.specs.Texts.{Message, filled, hash_kind, pull_exchange}
+use Rattle.pull_msgs.specs.Texts.{Message, hash_kind, pull_exchange}
 
 -- The header, and zeros where the HASH will be. Payloads come next: the kind of the first one, and how many octets they have.
 abbrev pub before_covered : Phase1 → List ℕ → ℕ → ℕ → List ℕ

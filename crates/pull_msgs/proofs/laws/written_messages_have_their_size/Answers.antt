@@ -1,8 +1,9 @@
 use Rattle.std.proofs.Common.{◌+◌, ◌∙◌, ap, arith}
+use Rattle.gd_wire.specs.Chains.{filled}
 use Rattle.gd_wire.specs.Bodies.{sequence_text, identification_text}
 use Rattle.kd_wire.specs.Texts.{reply_kd}
 use Rattle.sa_wire.specs.Texts.{sa_text}
-use Rattle.pull_msgs.specs.Texts.{filled, first_message, second_message, third_message, fourth_message}
+use Rattle.pull_msgs.specs.Texts.{first_message, second_message, third_message, fourth_message}
 use Rattle.pull_msgs.proofs.WrittenLemmas.{datagram_long, policies_long, two_long}
 use Rattle.pull_msgs.proofs.laws.written_messages_have_their_size.Goals as goal
 

@@ -1,5 +1,5 @@
 use Rattle.std.proofs.Common.{arith}
-use Rattle.push_msg.proofs.HeaderLemmas.{octets_from}
+use Rattle.push_msg.proofs.OctetLemmas.{octets_from}
 use Rattle.push_msg.proofs.drafts.append_signature.Goals as goal
 
 pub returns-clause-octets : goal.returns-clause-octets
