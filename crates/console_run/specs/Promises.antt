@@ -1,6 +1,6 @@
 -- What the console promises of its run.
 use Rattle.std.specs.Prelude.{◌≡◌, ◌⊎◌, ℕ, true, List, [], ◌++◌, Option, None, Some, IsSome}
-use Rattle.gd_edges.specs.Faults.{Rose}
+use Rattle.group_terms.specs.Faults.{Rose}
 use Rattle.gd_edges.specs.Shown.{Shown}
 use Rattle.group_model.specs.declared.entries.Entry.{Entry}
 use Rattle.group_model.specs.declared.entries.Asked.{Asked}

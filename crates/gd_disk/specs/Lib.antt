@@ -1,5 +1,4 @@
 pub mod Disks
-pub mod Faults
 pub mod Media
 pub mod MediaLaws
 pub mod Private

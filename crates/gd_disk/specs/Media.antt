@@ -1,7 +1,7 @@
 -- A disk in memory: its octets and what was done to them, from which its earlier octets and what a crash may leave follow.
 use Rattle.std.specs.Prelude.{◌≡◌, ◌⊎◌, ℕ, ◌+◌, ◌≤◌, List, [], ◌∷◌, ◌++◌, length, take, drop}
 use Rattle.gd_disk.specs.Disks.{written, Torn, Cut}
-use Rattle.gd_disk.specs.Faults.{one_more}
+use Rattle.group_terms.specs.Faults.{one_more}
 use Rattle.gd_disk.specs.declared.events.Event.{Event}
 use Rattle.gd_disk.specs.declared.events.Event.TheVariants.{Wrote, Shortened, Synced}
 

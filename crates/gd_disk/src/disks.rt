@@ -1,6 +1,6 @@
 ghost use Rattle.std.specs.Prelude.{◌≡◌, ◌↔◌, ℕ, ◌+◌, ◌^◌, ◌≤◌, Bool, List, length, take, Option, Some, IsSome, IfOk, OnOk, OnErr};
 ghost use Rattle.gd_disk.specs.Disks.{known, Knows, IsRead, written, Torn, Cut, Steps, Follows, Narrows, Only, Elapses};
-ghost use Rattle.gd_disk.specs.Faults.{Rose};
+ghost use Rattle.group_terms.specs.Faults.{Rose};
 
 use crate::Failed;
 

@@ -1,10 +1,9 @@
 ghost use Rattle.std.specs.Prelude.{◌≡◌, ◌+◌, ◌^◌, ◌≤◌, ⊤, false, None, length, IfOk, OnOk, OnErr, is_err, if◌then◌else◌};
-ghost use Rattle.gd_disk.specs.Faults.{Rose, one_more};
+ghost use Rattle.group_terms.specs.Faults.{Rose, one_more};
 
-use crate::faults::counted_on;
-use crate::files::{opened, read, write};
+use crate::files::{Handle, opened, read, write};
 use crate::{Disk, Failed};
-use group_terms::NoMemory;
+use group_terms::{NoMemory, counted_on};
 use std::alloc::Global;
 use std::fs::{File, OpenFile};
 use std::io;
@@ -13,11 +12,14 @@ use std::rt::Files;
 
 /// A file of the operating system as a disk. It exposes nothing, since no contract says what a file
 /// holds, and counts the calls that fail. Contracts see that count alone.
+///
+/// After a sync that failed each call fails: octets that were not on the device by then may be lost
+/// though a read still gives them, and no later sync would tell.
 #[derive(Drop)]
 pub struct FileDisk<R> {
     rt: R,
     path: String,
-    file: Option<File>,
+    file: Handle,
     faults: u64,
 }
 
@@ -38,7 +40,7 @@ impl<R: Files<File = File> + Clone> FileDisk<R> {
         Ok(FileDisk {
             rt: rt.clone()?,
             path: String::from_str(alloc, path)?,
-            file: None,
+            file: Handle::Unopened,
             faults: 0,
         })
     }
@@ -91,7 +93,11 @@ impl<R: Files<File = File>> FileDisk<R> {
     fn sync_file(&mut self) -> io::Result<()>
         ensures { self.new ≡ self.old }
     {
-        opened(&self.rt, self.path.as_str(), &mut self.file)?.sync_all()
+        let answer = opened(&self.rt, self.path.as_str(), &mut self.file)?.sync_all();
+        if answer.is_err() {
+            self.file = Handle::Lost;
+        }
+        answer
     }
 }
 

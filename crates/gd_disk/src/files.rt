@@ -6,17 +6,28 @@ use std::io;
 use std::os::unix::fs::FileExt;
 use std::rt::Files;
 
-/// The open file, which is opened, and made, where it is not open yet.
+/// The file of a disk.
+#[derive(Drop)]
+pub(crate) enum Handle {
+    Unopened,
+    Open(File),
+    /// A sync failed.
+    Lost,
+}
+
+/// The open file, which is opened, and made, where it was not yet; a failure where it is lost.
 pub(crate) fn opened<'a, R: Files<File = File>>(
     rt: &R,
     path: &str,
-    file: &'a mut Option<File>,
+    handle: &'a mut Handle,
 ) -> io::Result<&'a File> {
-    let open = match file.take() {
-        Some(open) => open,
-        None => open_or_make(rt, path)?,
-    };
-    Ok(file.insert(open))
+    if let Handle::Unopened = handle {
+        *handle = Handle::Open(open_or_make(rt, path)?);
+    }
+    match handle {
+        Handle::Open(file) => Ok(file),
+        Handle::Unopened | Handle::Lost => Err(io::ErrorKind::Other.into()),
+    }
 }
 
 /// Opens the file at a path, makes it where it is not there, and waits until its folder has it on

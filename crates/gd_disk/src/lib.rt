@@ -3,20 +3,18 @@
 #![tactic(auto)]
 
 pub use disks::Disk;
-pub use faults::Failed;
 pub use file_disks::FileDisk;
+pub use group_terms::Failed;
 pub use mem_disks::MemDisk;
 
 mod crashes;
 mod disks;
 mod events;
-mod faults;
 mod file_disks;
 mod files;
 mod mem_calls;
 mod mem_disks;
 mod octets;
 mod places;
-mod schedules;
 #[cfg(test)]
 mod tests;

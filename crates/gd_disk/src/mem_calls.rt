@@ -1,7 +1,7 @@
 ghost use Rattle.std.specs.Prelude.{◌≡◌, ◌↔◌, ℕ, ◌+◌, ◌^◌, ◌≤◌, List as Items, length, take, true, Some, IsSome, IsTrue, IsErr, is_err, IfOk, OnOk, OnErr};
 ghost use Rattle.std.proofs.Common.{inl};
 ghost use Rattle.gd_disk.specs.Disks.{Knows, IsRead, written, Torn, Cut, Steps, Follows, Narrows, Only, Elapses};
-ghost use Rattle.gd_disk.specs.Faults.{Rose, fails_next};
+ghost use Rattle.group_terms.specs.Faults.{Rose, fails_next};
 ghost use Rattle.gd_disk.specs.Media.{MayLeave, LeftSince, called, failing, wrote, shortened, synced};
 ghost use Rattle.gd_disk.specs.MediaLaws.{read_stays, only_now_in};
 

@@ -1,6 +1,6 @@
 ghost use Rattle.std.specs.Prelude.{◌≡◌, [], ◌+◌, ◌^◌, ◌%◌, ◌≤◌, length, IsTrue, IsErr, is_err, IfOk, OnOk, OnErr};
 ghost use Rattle.gd_disk.specs.Disks.{IsRead};
-ghost use Rattle.gd_disk.specs.Faults.{fails_next};
+ghost use Rattle.group_terms.specs.Faults.{fails_next};
 ghost use Rattle.gd_disk.specs.Media.{MayLeave, synced_image, fresh, called, failing, wrote, shortened, synced};
 
 use crate::Failed;
@@ -8,8 +8,7 @@ use crate::crashes::{Crash, surviving};
 use crate::events::Event;
 use crate::octets::{cut, read_from, sync, write};
 use crate::places::ends_too_far;
-use crate::schedules::Schedule;
-use group_terms::{List, NoMemory, Octets};
+use group_terms::{List, NoMemory, Octets, Schedule};
 use std::alloc::Global;
 use std::marker::Model;
 

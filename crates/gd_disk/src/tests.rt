@@ -103,6 +103,17 @@ fn a_file_that_may_not_be_written_fails(rt: HostRuntime) -> Result<(), Fail> {
     Ok(())
 }
 
+/// What a sync could not bring to the device may be lost, and no later sync would tell.
+#[test]
+fn each_call_fails_after_a_sync_that_failed(rt: HostRuntime) -> Result<(), Fail> {
+    let mut disk = FileDisk::new(rt.alloc(), &rt, "/dev/null")?;
+    assert_eq!(rt; disk.write_at(0, b"abc"), Ok(()));
+    assert_eq!(rt; disk.sync(), Err(Failed));
+    assert_eq!(rt; disk.write_at(0, b"abc"), Err(Failed));
+    assert_eq!(rt; disk.read(0, &mut [b'-'; 2]), Err(Failed));
+    Ok(())
+}
+
 #[test]
 fn each_call_fails_where_the_file_does_not_open(rt: HostRuntime) -> Result<(), Fail> {
     let mut disk = FileDisk::new(rt.alloc(), &rt, "no_such_folder/disk")?;

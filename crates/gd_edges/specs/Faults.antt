@@ -1,18 +1,5 @@
--- Calls and faults that are counted in 64 bits.
-use Rattle.std.specs.Prelude.{◌≡◌, ℕ, ◌+◌, ◌-◌, ◌^◌, ◌<◌, ◌==◌, min, ◌⊎◌, Bool, List}
-use Rattle.std.specs.List.{list_any}
-
--- a count went up, or stands at its last value
-abbrev pub Rose : ℕ → ℕ → Type 0
-Rose old new = (old < new) ⊎ (new ≡ 2 ^ 64 - 1)
-
--- the next count; it stands still at its last value
-abbrev pub one_more : ℕ → ℕ
-one_more count = min (count + 1) (2 ^ 64 - 1)
-
--- whether the call after so many is listed as one that fails; calls are counted from 1
-abbrev pub fails_next : ℕ → List ℕ → Bool
-fails_next calls fails = list_any (λ call. call == one_more calls) fails
+-- Objects that count their faults.
+use Rattle.std.specs.Prelude.{ℕ}
 
 -- an object, and how many of its calls failed
 pub record Faulty (T : Type 0) : Type 0 where

@@ -2,8 +2,7 @@
 //! chosen calls, and std's readers and writers; and who signs and who checks signatures.
 #![tactic(auto)]
 
-pub use faults::Failed;
-pub use group_terms::SignKind;
+pub use group_terms::{Failed, SignKind};
 pub use signatures::SigBytes;
 pub use signers::Signer;
 pub use sinks::Sink;
@@ -15,8 +14,6 @@ pub use text_sinks::TextSink;
 pub use text_sources::TextSource;
 pub use verifiers::Verifier;
 
-mod faults;
-mod schedules;
 mod signatures;
 mod signers;
 mod sinks;

@@ -1,6 +1,6 @@
 ghost use Rattle.std.specs.Prelude.{◌≡◌, ◌<◌, ◌≤◌, length, take, IfOk, OnOk, OnErr};
 ghost use Rattle.std.specs.Io.KnownBytes.{Appends, Keeps};
-ghost use Rattle.gd_edges.specs.Faults.{Rose};
+ghost use Rattle.group_terms.specs.Faults.{Rose};
 ghost use Rattle.gd_edges.specs.Shown.{Shown};
 
 use crate::Failed;

@@ -1,10 +1,10 @@
 ghost use Rattle.std.specs.Prelude.{◌≡◌, ◌<◌, ◌≤◌, None, length, take, is_err, IfOk, OnOk, OnErr, if◌then◌else◌};
 ghost use Rattle.std.specs.Io.KnownBytes.{Appends, Keeps};
-ghost use Rattle.gd_edges.specs.Faults.{Rose, one_more};
+ghost use Rattle.group_terms.specs.Faults.{Rose, one_more};
 ghost use Rattle.gd_edges.specs.Texts.{AppendsFront};
 
-use crate::faults::counted_on;
 use crate::{Failed, Sink};
+use group_terms::counted_on;
 use std::io::Write;
 use std::marker::Model;
 

@@ -1,9 +1,9 @@
 ghost use Rattle.std.specs.Prelude.{◌≡◌, ◌<◌, ◌≤◌, length, take, Ok, is_err, IfOk, OnOk, OnErr, if◌then◌else◌};
 ghost use Rattle.std.specs.Io.KnownBytes.{Consumes, Keeps, IsAtEnd};
-ghost use Rattle.gd_edges.specs.Faults.{Rose, one_more};
+ghost use Rattle.group_terms.specs.Faults.{Rose, one_more};
 
-use crate::faults::counted_on;
 use crate::{Failed, Source};
+use group_terms::counted_on;
 use std::io::Read;
 use std::marker::Model;
 

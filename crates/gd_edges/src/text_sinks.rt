@@ -1,10 +1,9 @@
 ghost use Rattle.std.specs.Prelude.{◌≡◌, ◌<◌, ◌≤◌, [], ◌++◌, length, take, Some, IsTrue, IsErr, is_err, IfOk, OnOk, OnErr, if◌then◌else◌};
 ghost use Rattle.std.specs.Io.KnownBytes.{Appends, Keeps};
-ghost use Rattle.gd_edges.specs.Faults.{Rose, one_more, fails_next};
+ghost use Rattle.group_terms.specs.Faults.{Rose, one_more, fails_next};
 
-use crate::schedules::Schedule;
 use crate::{Failed, Sink};
-use group_terms::{List, Octets};
+use group_terms::{List, Octets, Schedule};
 use std::alloc::Global;
 use std::marker::Model;
 

@@ -1,10 +1,9 @@
 ghost use Rattle.std.specs.Prelude.{◌≡◌, ◌<◌, ◌≤◌, min, length, take, drop, ◌++◌, Some, Ok, is_err, IfOk, OnOk, OnErr, if◌then◌else◌};
 ghost use Rattle.std.specs.Io.KnownBytes.{Consumes, Keeps, IsAtEnd};
-ghost use Rattle.gd_edges.specs.Faults.{Rose, one_more, fails_next};
+ghost use Rattle.group_terms.specs.Faults.{Rose, one_more, fails_next};
 
-use crate::schedules::Schedule;
 use crate::{Failed, Source};
-use group_terms::{List, Octets};
+use group_terms::{List, Octets, Schedule};
 use std::marker::Model;
 
 /// A text in memory, read as a source that fails at chosen calls.

@@ -1,4 +1,5 @@
 pub mod Changes
+pub mod Faults
 pub mod GroupNames
 pub mod Lends
 pub mod Logs

@@ -1,8 +1,10 @@
 //! What nearly never changes: lists and logs that answer `NoMemory`, the positions of the key tree, the names of
-//! members and keys, the octets of keys, what a batch of changes says, and why octets are no text of their grammar.
+//! members and keys, the octets of keys, what a batch of changes says, why octets are no text of their grammar, and
+//! how faults of the outside are counted.
 #![tactic(auto)]
 
 pub use changes::{Batch, Change, MOST_CHANGES};
+pub use faults::{Failed, counted_on};
 pub use groups::GroupName;
 pub use keys::{KeyName, Wrap};
 pub use lists::{List, Octets};
@@ -15,11 +17,13 @@ pub use paths::{Keyed, LONGEST_PATH, Path, PathKey};
 pub use phases::Phase1;
 pub use positions::LkhId;
 pub use pushes::PushRefusal;
+pub use schedules::Schedule;
 pub use signatures::SignKind;
-pub use values::{IV_OCTETS, KEY_OCTETS, NodeValue, TrafficValue};
+pub use values::{BatchValues, Drawn, IV_OCTETS, KEY_OCTETS, NodeValue, TrafficValue};
 pub use wires::{WireFault, WireWhat};
 
 mod changes;
+mod faults;
 mod groups;
 mod keys;
 mod lists;
@@ -32,6 +36,7 @@ mod paths;
 mod phases;
 mod positions;
 mod pushes;
+mod schedules;
 mod signatures;
 #[cfg(test)]
 mod tests;

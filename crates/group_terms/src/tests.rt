@@ -1,6 +1,6 @@
 use crate::{
-    Batch, Change, GroupName, List, Log, MOST_CHANGES, MemberName, NoMemory, WireFault, WireWhat,
-    marks_above,
+    Batch, Change, Failed, GroupName, List, Log, MOST_CHANGES, MemberName, NoMemory, Schedule,
+    WireFault, WireWhat, counted_on, marks_above,
 };
 use std::test::Fail;
 
@@ -85,5 +85,19 @@ fn names_of_groups_have_any_octets(rt: HostRuntime) -> Result<(), Fail> {
     assert!(rt; GroupName::read(&[7; 32]).is_some());
     assert!(rt; GroupName::read(b"").is_none());
     assert!(rt; GroupName::read(&[7; 33]).is_none());
+    Ok(())
+}
+
+#[test]
+fn a_schedule_lists_the_calls_that_fail(rt: HostRuntime) -> Result<(), Fail> {
+    let alloc = rt.alloc();
+    let mut schedule = Schedule::new(List::copy_of(alloc, &[2u64])?);
+    assert_eq!(rt;
+        (schedule.call(), schedule.call(), schedule.call()),
+        (false, true, false)
+    );
+    assert_eq!(rt; schedule.fail(), Failed);
+    assert_eq!(rt; (schedule.calls, schedule.faults), (3, 1));
+    assert_eq!(rt; counted_on(u64::MAX), u64::MAX);
     Ok(())
 }

@@ -1,4 +1,5 @@
 //! The octets of keys.
+use crate::{List, LkhId};
 
 /// How many octets an IV of AES has, and how many a key with 128 bits (FIPS 197).
 pub const IV_OCTETS: usize = 16;
@@ -18,4 +19,18 @@ pub struct TrafficValue {
     pub cipher_key: [u8; KEY_OCTETS],
     pub integrity_key: [u8; 32],
     pub spi: [u8; 4],
+}
+
+/// The value that was drawn for the new key of a position.
+#[derive(Clone, Copy, Debug, Default, PartialEq, Eq)]
+pub struct Drawn {
+    pub id: LkhId,
+    pub value: NodeValue,
+}
+
+/// The values of the keys that a batch makes: of its positions, rising, and of the traffic.
+#[derive(Debug, Drop)]
+pub struct BatchValues {
+    pub nodes: List<Drawn>,
+    pub traffic: TrafficValue,
 }

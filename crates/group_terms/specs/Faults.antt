@@ -1,10 +1,10 @@
 -- Calls and faults that are counted in 64 bits.
-use Rattle.std.specs.Prelude.{◌≡◌, ℕ, ◌+◌, ◌-◌, ◌^◌, ◌<◌, ◌==◌, min, ◌⊎◌, Bool, List}
+use Rattle.std.specs.Prelude.{ℕ, ◌+◌, ◌-◌, ◌^◌, ◌<◌, ◌≤◌, ◌==◌, min, ◌⊎◌, Bool, List}
 use Rattle.std.specs.List.{list_any}
 
 -- a count went up, or it is at its last value
 abbrev pub Rose : ℕ → ℕ → Type 0
-Rose old new = (old < new) ⊎ (new ≡ 2 ^ 64 - 1)
+Rose old new = (old < new) ⊎ (2 ^ 64 - 1 ≤ new)
 
 -- the next count; at its last value it stays
 abbrev pub one_more : ℕ → ℕ
