@@ -40,7 +40,7 @@ pub trait Disk {
         ensures time { Elapses (moment self.old) (moment self.new)
             (left_since self.old) (left_since self.new) (may_leave self.new) }
         ensures honest { honest self.new ≡ honest self.old }
-        ensures shown { IsSome (image self.new) ↔ IsSome (image self.old) }
+        ensures exposed { IsSome (image self.new) ↔ IsSome (image self.old) }
         ensures cause { OnErr result (Rose (faults self.old) (faults self.new)) }
         ensures stands { OnOk result (faults self.new ≡ faults self.old) }
         ensures counted { faults self.old ≤ faults self.new };
@@ -59,7 +59,7 @@ pub trait Disk {
         ensures time { Elapses (moment self.old) (moment self.new)
             (left_since self.old) (left_since self.new) (may_leave self.new) }
         ensures honest { honest self.new ≡ honest self.old }
-        ensures shown { IsSome (image self.new) ↔ IsSome (image self.old) }
+        ensures exposed { IsSome (image self.new) ↔ IsSome (image self.old) }
         ensures cause { OnErr result (Rose (faults self.old) (faults self.new)) }
         ensures stands { OnOk result (faults self.new ≡ faults self.old) }
         ensures counted { faults self.old ≤ faults self.new };
@@ -76,7 +76,7 @@ pub trait Disk {
         ensures time { Elapses (moment self.old) (moment self.new)
             (left_since self.old) (left_since self.new) (may_leave self.new) }
         ensures honest { honest self.new ≡ honest self.old }
-        ensures shown { IsSome (image self.new) ↔ IsSome (image self.old) }
+        ensures exposed { IsSome (image self.new) ↔ IsSome (image self.old) }
         ensures cause { OnErr result (Rose (faults self.old) (faults self.new)) }
         ensures stands { OnOk result (faults self.new ≡ faults self.old) }
         ensures counted { faults self.old ≤ faults self.new };
@@ -91,7 +91,7 @@ pub trait Disk {
         ensures time { Elapses (moment self.old) (moment self.new)
             (left_since self.old) (left_since self.new) (may_leave self.new) }
         ensures honest { honest self.new ≡ honest self.old }
-        ensures shown { IsSome (image self.new) ↔ IsSome (image self.old) }
+        ensures exposed { IsSome (image self.new) ↔ IsSome (image self.old) }
         ensures cause { OnErr result (Rose (faults self.old) (faults self.new)) }
         ensures stands { OnOk result (faults self.new ≡ faults self.old) }
         ensures counted { faults self.old ≤ faults self.new };

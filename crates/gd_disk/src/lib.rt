@@ -5,6 +5,7 @@
 pub use disks::Disk;
 pub use file_disks::FileDisk;
 pub use group_terms::Failed;
+pub use laws::a_crash_may_leave_nothing_or_all;
 pub use mem_disks::MemDisk;
 
 mod crashes;
@@ -12,6 +13,7 @@ mod disks;
 mod events;
 mod file_disks;
 mod files;
+mod laws;
 mod mem_calls;
 mod mem_disks;
 mod octets;

@@ -39,7 +39,7 @@ impl Disk for MemDisk {
             (LeftSince self.old.image self.old.events) (LeftSince self.new.image self.new.events)
             (MayLeave self.new.image self.new.events) }
         ensures honest { true ≡ true }
-        ensures shown { IsSome (Some self.new.image) ↔ IsSome (Some self.old.image) }
+        ensures exposed { IsSome (Some self.new.image) ↔ IsSome (Some self.old.image) }
         ensures cause { OnErr result (Rose self.old.faults self.new.faults) }
         ensures stands { OnOk result (self.new.faults ≡ self.old.faults) }
         ensures counted { self.old.faults ≤ self.new.faults }
@@ -65,7 +65,7 @@ impl Disk for MemDisk {
             (LeftSince self.old.image self.old.events) (LeftSince self.new.image self.new.events)
             (MayLeave self.new.image self.new.events) }
         ensures honest { true ≡ true }
-        ensures shown { IsSome (Some self.new.image) ↔ IsSome (Some self.old.image) }
+        ensures exposed { IsSome (Some self.new.image) ↔ IsSome (Some self.old.image) }
         ensures cause { OnErr result (Rose self.old.faults self.new.faults) }
         ensures stands { OnOk result (self.new.faults ≡ self.old.faults) }
         ensures counted { self.old.faults ≤ self.new.faults }
@@ -90,7 +90,7 @@ impl Disk for MemDisk {
             (LeftSince self.old.image self.old.events) (LeftSince self.new.image self.new.events)
             (MayLeave self.new.image self.new.events) }
         ensures honest { true ≡ true }
-        ensures shown { IsSome (Some self.new.image) ↔ IsSome (Some self.old.image) }
+        ensures exposed { IsSome (Some self.new.image) ↔ IsSome (Some self.old.image) }
         ensures cause { OnErr result (Rose self.old.faults self.new.faults) }
         ensures stands { OnOk result (self.new.faults ≡ self.old.faults) }
         ensures counted { self.old.faults ≤ self.new.faults }
@@ -113,7 +113,7 @@ impl Disk for MemDisk {
             (LeftSince self.old.image self.old.events) (LeftSince self.new.image self.new.events)
             (MayLeave self.new.image self.new.events) }
         ensures honest { true ≡ true }
-        ensures shown { IsSome (Some self.new.image) ↔ IsSome (Some self.old.image) }
+        ensures exposed { IsSome (Some self.new.image) ↔ IsSome (Some self.old.image) }
         ensures cause { OnErr result (Rose self.old.faults self.new.faults) }
         ensures stands { OnOk result (self.new.faults ≡ self.old.faults) }
         ensures counted { self.old.faults ≤ self.new.faults }
