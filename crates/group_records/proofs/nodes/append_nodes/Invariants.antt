@@ -1,0 +1,6 @@
+use Rattle.std.proofs.Common.{◌≡◌, ◌++◌, drop}
+use Rattle.group_records.specs.Texts.{nodes_text}
+use Rattle.group_records.proofs.nodes.append_nodes.Given as goal
+
+abbrev pub invariant-loop-node : goal.invariant-loop-node
+invariant-loop-node l = l.out ++ nodes_text (drop l.node-index l.nodes) ≡ l.fn.out ++ nodes_text l.nodes

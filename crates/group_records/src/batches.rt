@@ -1,0 +1,86 @@
+//! The record of a batch.
+ghost use Rattle.std.specs.Prelude.{◌≡◌, ◌≤◌, ◌++◌, length, IfOk};
+ghost use Rattle.gd_wire.specs.Readings.{from_start};
+ghost use Rattle.group_records.specs.Texts.{batch_text};
+ghost use Rattle.group_records.specs.Readings.{batch_record, BatchAnswers};
+
+use crate::changes::{append_changes, changes};
+use crate::faults::RecordFault;
+use crate::heads::VERSION;
+use crate::nodes::{append_nodes, append_traffic, nodes, traffic};
+use byteorder::{BigEndian, ByteOrder};
+use gd_wire::{Reader, WireWhat, fault};
+use group_terms::{Batch, BatchValues, MOST_CHANGES, NoMemory, Octets};
+use std::alloc::Global;
+
+/// The kind of a batch's record.
+const BATCH: u8 = 1;
+
+/// A batch with the epoch that it made, the number of the last push after it, and the values of the keys that it made.
+#[derive(Debug, Drop)]
+pub struct Stored {
+    pub batch: Batch,
+    pub epoch: u32,
+    pub sequence: u32,
+    pub values: BatchValues,
+}
+
+/// Reads the record of a batch: at most 32 changes, of members by names of their grammar, values of positions, and that of a traffic key
+/// whose SPI has its highest bit set, and nothing after it; else the first fault.
+#[tactic(auto, unfolding(crate::specs::Readings::batch_record))]
+pub fn read_batch(alloc: Global, body: &[u8]) -> Result<Stored, RecordFault>
+    requires { length body.now ≤ 65536 }
+    ensures answer { BatchAnswers result (batch_record (from_start 0 body.now)) }
+    ensures few { IfOk result (λ stored. length stored.values.nodes ≤ 65535) }
+{
+    let mut text = Reader::new(body, 0);
+    text.due_octet(BATCH, WireWhat::Value)?;
+    text.due_octet(VERSION, WireWhat::Version)?;
+    let epoch = text.long_number()?;
+    let sequence = text.long_number()?;
+    let at = text.here();
+    let count = text.octet()?;
+    if usize::from(count) > MOST_CHANGES {
+        return Err(fault(WireWhat::Value, at).into());
+    }
+    let batch = changes(count, &mut text)?;
+    let count = text.number()?;
+    let nodes = nodes(alloc, count, &mut text)?;
+    let traffic = traffic(&mut text)?;
+    text.end()?;
+    Ok(Stored {
+        batch,
+        epoch,
+        sequence,
+        values: BatchValues { nodes, traffic },
+    })
+}
+
+/// The record of a batch, with the values of at most 65,535 positions.
+pub fn write_batch(
+    alloc: Global,
+    batch: &Batch,
+    epoch: u32,
+    sequence: u32,
+    values: &BatchValues,
+) -> Result<Octets, NoMemory>
+    requires { length values.now.nodes ≤ 65535 }
+    ensures { IfOk result (λ text. text ≡ batch_text batch.now epoch sequence values.now) }
+{
+    let changes = batch.changes();
+    let nodes = values.nodes.as_slice();
+    let mut numbers = [0; 8];
+    BigEndian::write_u32(&mut numbers[..4], epoch);
+    BigEndian::write_u32(&mut numbers[4..], sequence);
+    let mut count = [0; 2];
+    BigEndian::write_u16(&mut count, nodes.len() as u16);
+    let mut out = Octets::new(alloc);
+    out.extend(&[BATCH, VERSION])?;
+    out.extend(&numbers)?;
+    out.push(changes.len() as u8)?;
+    append_changes(changes, &mut out)?;
+    out.extend(&count)?;
+    append_nodes(nodes, &mut out)?;
+    append_traffic(&values.traffic, &mut out)?;
+    Ok(out)
+}

@@ -1,0 +1,71 @@
+//! The head of a group's journal.
+ghost use Rattle.std.specs.Prelude.{◌≡◌, ◌≤◌, ◌++◌, [], length, IfOk};
+ghost use Rattle.gd_wire.specs.Readings.{Answers, from_start};
+ghost use Rattle.group_records.specs.Texts.{head_text};
+ghost use Rattle.group_records.specs.Readings.{head_record};
+
+use crate::names::{append_name, group_name};
+use byteorder::{BigEndian, ByteOrder};
+use gd_wire::{Reader, WireFault, WireWhat, fault};
+use group_terms::{GroupName, NoMemory, Octets};
+use std::alloc::Global;
+
+/// The kind of a head, and the version of both kinds of records.
+pub(crate) const HEAD: u8 = 0;
+
+pub(crate) const VERSION: u8 = 1;
+
+/// What a group is made with: the depth of its tree, its name, the SPI of its rekey datagrams (RFC 6407 section 5.3), and how far its epochs
+/// and its sequence numbers may go.
+#[derive(Clone, Copy, Debug, PartialEq, Eq)]
+pub struct Head {
+    pub depth: u8,
+    pub name: GroupName,
+    pub spi: [u8; 16],
+    pub limit: u32,
+}
+
+/// Reads the head of a journal: a depth of 1 to 9, a limit that is not zero, a name of 1 to 32 octets, and nothing after it; else the first
+/// fault.
+#[tactic(auto, unfolding(crate::specs::Readings::head_record))]
+pub fn read_head(body: &[u8]) -> Result<Head, WireFault>
+    requires { length body.now ≤ 65536 }
+    ensures { Answers (λ head. head) result (head_record (from_start 0 body.now)) }
+{
+    let mut text = Reader::new(body, 0);
+    text.due_octet(HEAD, WireWhat::Value)?;
+    text.due_octet(VERSION, WireWhat::Version)?;
+    let depth_at = text.here();
+    let depth = text.octet()?;
+    if !(1..=9).contains(&depth) {
+        return Err(fault(WireWhat::Value, depth_at));
+    }
+    let spi = text.array()?;
+    let limit_at = text.here();
+    let limit = text.long_number()?;
+    if limit == 0 {
+        return Err(fault(WireWhat::Value, limit_at));
+    }
+    let name = group_name(&mut text)?;
+    text.end()?;
+    Ok(Head {
+        depth,
+        name,
+        spi,
+        limit,
+    })
+}
+
+/// The record of a head.
+pub fn write_head(alloc: Global, head: &Head) -> Result<Octets, NoMemory>
+    ensures { IfOk result (λ text. text ≡ head_text head.now) }
+{
+    let mut out = Octets::new(alloc);
+    out.extend(&[HEAD, VERSION, head.depth])?;
+    out.extend(&head.spi)?;
+    let mut limit = [0; 4];
+    BigEndian::write_u32(&mut limit, head.limit);
+    out.extend(&limit)?;
+    append_name(head.name.text(), &mut out)?;
+    Ok(out)
+}

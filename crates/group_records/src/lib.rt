@@ -1,0 +1,18 @@
+//! The records of a group's journal, written and read: the head, which says what the group is, and one for each batch, with the values of
+//! its keys.
+#![tactic(auto)]
+
+pub use batches::{Stored, read_batch, write_batch};
+pub use faults::RecordFault;
+pub use heads::{Head, read_head, write_head};
+pub use laws::a_written_record_is_read;
+
+mod batches;
+mod changes;
+mod faults;
+mod heads;
+mod laws;
+mod names;
+mod nodes;
+#[cfg(test)]
+mod tests;

@@ -1,0 +1,92 @@
+//! The values of a batch in its record.
+ghost use Rattle.std.specs.Prelude.{◌≡◌, ◌++◌, [], length, IfOk, OnOk};
+ghost use Rattle.gd_wire.specs.Readings.{Gives};
+ghost use Rattle.group_records.specs.Texts.{node_text, nodes_text, traffic_text};
+ghost use Rattle.group_records.specs.Readings.{many, node, traffic, NodesGive};
+
+use crate::faults::RecordFault;
+use byteorder::{BigEndian, ByteOrder};
+use gd_wire::{Reader, WireFault, WireWhat, fault};
+use group_terms::{Drawn, List, LkhId, NoMemory, NodeValue, Octets, TrafficValue};
+use std::alloc::Global;
+
+/// Reads so many values of positions.
+pub(crate) fn nodes(
+    alloc: Global,
+    count: u16,
+    text: &mut Reader<'_>,
+) -> Result<List<Drawn>, RecordFault>
+    ensures gives { NodesGive result text.new (many node count text.old) }
+    ensures count { IfOk result (λ drawn. length drawn ≡ count) }
+{
+    let mut drawn = List::new(alloc);
+    for _ in 0..count {
+        drawn.push(node(text)?)?;
+    }
+    Ok(drawn)
+}
+
+/// Reads the value of a position.
+#[tactic(auto, unfolding(crate::specs::Readings::node))]
+fn node(text: &mut Reader<'_>) -> Result<Drawn, WireFault>
+    ensures { Gives result text.new (node text.old) }
+{
+    let at = text.here();
+    let Some(id) = LkhId::new(text.number()?) else {
+        return Err(fault(WireWhat::Value, at));
+    };
+    let iv = text.array()?;
+    let key = text.array()?;
+    let value = NodeValue { iv, key };
+    Ok(Drawn { id, value })
+}
+
+/// Reads the value of a traffic key, whose SPI has its highest bit set.
+#[tactic(auto, unfolding(crate::specs::Readings::traffic))]
+pub(crate) fn traffic(text: &mut Reader<'_>) -> Result<TrafficValue, WireFault>
+    ensures { Gives result text.new (traffic text.old) }
+{
+    let cipher_key = text.array()?;
+    let integrity_key = text.array()?;
+    let at = text.here();
+    let spi: [u8; 4] = text.array()?;
+    if spi[0] < 0x80 {
+        return Err(fault(WireWhat::Value, at));
+    }
+    Ok(TrafficValue {
+        cipher_key,
+        integrity_key,
+        spi,
+    })
+}
+
+/// Appends values of positions.
+pub(crate) fn append_nodes(nodes: &[Drawn], out: &mut Octets) -> Result<(), NoMemory>
+    ensures { OnOk result (out.new ≡ out.old ++ nodes_text nodes.now) }
+{
+    for node in nodes {
+        append_node(node, out)?;
+    }
+    Ok(())
+}
+
+fn append_node(node: &Drawn, out: &mut Octets) -> Result<(), NoMemory>
+    ensures { OnOk result (out.new ≡ out.old ++ node_text node.now) }
+{
+    let mut id = [0; 2];
+    BigEndian::write_u16(&mut id, node.id.number());
+    out.extend(&id)?;
+    out.extend(&node.value.iv)?;
+    out.extend(&node.value.key)?;
+    Ok(())
+}
+
+/// Appends the value of a traffic key.
+pub(crate) fn append_traffic(traffic: &TrafficValue, out: &mut Octets) -> Result<(), NoMemory>
+    ensures { OnOk result (out.new ≡ out.old ++ traffic_text traffic.now) }
+{
+    out.extend(&traffic.cipher_key)?;
+    out.extend(&traffic.integrity_key)?;
+    out.extend(&traffic.spi)?;
+    Ok(())
+}

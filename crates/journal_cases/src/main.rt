@@ -1,0 +1,67 @@
+//! Asks what journals images are: each line of standard input has `journal` and the octets of a file in hexadecimal (`-` for none). For each a
+//! line has the sizes of the records, or the place at which the file is no journal.
+//!
+//! ```text
+//! journal OCTETS
+//! ```
+#![tactic(auto)]
+
+use gd_disk::MemDisk;
+use group_terms::{List, Octets};
+use std::alloc::Global;
+use std::io;
+use std::io::{BufRead, BufReader, ErrorKind};
+use tree_journal::{Journal, JournalRefusal};
+
+/// No disk has more octets.
+const FARTHEST: usize = 1 << 62;
+
+fn main(rt: HostRuntime) -> io::Result<()> {
+    let input = BufReader::new(rt.alloc(), rt.reader())?;
+    for line in input.lines(rt.alloc()) {
+        let line = line?;
+        let answer = answer(rt.alloc(), line.as_str())?;
+        println!(rt; "{answer}")?;
+    }
+    Ok(())
+}
+
+/// The answer to a line.
+fn answer(alloc: Global, line: &str) -> io::Result<String> {
+    let words = line.split_whitespace().collect::<Vec<_>>(alloc)?;
+    let ["journal", octets] = words.as_slice() else {
+        return Err(ErrorKind::InvalidInput.into());
+    };
+    let mut image = Octets::new(alloc);
+    if *octets != "-" {
+        let octets = hex::decode(alloc, octets).map_err(|_| ErrorKind::InvalidInput)?;
+        image
+            .extend(octets.as_slice())
+            .map_err(|_| ErrorKind::OutOfMemory)?;
+    }
+    if image.len() > FARTHEST {
+        return Err(ErrorKind::FileTooLarge.into());
+    }
+    let mut sizes = List::new(alloc);
+    match read(alloc, MemDisk::holding(alloc, image), &mut sizes) {
+        Ok(()) => {
+            let mut text = format!(in alloc; "records")?;
+            for size in sizes.as_slice() {
+                text.push_str(&format!(in alloc; " {size}")?)?;
+            }
+            Ok(text)
+        }
+        Err(JournalRefusal::NotAJournal { at }) => Ok(format!(in alloc; "not-a-journal {at}")?),
+        Err(_) => Err(ErrorKind::OutOfMemory.into()),
+    }
+}
+
+/// Reads all records; their sizes.
+fn read(alloc: Global, disk: MemDisk, sizes: &mut List<usize>) -> Result<(), JournalRefusal> {
+    let mut journal = Journal::open(alloc, disk).map_err(|refused| refused.why)?;
+    let mut body = Octets::new(alloc);
+    while journal.read_next(alloc, &mut body)? {
+        sizes.push(body.len())?;
+    }
+    Ok(())
+}

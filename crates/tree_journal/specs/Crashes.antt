@@ -1,0 +1,25 @@
+-- What is known of a journal on a disk, and what a crash leaves of it.
+use Rattle.std.specs.Prelude.{◌≡◌, ◌⊎◌, ℕ, List, [], ◌∷◌, ◌++◌, Option, Some, Result, Ok, Err}
+use Rattle.gd_disk.specs.Disks.{Torn, Cut}
+use Rattle.tree_journal.specs.Records.{records}
+use Rattle.tree_journal.specs.Views.{View}
+use Rattle.tree_journal.specs.declared.refusals.FormatRefusal.{FormatRefusal}
+
+-- a file that is shown is a journal with these bodies
+abbrev pub Opens : Option (List ℕ) → List (List ℕ) → Type 0
+Opens file bodies = (octets : List ℕ) × (file ≡ Some octets) × (records octets ≡ Ok bodies)
+
+-- a file is a journal with these bodies, or with one more
+abbrev pub IsBeforeOrAfter : List (List ℕ) → List ℕ → List ℕ → Type 0
+IsBeforeOrAfter bodies body file = (records file ≡ Ok bodies) ⊎ (records file ≡ Ok (bodies ++ body ∷ []))
+
+-- A file is one of these, cut in part and with any octet for its first: so it is until a new journal's first gate is closed on the device.
+-- After that it is no journal, or one without a record.
+abbrev pub IsBegun : (List ℕ → Type 0) → List ℕ → Type 0
+IsBegun old file =
+    ((was cut : List ℕ) × old was × Cut 0 was cut × Torn 0 1 cut file) ⊎ ((records file ≡ Err 0) ⊎ (records file ≡ Ok []))
+
+-- the disk that an answer has, or gives back
+abbrev pub disk_in : {D : Type 0} → Result (View D) (FormatRefusal D) → D
+disk_in (Ok journal) = journal.disk
+disk_in (Err refused) = refused.disk

@@ -1,0 +1,4 @@
+pub mod Crashes
+pub mod Private
+pub mod Records
+pub mod Views

@@ -1,0 +1,4 @@
+pub mod Found
+pub mod Fronts
+pub mod Gates
+pub mod Heads

@@ -1,0 +1,149 @@
+//! Making and opening a journal.
+ghost use Rattle.std.specs.Prelude.{◌≡◌, ◌⊎◌, ◌≤◌, [], ◌∷◌, ◌++◌, ℕ, List, length, false, None, Some, Ok, Err, IfOk, IfErr, OnOk, OnErr};
+ghost use Rattle.gd_disk.specs.Disks.{Knows, Only};
+ghost use Rattle.group_terms.specs.Faults.{Rose};
+ghost use Rattle.gd_disk.specs.Moments.{shown, Keeps, LeavesOnly};
+ghost use Rattle.tree_journal.specs.Crashes.{disk_in, Opens, IsBegun};
+ghost use Rattle.tree_journal.specs.Records.{records, bodies_from, is_named, front_text};
+ghost use Rattle.tree_journal.specs.declared.refusals.JournalRefusal.TheVariants.{DiskFault, NotAJournal, NoMemory as OutOfMemory};
+
+use crate::gates::{SHUT, write_gated, write_through};
+use crate::journals::{FIRST, Journal, room};
+use crate::reads::read_front;
+use crate::refusals::{FormatRefusal, JournalRefusal};
+use gd_disk::{Disk, Failed, a_crash_may_leave_nothing_or_all};
+use group_terms::NoMemory;
+use std::alloc::Global;
+
+/// What a journal begins with: an open gate and its name.
+const BEGINNING: [u8; 9] = *b"\x01GDOIJRNL";
+
+/// The name of a journal, and the closed gate after it.
+const NAME: [u8; 9] = *b"GDOIJRNL\0";
+
+impl<D: Disk> Journal<D> {
+    /// Makes an empty journal of a disk, whatever it held. It gives the disk back where that fails (`DiskFault`), or where there is no memory.
+    pub fn format(alloc: Global, disk: D) -> Result<Self, FormatRefusal<D>>
+        ensures empty { IfOk result (λ journal. Knows (shown D.Disk disk) (λ _. Opens (shown D.Disk journal.disk) [])) }
+        ensures octets { IfOk result (λ journal. Knows (shown D.Disk disk)
+            (λ _. shown D.Disk journal.disk ≡ Some (front_text [] ++ 0 ∷ []))) }
+        ensures any_moment { Knows (shown D.Disk disk) (λ _. LeavesOnly D.Disk disk (disk_in result) (IsBegun (D.may_leave disk))) }
+        ensures began { IfOk result (λ journal. journal ≡ record { disk = journal.disk; closed = false; at = 9; end = Some 9 }) }
+        ensures cause { IfErr result (λ refused. refused.why ≡ DiskFault → Rose (D.faults disk) (D.faults refused.disk)) }
+        ensures untouched { IfErr result (λ refused. refused.why ≡ OutOfMemory → refused.disk ≡ disk) }
+        ensures no_other { IfErr result (λ refused. (refused.why ≡ DiskFault) ⊎ (refused.why ≡ OutOfMemory)) }
+        ensures stands { OnOk result (D.faults (disk_in result) ≡ D.faults disk) }
+        ensures keeps { Keeps D.Disk disk (disk_in result) }
+    {
+        let mut disk = disk;
+        let Ok(piece) = room(alloc) else {
+            return Err(FormatRefusal {
+                why: JournalRefusal::NoMemory,
+                disk,
+            });
+        };
+        match begin_file(&mut disk) {
+            Ok(()) => Ok(Journal {
+                disk,
+                closed: false,
+                at: FIRST,
+                end: Some(FIRST),
+                piece,
+            }),
+            Err(Failed) => Err(FormatRefusal {
+                why: JournalRefusal::DiskFault,
+                disk,
+            }),
+        }
+    }
+
+    /// Opens the journal on a disk, to be read from its first record. It gives the disk back where that fails (`DiskFault`), where there is no
+    /// memory, and where the file does not begin as a journal (`NotAJournal` at 0).
+    pub fn open(alloc: Global, disk: D) -> Result<Self, FormatRefusal<D>>
+        ensures named { IfOk result (λ journal. Knows (shown D.Disk disk) (λ file. records file ≡ bodies_from file 9)) }
+        ensures other { IfErr result (λ refused. (at : ℕ) → refused.why ≡ NotAJournal at →
+            (at ≡ 0) × Knows (shown D.Disk disk) (λ file. records file ≡ Err 0)) }
+        ensures same { shown D.Disk (disk_in result) ≡ shown D.Disk disk }
+        ensures any_moment { Knows (shown D.Disk disk) (λ _. LeavesOnly D.Disk disk (disk_in result) (D.may_leave disk)) }
+        ensures began { IfOk result (λ journal. journal ≡ record { disk = journal.disk; closed = false; at = 9; end = None }) }
+        ensures cause { IfErr result (λ refused. refused.why ≡ DiskFault → Rose (D.faults disk) (D.faults refused.disk)) }
+        ensures untouched { IfErr result (λ refused. refused.why ≡ OutOfMemory → refused.disk ≡ disk) }
+        ensures no_other { IfErr result (λ refused. (refused.why ≡ DiskFault) ⊎ ((refused.why ≡ NotAJournal 0) ⊎ (refused.why ≡ OutOfMemory))) }
+        ensures stands { OnOk result (D.faults (disk_in result) ≡ D.faults disk) }
+        ensures stands_too { IfErr result (λ refused. refused.why ≡ NotAJournal 0 → D.faults refused.disk ≡ D.faults disk) }
+        ensures only { IfErr result (λ refused. refused.why ≡ NotAJournal 0 →
+            Knows (shown D.Disk disk) (λ file. Only file (D.may_leave refused.disk))) }
+        ensures keeps { Keeps D.Disk disk (disk_in result) }
+    {
+        let mut disk = disk;
+        let Ok(mut piece) = room(alloc) else {
+            return Err(FormatRefusal {
+                why: JournalRefusal::NoMemory,
+                disk,
+            });
+        };
+        match read_name(&mut disk, piece.as_mut_slice()) {
+            Ok(true) => Ok(Journal {
+                disk,
+                closed: false,
+                at: FIRST,
+                end: None,
+                piece,
+            }),
+            Ok(false) => Err(FormatRefusal {
+                why: JournalRefusal::NotAJournal { at: 0 },
+                disk,
+            }),
+            Err(Failed) => Err(FormatRefusal {
+                why: JournalRefusal::DiskFault,
+                disk,
+            }),
+        }
+    }
+}
+
+/// Writes a closed gate and nothing else, and after that the name, whose gate is opened last.
+fn begin_file<D: Disk>(disk: &mut D) -> Result<(), Failed>
+    ensures octets { OnOk result (Knows (shown D.Disk disk.old) (λ _. shown D.Disk disk.new ≡ Some (front_text [] ++ 0 ∷ []))) }
+    ensures durable { OnOk result (Knows (shown D.Disk disk.new) (λ file. Only file (D.may_leave disk.new))) }
+    ensures any_moment { Knows (shown D.Disk disk.old) (λ _. LeavesOnly D.Disk disk.old disk.new (IsBegun (D.may_leave disk.old))) }
+    ensures stands { OnOk result (D.faults disk.new ≡ D.faults disk.old) }
+    ensures cause { OnErr result (Rose (D.faults disk.old) (D.faults disk.new)) }
+    ensures keeps { Keeps D.Disk disk.old disk.new }
+{
+    shut_file(disk)?;
+    write_gated(disk, 0, &NAME)?;
+    Ok(())
+}
+
+/// Empties the file, and writes a closed gate.
+fn shut_file<D: Disk>(disk: &mut D) -> Result<(), Failed>
+    ensures octets { OnOk result (Knows (shown D.Disk disk.old) (λ _. shown D.Disk disk.new ≡ Some (0 ∷ []))) }
+    ensures durable { OnOk result (Knows (shown D.Disk disk.new) (λ file. Only file (D.may_leave disk.new))) }
+    ensures any_moment { Knows (shown D.Disk disk.old) (λ _. LeavesOnly D.Disk disk.old disk.new (IsBegun (D.may_leave disk.old))) }
+    ensures stands { OnOk result (D.faults disk.new ≡ D.faults disk.old) }
+    ensures cause { OnErr result (Rose (D.faults disk.old) (D.faults disk.new)) }
+    ensures keeps { Keeps D.Disk disk.old disk.new }
+{
+    a_crash_may_leave_nothing_or_all();
+    disk.cut(0)?;
+    write_through(disk, 0, &[SHUT])?;
+    Ok(())
+}
+
+/// Whether the file begins as a journal, which is looked at once all is on the device.
+fn read_name<D: Disk>(disk: &mut D, room: &mut [u8]) -> Result<bool, Failed>
+    requires { 9 ≤ length room.old }
+    ensures named { IfOk result (λ yes. Knows (shown D.Disk disk.old) (λ file. yes ≡ is_named file)) }
+    ensures durable { OnOk result (Knows (shown D.Disk disk.new) (λ file. Only file (D.may_leave disk.new))) }
+    ensures same { shown D.Disk disk.new ≡ shown D.Disk disk.old }
+    ensures any_moment { Knows (shown D.Disk disk.old) (λ _. LeavesOnly D.Disk disk.old disk.new (D.may_leave disk.old)) }
+    ensures stands { OnOk result (D.faults disk.new ≡ D.faults disk.old) }
+    ensures cause { OnErr result (Rose (D.faults disk.old) (D.faults disk.new)) }
+    ensures keeps { Keeps D.Disk disk.old disk.new }
+    ensures size { length room.new ≡ length room.old }
+{
+    disk.sync()?;
+    let count = read_front(disk, 0, room, BEGINNING.len())?;
+    Ok(&room[..count] == BEGINNING.as_slice())
+}

@@ -1,0 +1,88 @@
+//! A journal and its place on the disk.
+ghost use Rattle.std.specs.Prelude.{◌≡◌, ℕ, List, length, false, Ok, IsSome, IfOk};
+ghost use Rattle.gd_disk.specs.Disks.{Knows, Only};
+ghost use Rattle.gd_disk.specs.Moments.{shown, LeavesOnly};
+ghost use Rattle.tree_journal.specs.Records.{records, bodies_from};
+
+use gd_disk::Disk;
+use group_terms::{NoMemory, Octets};
+use std::alloc::Global;
+use std::marker::Model;
+
+/// The most octets of a record's body.
+pub(crate) const MOST: usize = 65_536;
+
+/// A piece that is written at once: a length, a body and a closed gate.
+const PIECE: usize = 4 + MOST + 1;
+
+/// The place of the first record's gate: after a gate and eight octets.
+pub(crate) const FIRST: u64 = 9;
+
+/// A journal on a disk.
+#[derive(Debug, Drop)]
+pub struct Journal<D: Disk> {
+    pub(crate) disk: D,
+    pub(crate) closed: bool,
+    /// The place of the gate of the record that is read next.
+    pub(crate) at: u64,
+    /// The place of the closed gate, once it was found.
+    pub(crate) end: Option<u64>,
+    /// Room in which a piece is put together: as many octets as the longest has.
+    pub(crate) piece: Octets,
+}
+
+impl<D: Disk> Model for Journal<D> {
+    ghost use Rattle.std.specs.Prelude.{◌≡◌, ◌≤◌, ◌+◌, ◌^◌, length, false, IfSome};
+    ghost use Rattle.tree_journal.specs.Private.Fronts.{Stands};
+    ghost use Rattle.tree_journal.specs.Views.{View};
+
+    ghost Value = { View D };
+
+    ghost invariant = { λ journal. (length journal.piece ≡ 65541) × (journal.at ≤ 2 ^ 62 + 65541) ×
+        IfSome journal.end (λ end. end ≤ 2 ^ 62) × (journal.closed ≡ false → Stands D.Disk journal.disk journal.at journal.end) };
+
+    ghost view = { λ journal. record { disk = journal.disk; closed = journal.closed; at = journal.at; end = journal.end } };
+}
+
+impl<D: Disk> Journal<D> {
+    /// The disk, as it is.
+    pub fn into_disk(self) -> D
+        ensures { result ≡ self.disk }
+    {
+        self.disk
+    }
+
+    /// Reads from the first record again.
+    pub fn rewind(&mut self)
+        ensures { self.new ≡ record { disk = self.old.disk; closed = self.old.closed; at = 9; end = self.old.end } }
+    {
+        self.at = FIRST;
+    }
+
+    /// The place of the gate at which reading goes on.
+    pub fn place(&self) -> u64
+        ensures { result ≡ self.now.at }
+    {
+        self.at
+    }
+
+    /// Says what is known between two calls of a journal that is not closed: a crash leaves what a read gives and nothing else, the records are
+    /// those from the first gate on, and once the closed gate was found the file is a journal.
+    pub fn rests(&self)
+        ensures durable { self.now.closed ≡ false → Knows (shown D.Disk self.now.disk) (λ file. Only file (D.may_leave self.now.disk)) }
+        ensures still { self.now.closed ≡ false → Knows (shown D.Disk self.now.disk)
+            (λ file. LeavesOnly D.Disk self.now.disk self.now.disk (λ c. c ≡ file)) }
+        ensures named { self.now.closed ≡ false → Knows (shown D.Disk self.now.disk) (λ file. records file ≡ bodies_from file 9) }
+        ensures opens { self.now.closed ≡ false → IsSome self.now.end →
+            Knows (shown D.Disk self.now.disk) (λ file. (bodies : List (List ℕ)) × (records file ≡ Ok bodies)) }
+    {
+        let _ = &self.disk;
+    }
+}
+
+/// Room for a piece.
+pub(crate) fn room(alloc: Global) -> Result<Octets, NoMemory>
+    ensures { IfOk result (λ piece. length piece ≡ 65541) }
+{
+    Ok(Octets::from_vec(vec![in alloc; 0u8; PIECE]?))
+}

@@ -1,0 +1,14 @@
+//! A write-ahead journal on a disk: records that are there whole or not at all, whatever call fails and whenever the machine stops.
+#![tactic(auto)]
+
+pub use journals::Journal;
+pub use refusals::{FormatRefusal, JournalRefusal};
+
+mod appends;
+mod formats;
+mod gates;
+mod journals;
+mod reads;
+mod refusals;
+#[cfg(test)]
+mod tests;

@@ -1,0 +1,219 @@
+//! Reading the records.
+ghost use Rattle.std.specs.Prelude.{◌≡◌, ◌<◌, ◌≤◌, ◌^◌, ◌+◌, ◌∷◌, [], ℕ, List, length, min, nat_le, ◌-◌, ◌⊎◌, if◌then◌else◌, take, drop, true, false, None, Some, IsTrue, Ok, Err, IfSome, IfOk, IfErr, OnOk, OnErr};
+ghost use Rattle.gd_disk.specs.Disks.{Knows};
+ghost use Rattle.group_terms.specs.Faults.{Rose};
+ghost use Rattle.gd_disk.specs.Moments.{shown, Keeps, LeavesOnly};
+ghost use Rattle.tree_journal.specs.Private.Found.{IsFound};
+ghost use Rattle.tree_journal.specs.Private.Heads.{head_in};
+ghost use Rattle.tree_journal.specs.Records.{IsRecordAt, bodies_from, with_front};
+ghost use Rattle.tree_journal.specs.declared.reads.Found.TheVariants.{Record, Nothing};
+ghost use Rattle.tree_journal.specs.declared.reads.Head.TheVariants.{Broken, Open};
+ghost use Rattle.tree_journal.specs.declared.refusals.JournalRefusal.TheVariants.{Closed, DiskFault, NotAJournal, NoMemory as OutOfMemory};
+
+use crate::gates::OPEN;
+use crate::journals::{Journal, MOST};
+use crate::refusals::JournalRefusal;
+use byteorder::{BigEndian, ByteOrder};
+use gd_disk::{Disk, Failed};
+use group_terms::Octets;
+use std::alloc::Global;
+
+/// A gate and a length.
+const HEAD: usize = 5;
+
+/// What the octets of a gate and a length say.
+#[derive(Clone, Copy, Debug, PartialEq, Eq)]
+pub(crate) enum Head {
+    /// The gate is closed.
+    Shut,
+    /// The gate is open, and the record's body has so many octets.
+    Open { size: usize },
+    /// There is no gate, or no length within its limit after an open one.
+    Broken,
+}
+
+/// What stands at a place of a file.
+#[derive(Debug, Drop)]
+pub(crate) enum Found {
+    /// An open gate, and a whole record.
+    Record { body: Octets },
+    /// A closed gate.
+    End,
+    /// Neither.
+    Nothing,
+}
+
+impl<D: Disk> Journal<D> {
+    /// Reads the next record into `body`; false at the closed gate, after which records can be appended. `body` is as it was unless a record was
+    /// read.
+    ///
+    /// `Closed` after a fault of the disk, `DiskFault`, `NoMemory` for the body, and `NotAJournal` at the gate of a record that is not whole, or
+    /// whose length is past its limit, or where the file ends before a gate.
+    pub fn read_next(&mut self, alloc: Global, body: &mut Octets) -> Result<bool, JournalRefusal>
+        ensures whole { result ≡ Ok true → Knows (shown D.Disk self.old.disk) (λ file. IsRecordAt file self.old.at body.new) }
+        ensures ahead { result ≡ Ok true → Knows (shown D.Disk self.old.disk)
+            (λ file. bodies_from file self.old.at ≡ with_front (body.new ∷ []) (bodies_from file self.new.at)) }
+        ensures ended { result ≡ Ok false → Knows (shown D.Disk self.old.disk) (λ file. bodies_from file self.old.at ≡ Ok []) }
+        ensures broken { IfErr result (λ why. (at : ℕ) → why ≡ NotAJournal at →
+            (at ≡ self.old.at) × Knows (shown D.Disk self.old.disk) (λ file. bodies_from file self.old.at ≡ Err at)) }
+        ensures memory { result ≡ Err OutOfMemory → Knows (shown D.Disk self.old.disk)
+            (λ file. (body : List ℕ) × IsRecordAt file self.old.at body) }
+        ensures short { result ≡ Ok true → length body.new ≤ 65536 }
+        ensures near { result ≡ Ok true → self.old.at < 2 ^ 62 }
+        ensures moved { result ≡ Ok true → self.new.at ≡ self.old.at + 5 + length body.new }
+        ensures stays { (result ≡ Ok true → ⊥) → (self.new.at ≡ self.old.at) × (body.new ≡ body.old) }
+        ensures walked { result ≡ Ok false → self.new.end ≡ Some self.old.at }
+        ensures end { (result ≡ Ok false → ⊥) → self.new.end ≡ self.old.end }
+        ensures same { shown D.Disk self.new.disk ≡ shown D.Disk self.old.disk }
+        ensures any_moment { self.old.closed ≡ false → Knows (shown D.Disk self.old.disk)
+            (λ file. LeavesOnly D.Disk self.old.disk self.new.disk (λ c. c ≡ file)) }
+        ensures closed { self.old.closed ≡ true → (result ≡ Err Closed) × (self.new ≡ self.old) }
+        ensures refused { result ≡ Err Closed → self.old.closed ≡ true }
+        ensures cause { result ≡ Err DiskFault → Rose (D.faults self.old.disk) (D.faults self.new.disk) }
+        ensures closes { result ≡ Err DiskFault → self.new.closed ≡ true }
+        ensures goes_on { (result ≡ Err DiskFault → ⊥) → self.new.closed ≡ self.old.closed }
+        ensures stands { (result ≡ Err DiskFault → ⊥) → D.faults self.new.disk ≡ D.faults self.old.disk }
+        ensures keeps { Keeps D.Disk self.old.disk self.new.disk }
+    {
+        if self.closed {
+            return Err(JournalRefusal::Closed);
+        }
+        match self.next(alloc)? {
+            Found::Record { body: octets } => {
+                self.at += (HEAD + octets.len()) as u64;
+                *body = octets;
+                Ok(true)
+            }
+            Found::End => {
+                self.end = Some(self.at);
+                Ok(false)
+            }
+            Found::Nothing => Err(JournalRefusal::NotAJournal { at: self.at }),
+        }
+    }
+
+    /// What stands at the place where reading goes on, which stays.
+    fn next(&mut self, alloc: Global) -> Result<Found, JournalRefusal>
+        requires { self.old.closed ≡ false }
+        ensures found { IfOk result (λ found. Knows (shown D.Disk self.old.disk) (λ file. IsFound file self.old.at found)) }
+        ensures memory { result ≡ Err OutOfMemory → Knows (shown D.Disk self.old.disk)
+            (λ file. (body : List ℕ) × IsRecordAt file self.old.at body) }
+        ensures short { IfOk result (λ found. (body : List ℕ) → found ≡ Record body → length body ≤ 65536) }
+        ensures far { 2 ^ 62 ≤ self.old.at → IfOk result (λ found. found ≡ Nothing) }
+        ensures same { shown D.Disk self.new.disk ≡ shown D.Disk self.old.disk }
+        ensures any_moment { Knows (shown D.Disk self.old.disk) (λ file. LeavesOnly D.Disk self.old.disk self.new.disk (λ c. c ≡ file)) }
+        ensures ok { (result ≡ Err DiskFault → ⊥) → self.new ≡ record self.old { disk = self.new.disk } }
+        ensures closes { result ≡ Err DiskFault → self.new ≡ record self.old { disk = self.new.disk; closed = true } }
+        ensures no_other { IfErr result (λ why. (why ≡ DiskFault) ⊎ (why ≡ OutOfMemory)) }
+        ensures stands { (result ≡ Err DiskFault → ⊥) → D.faults self.new.disk ≡ D.faults self.old.disk }
+        ensures cause { result ≡ Err DiskFault → Rose (D.faults self.old.disk) (D.faults self.new.disk) }
+        ensures keeps { Keeps D.Disk self.old.disk self.new.disk }
+    {
+        let size = match self.head()? {
+            Head::Open { size } => size,
+            Head::Shut => return Ok(Found::End),
+            Head::Broken => return Ok(Found::Nothing),
+        };
+        match self.body(alloc, size)? {
+            Some(body) => Ok(Found::Record { body }),
+            None => Ok(Found::Nothing),
+        }
+    }
+
+    /// What the gate and the length there say.
+    fn head(&mut self) -> Result<Head, JournalRefusal>
+        requires { self.old.closed ≡ false }
+        ensures head { IfOk result (λ head. Knows (shown D.Disk self.old.disk) (λ file. head ≡ head_in (take 5 (drop self.old.at file)))) }
+        ensures far { 2 ^ 62 ≤ self.old.at → IfOk result (λ head. head ≡ Broken) }
+        ensures short { IfOk result (λ head. (size : ℕ) → head ≡ Open size → size ≤ 65536) }
+        ensures same { shown D.Disk self.new.disk ≡ shown D.Disk self.old.disk }
+        ensures any_moment { Knows (shown D.Disk self.old.disk) (λ file. LeavesOnly D.Disk self.old.disk self.new.disk (λ c. c ≡ file)) }
+        ensures ok { OnOk result (self.new ≡ record self.old { disk = self.new.disk }) }
+        ensures err { OnErr result (self.new ≡ record self.old { disk = self.new.disk; closed = true }) }
+        ensures fault { IfErr result (λ why. why ≡ DiskFault) }
+        ensures stands { OnOk result (D.faults self.new.disk ≡ D.faults self.old.disk) }
+        ensures cause { OnErr result (Rose (D.faults self.old.disk) (D.faults self.new.disk)) }
+        ensures keeps { Keeps D.Disk self.old.disk self.new.disk }
+    {
+        match read_front(&mut self.disk, self.at, self.piece.as_mut_slice(), HEAD) {
+            Ok(count) => Ok(head_in(&self.piece.as_slice()[..count])),
+            Err(Failed) => {
+                self.closed = true;
+                Err(JournalRefusal::DiskFault)
+            }
+        }
+    }
+
+    /// The body of so many octets after the gate and the length at the place where reading goes on; `None` where the file ends before its end.
+    fn body(&mut self, alloc: Global, size: usize) -> Result<Option<Octets>, JournalRefusal>
+        requires open { self.old.closed ≡ false }
+        requires short { size ≤ 65536 }
+        ensures body { IfOk result (λ found. Knows (shown D.Disk self.old.disk) (λ file. found ≡
+            (if nat_le size (length file - (self.old.at + 5)) then Some (take size (drop (self.old.at + 5) file)) else None))) }
+        ensures memory { result ≡ Err OutOfMemory → Knows (shown D.Disk self.old.disk)
+            (λ file. IsTrue (nat_le size (length file - (self.old.at + 5)))) }
+        ensures size { IfOk result (λ found. IfSome found (λ body. length body ≡ size)) }
+        ensures same { shown D.Disk self.new.disk ≡ shown D.Disk self.old.disk }
+        ensures any_moment { Knows (shown D.Disk self.old.disk) (λ file. LeavesOnly D.Disk self.old.disk self.new.disk (λ c. c ≡ file)) }
+        ensures ok { (result ≡ Err DiskFault → ⊥) → self.new ≡ record self.old { disk = self.new.disk } }
+        ensures closes { result ≡ Err DiskFault → self.new ≡ record self.old { disk = self.new.disk; closed = true } }
+        ensures no_other { IfErr result (λ why. (why ≡ DiskFault) ⊎ (why ≡ OutOfMemory)) }
+        ensures stands { (result ≡ Err DiskFault → ⊥) → D.faults self.new.disk ≡ D.faults self.old.disk }
+        ensures cause { result ≡ Err DiskFault → Rose (D.faults self.old.disk) (D.faults self.new.disk) }
+        ensures keeps { Keeps D.Disk self.old.disk self.new.disk }
+    {
+        let at = self.at + HEAD as u64;
+        match read_front(&mut self.disk, at, self.piece.as_mut_slice(), size) {
+            Ok(count) if count < size => Ok(None),
+            Ok(_) => Ok(Some(Octets::copy_of(alloc, &self.piece.as_slice()[..size])?)),
+            Err(Failed) => {
+                self.closed = true;
+                Err(JournalRefusal::DiskFault)
+            }
+        }
+    }
+}
+
+/// What octets at a gate say, of which five are enough.
+fn head_in(octets: &[u8]) -> Head
+    ensures head { result ≡ head_in octets.now }
+    ensures short { (size : ℕ) → result ≡ Open size → size ≤ 65536 }
+{
+    let Some((gate, rest)) = octets.split_first() else {
+        return Head::Broken;
+    };
+    if *gate != OPEN {
+        return Head::Shut;
+    }
+    if rest.len() < 4 {
+        return Head::Broken;
+    }
+    let size = BigEndian::read_u32(rest) as usize;
+    if size > MOST {
+        return Head::Broken;
+    }
+    Head::Open { size }
+}
+
+/// Reads octets from a place on to the front of a room, as many as are there but not more than `size`, and says how many.
+pub(crate) fn read_front<D: Disk>(
+    disk: &mut D,
+    at: u64,
+    room: &mut [u8],
+    size: usize,
+) -> Result<usize, Failed>
+    requires { size ≤ length room.old }
+    ensures octets { IfOk result (λ n. Knows (shown D.Disk disk.old) (λ file. take n room.new ≡ take size (drop at file))) }
+    ensures count { IfOk result (λ n. n ≤ size) }
+    ensures far { 2 ^ 62 ≤ at → IfOk result (λ n. n ≡ 0) }
+    ensures whole { IfOk result (λ n. Knows (shown D.Disk disk.old) (λ file. n ≡ min size (length file - at))) }
+    ensures same { shown D.Disk disk.new ≡ shown D.Disk disk.old }
+    ensures any_moment { Knows (shown D.Disk disk.old) (λ _. LeavesOnly D.Disk disk.old disk.new (D.may_leave disk.old)) }
+    ensures crash { Knows (shown D.Disk disk.old) (λ _. (c : List ℕ) → D.may_leave disk.new c → D.may_leave disk.old c) }
+    ensures stands { OnOk result (D.faults disk.new ≡ D.faults disk.old) }
+    ensures cause { OnErr result (Rose (D.faults disk.old) (D.faults disk.new)) }
+    ensures keeps { Keeps D.Disk disk.old disk.new }
+    ensures size { length room.new ≡ length room.old }
+{
+    disk.read(at, &mut room[..size])
+}
