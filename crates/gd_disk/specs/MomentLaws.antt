@@ -1,5 +1,5 @@
 -- Laws of what a crash leaves between two moments of a disk.
-use Rattle.std.specs.Prelude.{◌≡◌, ◌↔◌, ℕ, Bool, true, false, List, Option, None, Some, IsSome, if◌then◌else◌}
+use Rattle.std.specs.Prelude.{◌≡◌, ◌≤◌, ◌↔◌, ℕ, Bool, true, false, List, Option, None, Some, IsSome, if◌then◌else◌}
 use Rattle.std.proofs.Common.{inl, inr, ⊎_elim, ◌∙◌, refl, arith}
 use Rattle.gd_disk.specs.Disks.{Elapses}
 use Rattle.gd_disk.specs.Moments.{shown, Keeps, LeavesOnly}
@@ -45,6 +45,12 @@ module _ {D : Type 0} (g : Ghosts D) where
     exposed = (λ some. first.exposed.0 (second.exposed.0 some), λ some. second.exposed.1 (first.exposed.1 some));
     counted = omega (arith, first.counted, second.counted);
   }
+
+-- what a crash leaves now has the property
+pub leaves_now : {D : Type 0} (g : Ghosts D) (old new : D) (P : List ℕ → Type 0)
+    → ((t : ℕ) (c : List ℕ) → t ≤ g.moment new → g.may_leave new c → g.left_since new t c) → LeavesOnly g old new P → (c : List ℕ)
+    → g.may_leave new c → P c
+leaves_now g old new P counts_now only c now = only.each c (counts_now (g.moment old) c only.later now)
 
 -- where a file is shown, one was shown before
 pub shown_before : {D : Type 0} (g : Ghosts D) (old new : D) → Keeps g old new → (file : List ℕ) → shown g new ≡ Some file

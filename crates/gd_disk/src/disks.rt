@@ -96,7 +96,7 @@ pub trait Disk {
         ensures stands { OnOk result (faults self.new ≡ faults self.old) }
         ensures counted { faults self.old ≤ faults self.new };
 
-    /// A disk as it reads is one of its own images.
+    /// What a read gives is an image that a crash may leave.
     ghost reads_stay: { (disk : Self) (file : List ℕ) →
         known honest image disk ≡ Some file → may_leave disk file };
 

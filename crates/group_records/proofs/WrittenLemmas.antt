@@ -1,9 +1,10 @@
 -- Records that are written are read.
-use Rattle.std.proofs.Common.{◌≡◌, ◌∙◌, ℕ, suc, ◌+◌, ◌<◌, true, false, List, [], ◌∷◌, ◌++◌, length, All, Result, Ok, refl, sym, ap, arith, append_assoc, append-nil, length-append}
-use Rattle.std.proofs.lemmas.Bool.{le-leb, ne_eqb}
+use Rattle.std.proofs.Common.{◌≡◌, ◌∙◌, ℕ, suc, ◌+◌, ◌<◌, Bool, true, false, List, [], ◌∷◌, ◌++◌, length, All, Result, Ok, refl, sym, ap, arith, append_assoc, append-nil, length-append}
+use Rattle.std.proofs.lemmas.Bool.{le-leb, ne_eqb, and_parts}
+use Rattle.std.specs.Prelude.{◌&&◌}
 use Rattle.std.proofs.lemmas.List.Elements.{All-nil, All-cons, All-head, All-tail}
 use Rattle.std.specs.List.{flat_map}
-use Rattle.std.proofs.Math.Dec.{eqb}
+use Rattle.std.proofs.Math.Dec.{eqb, leb}
 use Rattle.byteorder.specs.Endian.{big_bytes}
 use Rattle.byteorder.specs.Numbers.{length-bytes_high_first}
 use Rattle.group_terms.specs.declared.changes.Change.{Change}
@@ -17,7 +18,7 @@ use Rattle.group_terms.specs.GroupNames.{is_group_name}
 use Rattle.gd_wire.specs.Readings.{Cursor, Reading, and_then, give, octets, octet, octet_at, number, long_number, due_octet, due_kind, end, value_of}
 use Rattle.group_records.specs.declared.heads.Head.{Head}
 use Rattle.group_records.specs.Fits.{HeadFits, IsNamed, NodeFits, TrafficFits, BatchFits}
-use Rattle.group_records.specs.Readings.{many, member_name, group_name, head_record, change, node, traffic, batch_record}
+use Rattle.group_records.specs.Readings.{many, name_size, member_name, group_name, head_record, change, node, traffic, batch_record}
 use Rattle.group_records.specs.Texts.{named_text, head_text, change_text, changes_text, node_text, nodes_text, traffic_text, batch_text}
 
 abbrev pub cursor : ℕ → ℕ → List ℕ → Cursor
@@ -55,25 +56,36 @@ pub record Fields : Type 0 where
   pub long_number : (base at value : ℕ) (later : List ℕ) → value < 4294967296
       → long_number (cursor base at (big_bytes 4 value ++ later)) ≡ Ok (value, cursor base (at + 4) later)
 
+-- a name has 1 to 32 octets
+name_few : (size : ℕ) (all : Bool) → (leb 1 size && (leb size 32 && all)) ≡ true → (leb 1 size ≡ true) × (leb size 32 ≡ true)
+name_few size all is =
+    let first = and_parts (leb 1 size) (leb size 32 && all) is in
+    (first.0, (and_parts (leb size 32) all first.1).0)
+
+group_few : (size : ℕ) → (leb 1 size && leb size 32) ≡ true → (leb 1 size ≡ true) × (leb size 32 ≡ true)
+group_few size is = and_parts (leb 1 size) (leb size 32) is
+
 module _ (f : Fields) where
   sized : (n base at : ℕ) (field later : List ℕ) → length field ≡ n → octets n (cursor base at (field ++ later)) ≡ Ok (field, cursor base (at + n) later)
   sized n base at field later long =
       ap (λ k. octets k (cursor base at (field ++ later))) (sym long) ∙ f.octets base at field later ∙ (λ i. Ok (field, cursor base (at + long i) later))
 
   member_reads : (name : List ℕ) → is_name name ≡ true → Reads member_name (named_text name) name
-  unfolding member_name
+  unfolding member_name name_size
   member_reads name is = record {
     reads = λ base at rest.
         let place : at + 1 + length name ≡ at + suc (length name) = omega arith in
-        rw (f.octet base at (length name) (name ++ rest), f.octets base (at + 1) name rest, is) (λ i. Ok (name, cursor base (place i) rest));
+        let few = name_few (length name) _ is in
+        rw (f.octet base at (length name) (name ++ rest), few.0, few.1, f.octets base (at + 1) name rest, is) (λ i. Ok (name, cursor base (place i) rest));
   }
 
   group_reads : (name : List ℕ) → is_group_name name ≡ true → Reads group_name (named_text name) name
-  unfolding group_name
+  unfolding group_name name_size
   group_reads name is = record {
     reads = λ base at rest.
         let place : at + 1 + length name ≡ at + suc (length name) = omega arith in
-        rw (f.octet base at (length name) (name ++ rest), f.octets base (at + 1) name rest, is) (λ i. Ok (name, cursor base (place i) rest));
+        let few = group_few (length name) is in
+        rw (f.octet base at (length name) (name ++ rest), few.0, few.1, f.octets base (at + 1) name rest, is) (λ i. Ok (name, cursor base (place i) rest));
   }
 
   change_reads : (c : Change) → IsNamed c → Reads change (change_text c) c

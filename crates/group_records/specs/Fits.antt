@@ -1,4 +1,4 @@
--- What can be written in the records of a group's journal.
+-- What a record of a group's journal has to have so that it is read as it was written.
 use Rattle.std.specs.Prelude.{◌≡◌, ℕ, ◌<◌, ◌≤◌, true, List, length, All}
 use Rattle.group_terms.specs.Changes.{member_of}
 use Rattle.group_terms.specs.GroupNames.{is_group_name}

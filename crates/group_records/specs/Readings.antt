@@ -16,7 +16,7 @@ use Rattle.group_records.specs.declared.faults.RecordFault.TheVariants.{Malforme
 use Rattle.group_records.specs.declared.heads.Head.{Head}
 use Rattle.group_records.specs.Texts.{head_kind, batch_kind, version}
 
--- so many of them, one after the other
+-- a number of readings, one after the other
 abbrev pub many : {A : Type 0} → Reading A → ℕ → Reading (List A)
 many reading zero = give []
 many reading (suc more) = do
@@ -24,11 +24,18 @@ many reading (suc more) = do
   rest ← many reading more
   give (first ∷ rest)
 
--- a member's name, in its grammar, and a group's
+-- how many octets a name has
+unfoldable pub name_size : ℕ → Reading ℕ
+name_size at = do
+  size ← octet
+  check (nat_le 1 size && nat_le size 32) Value at
+  give size
+
+-- the name of a member, which has 1 to 32 octets of its grammar, and that of a group, of any octets
 unfoldable pub member_name : Reading Name
 member_name = do
   at ← here
-  size ← octet
+  size ← name_size at
   text ← octets size
   check (is_name text) Value at
   give text
@@ -36,7 +43,7 @@ member_name = do
 unfoldable pub group_name : Reading (List ℕ)
 group_name = do
   at ← here
-  size ← octet
+  size ← name_size at
   text ← octets size
   check (is_group_name text) Value at
   give text

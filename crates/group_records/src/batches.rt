@@ -26,7 +26,8 @@ pub struct Stored {
 }
 
 /// Reads the record of a batch: at most 32 changes, of members by names of their grammar, values of positions, and that of a traffic key
-/// whose SPI has its highest bit set, and nothing after it; else the first fault.
+/// whose SPI has its highest bit set, and nothing after it; else the first fault. `NoMemory` where there is none for the values. A record has at
+/// most 65,536 octets.
 #[tactic(auto, unfolding(crate::specs::Readings::batch_record))]
 pub fn read_batch(alloc: Global, body: &[u8]) -> Result<Stored, RecordFault>
     requires { length body.now ≤ 65536 }
@@ -56,7 +57,7 @@ pub fn read_batch(alloc: Global, body: &[u8]) -> Result<Stored, RecordFault>
     })
 }
 
-/// The record of a batch, with the values of at most 65,535 positions.
+/// The record of a batch, with the values of at most 65,535 positions; `NoMemory` where there is none for it.
 pub fn write_batch(
     alloc: Global,
     batch: &Batch,

@@ -13,7 +13,7 @@ const OUT: u8 = 0;
 
 const IN: u8 = 1;
 
-/// Reads so many changes.
+/// Reads a number of changes.
 pub(crate) fn changes(count: u8, text: &mut Reader<'_>) -> Result<Batch, WireFault>
     requires { count ≤ MOST_CHANGES }
     ensures { Gives result text.new (many change count text.old) }

@@ -30,7 +30,10 @@ pub struct Head {
 #[tactic(auto, unfolding(crate::specs::Readings::head_record))]
 pub fn read_head(body: &[u8]) -> Result<Head, WireFault>
     requires { length body.now ≤ 65536 }
-    ensures { Answers (λ head. head) result (head_record (from_start 0 body.now)) }
+    ensures answer { Answers (λ head. head) result (head_record (from_start 0 body.now)) }
+    ensures shallow { IfOk result (λ head. 1 ≤ head.depth) }
+    ensures not_deep { IfOk result (λ head. head.depth ≤ 9) }
+    ensures limited { IfOk result (λ head. 1 ≤ head.limit) }
 {
     let mut text = Reader::new(body, 0);
     text.due_octet(HEAD, WireWhat::Value)?;
@@ -56,7 +59,7 @@ pub fn read_head(body: &[u8]) -> Result<Head, WireFault>
     })
 }
 
-/// The record of a head.
+/// The record of a head; `NoMemory` where there is none for it.
 pub fn write_head(alloc: Global, head: &Head) -> Result<Octets, NoMemory>
     ensures { IfOk result (λ text. text ≡ head_text head.now) }
 {

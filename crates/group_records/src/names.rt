@@ -2,10 +2,22 @@
 ghost use Rattle.std.specs.Prelude.{◌≡◌, ◌∷◌, ◌++◌, OnOk, length, IsTrue, ◌≤◌};
 ghost use Rattle.gd_wire.specs.Readings.{Gives};
 ghost use Rattle.group_records.specs.Texts.{named_text};
-ghost use Rattle.group_records.specs.Readings.{member_name, group_name};
+ghost use Rattle.group_records.specs.Readings.{name_size, member_name, group_name};
 
 use gd_wire::{Reader, WireFault, WireWhat, fault};
 use group_terms::{GroupName, MemberName, NoMemory, Octets};
+
+/// Reads how many octets a name has, 1 to 32.
+#[tactic(auto, unfolding(crate::specs::Readings::name_size))]
+fn name_size(text: &mut Reader<'_>, at: u32) -> Result<usize, WireFault>
+    ensures { Gives result text.new (name_size at text.old) }
+{
+    let size = text.octet()?;
+    if !(1..=32).contains(&size) {
+        return Err(fault(WireWhat::Value, at));
+    }
+    Ok(usize::from(size))
+}
 
 /// Reads the name of a member.
 #[tactic(auto, unfolding(crate::specs::Readings::member_name))]
@@ -13,8 +25,8 @@ pub(crate) fn member_name(text: &mut Reader<'_>) -> Result<MemberName, WireFault
     ensures { Gives result text.new (member_name text.old) }
 {
     let at = text.here();
-    let size = text.octet()?;
-    let octets = text.octets(usize::from(size))?;
+    let size = name_size(text, at)?;
+    let octets = text.octets(size)?;
     let Some(name) = MemberName::read(octets) else {
         return Err(fault(WireWhat::Value, at));
     };
@@ -27,8 +39,8 @@ pub(crate) fn group_name(text: &mut Reader<'_>) -> Result<GroupName, WireFault>
     ensures { Gives result text.new (group_name text.old) }
 {
     let at = text.here();
-    let size = text.octet()?;
-    let octets = text.octets(usize::from(size))?;
+    let size = name_size(text, at)?;
+    let octets = text.octets(size)?;
     let Some(name) = GroupName::read(octets) else {
         return Err(fault(WireWhat::Value, at));
     };

@@ -10,7 +10,7 @@ use gd_wire::{Reader, WireFault, WireWhat, fault};
 use group_terms::{Drawn, List, LkhId, NoMemory, NodeValue, Octets, TrafficValue};
 use std::alloc::Global;
 
-/// Reads so many values of positions.
+/// Reads a number of values of positions.
 pub(crate) fn nodes(
     alloc: Global,
     count: u16,

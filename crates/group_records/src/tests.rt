@@ -28,7 +28,7 @@ fn octets(alloc: Global, text: &str) -> Result<Octets, Fail> {
     Ok(Octets::from_vec(hex::decode(alloc, text)?))
 }
 
-/// All octets, of which there are never as many as a record may have.
+/// The octets of a body, cut to as many as a record may have.
 fn whole(body: &Octets) -> &[u8]
     ensures { length result.now ≤ 65536 }
 {
@@ -110,20 +110,22 @@ fn a_batch_has_its_changes_and_values(rt: HostRuntime) -> Result<(), Fail> {
     Ok(())
 }
 
-/// Another kind or version, a depth or a limit that no group has, and a name that is cut off or too long.
+/// Another kind or version, a depth or a limit that no group has, and a name that is empty, too long, or shorter than the record.
 #[test]
 fn a_head_of_another_form_is_refused(rt: HostRuntime) -> Result<(), Fail> {
     let version = WireFault {
         what: WireWhat::Version,
         at: 1,
     };
-    let cases: [(u16, &[u8], WireFault); 7] = [
+    let cases: [(u16, &[u8], WireFault); 9] = [
         (0, &[1], value(0)),
         (1, &[2], version),
         (2, &[0], value(2)),
         (2, &[10], value(2)),
         (19, &[0; 4], value(19)),
         (23, &[0], value(23)),
+        (23, &[33], value(23)),
+        (23, &[200], value(23)),
         (23, &[6], length(30)),
     ];
     for (at, piece, fault) in cases {

@@ -6,7 +6,7 @@ use Rattle.gd_disk.specs.Disks.{Knows, Only, Torn, Cut, Follows}
 use Rattle.gd_disk.specs.MomentLaws.{shown_before}
 use Rattle.gd_disk.specs.Moments.{shown, Keeps}
 use Rattle.gd_disk.specs.declared.disks.Disk.{Ghosts}
-use Rattle.tree_journal.specs.Crashes.{IsBegun}
+use Rattle.tree_journal.specs.Crashes.{IsCutOf, IsUnfilled}
 use Rattle.tree_journal.specs.Private.Fronts.{IsReached, Stands}
 use Rattle.tree_journal.specs.Private.Gates.{IsGated, IsTorn}
 use Rattle.tree_journal.specs.Records.{records, is_named, name_text, front_text}
@@ -20,23 +20,23 @@ named gate = elim (cases_eq gate 1) [
 ]
 
 -- what a crash leaves while the name is written
-pub gated_name : (old : List ℕ → Type 0) (c : List ℕ) → IsGated [] 0 (name_text ++ 0 ∷ []) [] c → IsBegun old c
-gated_name old c (inl shut) = inr (inl (ap records shut.1))
-gated_name old c (inr there) =
+pub gated_name : (c : List ℕ) → IsGated [] 0 (name_text ++ 0 ∷ []) [] c → IsUnfilled c
+gated_name c (inl shut) = inl (ap records shut.1)
+gated_name c (inr there) =
     let none : (records c ≡ Err 0) ⊎ (records c ≡ Ok []) = subst (λ (l : List ℕ). (records l ≡ Err 0) ⊎ (records l ≡ Ok [])) (sym there.1) (named there.0) in
-    inr none
+    none
 
 -- before that the old file is cut, and its first octet written
-pub torn_first : (old cut : List ℕ → Type 0) → Follows (Cut 0) old cut → (c : List ℕ) → IsTorn 0 1 cut c → IsBegun old c
+pub torn_first : (old cut : List ℕ → Type 0) → Follows (Cut 0) old cut → (c : List ℕ) → IsTorn 0 1 cut c → IsCutOf old c
 torn_first old cut follows c torn =
     let was = follows torn.0 torn.1 in
-    inl (was.0, torn.0, was.1, was.2, torn.2)
+    (was.0, torn.0, was.1, was.2, torn.2)
 
 module _ (nothing_written : (at n : ℕ) (file : List ℕ) → Torn at n file file) (nothing_cut : (to : ℕ) (file : List ℕ) → Cut to file file) where
-  pub not_begun : (old : List ℕ → Type 0) (c : List ℕ) → old c → IsBegun old c
-  not_begun old c now = inl (c, c, now, nothing_cut 0 c, nothing_written 0 1 c)
+  pub not_begun : (old : List ℕ → Type 0) (c : List ℕ) → old c → IsCutOf old c
+  not_begun old c now = (c, c, now, nothing_cut 0 c, nothing_written 0 1 c)
 
-  pub only_cut : (old cut : List ℕ → Type 0) → Follows (Cut 0) old cut → (c : List ℕ) → cut c → IsBegun old c
+  pub only_cut : (old cut : List ℕ → Type 0) → Follows (Cut 0) old cut → (c : List ℕ) → cut c → IsCutOf old c
   only_cut old cut follows c now = torn_first old cut follows c (c, now, nothing_written 0 1 c)
 
 module _ {D : Type 0} (g : Ghosts D) (old new : D) where

@@ -1,10 +1,10 @@
 -- What a crash leaves while a journal is begun.
-use Rattle.std.proofs.Common.{ℕ, List, [], ◌∷◌, ◌++◌}
+use Rattle.std.proofs.Common.{inr, ℕ, List, [], ◌∷◌, ◌++◌}
 use Rattle.gd_disk.specs.Disks.{Torn, Cut, Follows}
 use Rattle.gd_disk.specs.MomentLaws.{joined, weaker}
 use Rattle.gd_disk.specs.Moments.{LeavesOnly}
 use Rattle.gd_disk.specs.declared.disks.Disk.{Ghosts}
-use Rattle.tree_journal.specs.Crashes.{IsBegun}
+use Rattle.tree_journal.specs.Crashes.{IsCutOf, IsUnfilled, MakesJournal}
 use Rattle.tree_journal.specs.Private.Gates.{IsGated, IsTorn}
 use Rattle.tree_journal.specs.Records.{name_text}
 use Rattle.tree_journal.proofs.BeginLemmas.{not_begun, only_cut, torn_first, gated_name}
@@ -12,7 +12,7 @@ use Rattle.tree_journal.proofs.CallLemmas.{Goes, one_call}
 
 module _ {D : Type 0} (g : Ghosts D) (old : D) where
   abbrev P : List ℕ → Type 0
-  P = IsBegun (g.may_leave old)
+  P = IsCutOf (g.may_leave old)
 
   module _ (cut : D) (nothing_written : (at n : ℕ) (file : List ℕ) → Torn at n file file) (nothing_cut : (to : ℕ) (file : List ℕ) → Cut to file file)
       (only_now : (c : List ℕ) → g.left_since old (g.moment old) c → g.may_leave old c) (time : Goes g old cut)
@@ -26,5 +26,5 @@ module _ {D : Type 0} (g : Ghosts D) (old : D) where
     after_first new first =
         joined g old cut new P after_cut (weaker g cut new _ P (torn_first (g.may_leave old) (g.may_leave cut) follows) first)
 
-  pub after_name : (mid new : D) → LeavesOnly g old mid P → LeavesOnly g mid new (IsGated [] 0 (name_text ++ 0 ∷ []) []) → LeavesOnly g old new P
-  after_name mid new first second = joined g old mid new P first (weaker g mid new _ P (gated_name (g.may_leave old)) second)
+  pub after_name : (mid new : D) → LeavesOnly g old mid P → LeavesOnly g mid new (IsGated [] 0 (name_text ++ 0 ∷ []) []) → MakesJournal g old new
+  after_name mid new first second = inr (mid, first, weaker g mid new _ IsUnfilled gated_name second)

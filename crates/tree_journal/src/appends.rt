@@ -15,8 +15,11 @@ use byteorder::{BigEndian, ByteOrder};
 use gd_disk::{Disk, Failed};
 
 impl<D: Disk> Journal<D> {
-    /// Appends a record with a body of at most 65,536 octets. It takes no memory. From Ok on it is there, whatever happens; at `DiskFault` it is
-    /// there whole or not at all, and the journal is closed.
+    /// Appends a record with a body of at most 65,536 octets. It takes no memory. A journal that was opened has to be read to its closed gate
+    /// first.
+    ///
+    /// On an honest disk the record is there from Ok on, whatever crash comes. At `DiskFault` it is there whole or not at all, and the journal is
+    /// closed: from then on each call answers `Closed`.
     pub fn append(&mut self, body: &[u8]) -> Result<(), JournalRefusal>
         requires few { length body.now ≤ 65536 }
         requires walked { IsSome self.old.end }

@@ -3,7 +3,7 @@ ghost use Rattle.std.specs.Prelude.{◌≡◌, ◌⊎◌, ◌≤◌, [], ◌∷�
 ghost use Rattle.gd_disk.specs.Disks.{Knows, Only};
 ghost use Rattle.group_terms.specs.Faults.{Rose};
 ghost use Rattle.gd_disk.specs.Moments.{shown, Keeps, LeavesOnly};
-ghost use Rattle.tree_journal.specs.Crashes.{disk_in, Opens, IsBegun};
+ghost use Rattle.tree_journal.specs.Crashes.{disk_in, Opens, IsCutOf, MakesJournal};
 ghost use Rattle.tree_journal.specs.Records.{records, bodies_from, is_named, front_text};
 ghost use Rattle.tree_journal.specs.declared.refusals.JournalRefusal.TheVariants.{DiskFault, NotAJournal, NoMemory as OutOfMemory};
 
@@ -27,7 +27,7 @@ impl<D: Disk> Journal<D> {
         ensures empty { IfOk result (λ journal. Knows (shown D.Disk disk) (λ _. Opens (shown D.Disk journal.disk) [])) }
         ensures octets { IfOk result (λ journal. Knows (shown D.Disk disk)
             (λ _. shown D.Disk journal.disk ≡ Some (front_text [] ++ 0 ∷ []))) }
-        ensures any_moment { Knows (shown D.Disk disk) (λ _. LeavesOnly D.Disk disk (disk_in result) (IsBegun (D.may_leave disk))) }
+        ensures moments { Knows (shown D.Disk disk) (λ _. MakesJournal D.Disk disk (disk_in result)) }
         ensures began { IfOk result (λ journal. journal ≡ record { disk = journal.disk; closed = false; at = 9; end = Some 9 }) }
         ensures cause { IfErr result (λ refused. refused.why ≡ DiskFault → Rose (D.faults disk) (D.faults refused.disk)) }
         ensures untouched { IfErr result (λ refused. refused.why ≡ OutOfMemory → refused.disk ≡ disk) }
@@ -35,6 +35,7 @@ impl<D: Disk> Journal<D> {
         ensures stands { OnOk result (D.faults (disk_in result) ≡ D.faults disk) }
         ensures keeps { Keeps D.Disk disk (disk_in result) }
     {
+        a_crash_may_leave_nothing_or_all();
         let mut disk = disk;
         let Ok(piece) = room(alloc) else {
             return Err(FormatRefusal {
@@ -106,7 +107,7 @@ impl<D: Disk> Journal<D> {
 fn begin_file<D: Disk>(disk: &mut D) -> Result<(), Failed>
     ensures octets { OnOk result (Knows (shown D.Disk disk.old) (λ _. shown D.Disk disk.new ≡ Some (front_text [] ++ 0 ∷ []))) }
     ensures durable { OnOk result (Knows (shown D.Disk disk.new) (λ file. Only file (D.may_leave disk.new))) }
-    ensures any_moment { Knows (shown D.Disk disk.old) (λ _. LeavesOnly D.Disk disk.old disk.new (IsBegun (D.may_leave disk.old))) }
+    ensures moments { Knows (shown D.Disk disk.old) (λ _. MakesJournal D.Disk disk.old disk.new) }
     ensures stands { OnOk result (D.faults disk.new ≡ D.faults disk.old) }
     ensures cause { OnErr result (Rose (D.faults disk.old) (D.faults disk.new)) }
     ensures keeps { Keeps D.Disk disk.old disk.new }
@@ -120,7 +121,7 @@ fn begin_file<D: Disk>(disk: &mut D) -> Result<(), Failed>
 fn shut_file<D: Disk>(disk: &mut D) -> Result<(), Failed>
     ensures octets { OnOk result (Knows (shown D.Disk disk.old) (λ _. shown D.Disk disk.new ≡ Some (0 ∷ []))) }
     ensures durable { OnOk result (Knows (shown D.Disk disk.new) (λ file. Only file (D.may_leave disk.new))) }
-    ensures any_moment { Knows (shown D.Disk disk.old) (λ _. LeavesOnly D.Disk disk.old disk.new (IsBegun (D.may_leave disk.old))) }
+    ensures any_moment { Knows (shown D.Disk disk.old) (λ _. LeavesOnly D.Disk disk.old disk.new (IsCutOf (D.may_leave disk.old))) }
     ensures stands { OnOk result (D.faults disk.new ≡ D.faults disk.old) }
     ensures cause { OnErr result (Rose (D.faults disk.old) (D.faults disk.new)) }
     ensures keeps { Keeps D.Disk disk.old disk.new }

@@ -1,4 +1,4 @@
-//! Writing behind a closed gate.
+//! Writing after a closed gate.
 ghost use Rattle.std.specs.Prelude.{◌≡◌, ◌<◌, ◌≤◌, ◌+◌, ◌^◌, ◌++◌, [], ◌∷◌, ℕ, List, length, Some, OnOk, OnErr};
 ghost use Rattle.gd_disk.specs.Disks.{Knows, Only, Steps, Torn, written};
 ghost use Rattle.group_terms.specs.Faults.{Rose};

@@ -1,4 +1,5 @@
-//! A write-ahead journal on a disk: records that are there whole or not at all, whatever call fails and whenever the machine stops.
+//! An append-only journal on a disk: on an honest one its records are there whole or not at all, whatever call fails and whenever the machine
+//! stops.
 #![tactic(auto)]
 
 pub use journals::Journal;

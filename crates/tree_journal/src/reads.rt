@@ -47,8 +47,8 @@ impl<D: Disk> Journal<D> {
     /// Reads the next record into `body`; false at the closed gate, after which records can be appended. `body` is as it was unless a record was
     /// read.
     ///
-    /// `Closed` after a fault of the disk, `DiskFault`, `NoMemory` for the body, and `NotAJournal` at the gate of a record that is not whole, or
-    /// whose length is past its limit, or where the file ends before a gate.
+    /// `Closed` after a fault of the disk, `DiskFault`, `NoMemory` for the body, and `NotAJournal` at a gate that is missing, or at an
+    /// open one that no whole record follows.
     pub fn read_next(&mut self, alloc: Global, body: &mut Octets) -> Result<bool, JournalRefusal>
         ensures whole { result ≡ Ok true → Knows (shown D.Disk self.old.disk) (λ file. IsRecordAt file self.old.at body.new) }
         ensures ahead { result ≡ Ok true → Knows (shown D.Disk self.old.disk)

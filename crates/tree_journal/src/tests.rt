@@ -152,11 +152,11 @@ fn records_are_read_up_to_the_closed_gate(rt: HostRuntime) -> Result<(), Fail> {
     Ok(())
 }
 
-/// A disk with the beginning of a file, and more octets behind it than a body and a gate have.
+/// A disk with the beginning of a file, and more octets after it than a body and a gate have.
 fn holding_more(alloc: Global, front: [u8; 14]) -> Result<MemDisk, Fail> {
-    let behind = [0; 65_538];
+    let later = [0; 65_538];
     let mut image = List::copy_of(alloc, &front)?;
-    image.extend(&behind)?;
+    image.extend(&later)?;
     Ok(MemDisk::holding(alloc, image))
 }
 
@@ -206,7 +206,7 @@ fn rewind_begins_again_with_the_first_record(rt: HostRuntime) -> Result<(), Fail
     Ok(())
 }
 
-/// What a read behind the one record of a file answers.
+/// What a read after the one record of a file answers.
 const ENDS: [(&[u8], Result<bool, JournalRefusal>); 2] = [
     (b"\x01GDOIJRNL\x01\0\0\0\x02ab\0", Ok(false)),
     (

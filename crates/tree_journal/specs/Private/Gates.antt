@@ -1,4 +1,4 @@
--- What a write behind a closed gate leaves.
+-- What a write after a closed gate leaves.
 use Rattle.std.specs.Prelude.{◌≡◌, ◌⊎◌, ℕ, List, ◌∷◌, ◌++◌, length, drop, Option, Some}
 use Rattle.gd_disk.specs.Disks.{Torn}
 
@@ -7,11 +7,11 @@ pub record IsSplit (file : Option (List ℕ)) (at : ℕ) (front : List ℕ) (gat
   pub text : file ≡ Some (front ++ gate ∷ behind)
   pub place : at ≡ length front
 
--- a piece between a gate and what is behind it
+-- a piece between a gate and what comes after it
 abbrev pub gated : List ℕ → ℕ → List ℕ → List ℕ → List ℕ
 gated front gate piece behind = front ++ gate ∷ (piece ++ drop (length piece) behind)
 
--- the gate is as it was, with anything behind it, or the piece is behind it, whatever the gate is
+-- the gate is as it was, with anything after it, or the piece is after it, whatever the gate is
 abbrev pub IsGated : List ℕ → ℕ → List ℕ → List ℕ → List ℕ → Type 0
 IsGated front shut piece behind file =
     ((tail : List ℕ) × (file ≡ front ++ shut ∷ tail)) ⊎ ((gate : ℕ) × (file ≡ gated front gate piece behind))
