@@ -19,7 +19,8 @@ use Rattle.group_model.proofs.EpochLemmas.{length-holders_of}
 use Rattle.group_model.proofs.StayedLemmas.{same_name-is, member_at}
 use Rattle.group_model.proofs.PlaceLemmas.{place_found, place_in-agree}
 use Rattle.group_model.proofs.FitLemmas.{has_place}
-use Rattle.group_model.proofs.OnceLemmas.{AreOnce, AreOnce-at}
+use Rattle.group_model.specs.Private.Seats.{AreOnce}
+use Rattle.group_model.proofs.OnceLemmas.{AreOnce-at}
 
 -- one more leaf
 pub handed_over-more : (first i : ℕ) (before after : Holders) (was is : Option Name) (done whole : List Handover) → length before ≡ length after → i < length after → was ≡ get_or before i was → is ≡ get_or after i is → done ++ all_handed_over (first + i) (drop i (zip before after)) ≡ whole → (done ++ handed_over (first + i) was is) ++ all_handed_over (first + (i + 1)) (drop (i + 1) (zip before after)) ≡ whole

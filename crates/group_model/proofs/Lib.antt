@@ -1,3 +1,5 @@
+pub mod AfterLemmas
+pub mod DrawLemmas
 pub mod EpochLemmas
 pub mod FirstLemmas
 pub mod FitLemmas
@@ -11,6 +13,7 @@ pub mod PlaceLemmas
 pub mod PlanLemmas
 pub mod QueueLemmas
 pub mod RowLemmas
+pub mod SeatLemmas
 pub mod SequenceLemmas
 pub mod StayedLemmas
 pub mod TreeLemmas

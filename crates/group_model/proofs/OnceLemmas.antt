@@ -7,13 +7,10 @@ use Rattle.std.proofs.lemmas.List.{get_or_past, get_or-set_other}
 use Rattle.group_terms.specs.Names.{Name, same_name}
 use Rattle.group_terms.specs.declared.changes.Change.{Change}
 use Rattle.group_model.specs.Places.{Holders, no_holders, is_held_by, is_member, vacated, placed, leavers, joiners, names_once, holders_after, holders_at, Fits, FitInTurn, IsValid}
+use Rattle.group_model.specs.Private.Seats.{AreOnce}
 use Rattle.group_model.proofs.EpochLemmas.{is_member-no_holders}
 use Rattle.group_model.proofs.StayedLemmas.{same_name-is, same_name-self, member_at, none_of, vacated_all_at, placed_at}
 use Rattle.group_model.proofs.QueueLemmas.{joiners_once}
-
--- no name has two leaves
-abbrev pub AreOnce : Holders → Type 0
-AreOnce holders = (m : Name) (i j : ℕ) → is_held_by m (get_or holders i None) ≡ true → is_held_by m (get_or holders j None) ≡ true → i ≡ j
 
 -- m has no leaf
 abbrev HasNone : Holders → Name → Type 0

@@ -22,7 +22,7 @@ same_name-is m n h = (bytes_eq-Decides m n).0 h
 pub same_name-self : (m : Name) → same_name m m ≡ true
 same_name-self m = (bytes_eq-Decides m m).1 refl
 
-get_or-map_at : {A : Type 0} (f : A → A) (xs : List A) (i : ℕ) (d : A) → f d ≡ d → get_or (map f xs) i d ≡ f (get_or xs i d)
+pub get_or-map_at : {A : Type 0} (f : A → A) (xs : List A) (i : ℕ) (d : A) → f d ≡ d → get_or (map f xs) i d ≡ f (get_or xs i d)
 get_or-map_at f [] i d fixed = sym fixed
 get_or-map_at f (x ∷ xs) zero d fixed = refl
 get_or-map_at f (x ∷ xs) (suc i) d fixed = get_or-map_at f xs i d fixed

@@ -1,4 +1,5 @@
 pub mod Derivations
+pub mod Drawn
 pub mod Fresh
 pub mod Groups
 pub mod Histories
@@ -9,4 +10,5 @@ pub mod Present
 pub mod Private
 pub mod Replies
 pub mod Stayed
+pub mod Steps
 pub mod Wraps

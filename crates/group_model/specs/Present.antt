@@ -1,5 +1,5 @@
 -- The tree at the present epoch, which knows nothing of older ones.
-use Rattle.std.specs.Prelude.{◌≡◌, ℕ, ◌+◌, ◌^◌, ◌≤◌, List, [], ◌∷◌, ◌++◌, length, map, Option}
+use Rattle.std.specs.Prelude.{◌≡◌, ◌⊎◌, ℕ, ◌+◌, ◌^◌, ◌<◌, ◌≤◌, List, [], ◌∷◌, ◌++◌, length, map, Option, None, Some}
 use Rattle.std.specs.List.{range_with_len}
 use Rattle.group_terms.specs.Names.{Name}
 use Rattle.group_terms.specs.declared.changes.Change.{Change}
@@ -30,6 +30,17 @@ pub record StandsFor (tree : Present) (batches : List (List Change)) : Type 0 wh
   pub sequence : tree.sequence ≡ sequence_at tree.depth batches (length batches)
   pub holders : tree.holders ≡ holders_of tree.depth batches
   pub changes : tree.changes ≡ changes_at tree.depth batches (length batches)
+
+-- a tree after these batches, or none where they are more than a limit, or the number of the last push is past it
+abbrev pub IsTreeWithin : ℕ → List (List Change) → ℕ → Option Present → Type 0
+IsTreeWithin depth batches limit None = (limit < length batches) ⊎ (limit < sequence_at depth batches (length batches))
+IsTreeWithin depth batches limit (Some tree) =
+    (tree.depth ≡ depth) × StandsFor tree batches × (length batches ≤ limit) × (sequence_at depth batches (length batches) ≤ limit)
+
+-- that tree after one batch more, whatever list the tree before it stands for
+abbrev pub IsTreeAfter : Present → List Change → ℕ → Option Present → Type 0
+IsTreeAfter tree batch limit after =
+    (batches : List (List Change)) → StandsFor tree batches → IsTreeWithin tree.depth (batches ++ batch ∷ []) limit after
 
 -- the keys of m at the present epoch, whatever list the tree stands for
 abbrev pub IsPathOf : Present → Name → List KeyName → Type 0

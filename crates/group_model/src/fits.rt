@@ -4,9 +4,11 @@ ghost use Rattle.std.specs.List.{list_any, list_all};
 ghost use Rattle.group_terms.specs.Names.{same_name};
 ghost use Rattle.group_terms.specs.Changes.{member_of};
 ghost use Rattle.group_model.specs.Places.{Fits, holders_of, member_count, leaver, leavers, joiner, joiners, names_once};
+ghost use Rattle.group_model.specs.Private.Seats.{IsIndexOf};
 ghost use Rattle.group_model.specs.Private.Suits.{suits};
 
 use crate::holders::{self, Holder};
+use crate::indexes::NameIndex;
 use crate::{Batch, Change, History, MOST_CHANGES, MemberName, PresentTree};
 
 impl PresentTree {
@@ -15,7 +17,7 @@ impl PresentTree {
     pub fn fits(&self, batch: &Batch) -> bool
         ensures { IsTrue result ↔ Fits self.now.holders batch.now }
     {
-        fits(self.tree.holders.as_slice(), batch.changes())
+        fits(self.tree.holders.as_slice(), &self.index, batch.changes())
     }
 }
 
@@ -26,18 +28,19 @@ impl History {
         ensures { IsTrue result ↔ Fits (holders_of self.now.depth self.now.batches) batch.now }
     {
         match self.holders() {
-            Some(holders) => fits(holders, batch.changes()),
+            Some(holders) => fits(holders, &NameIndex::none(), batch.changes()),
             None => fits_first(self.leaves(), batch.changes()),
         }
     }
 }
 
 /// The same of a tree with these holders.
-fn fits(holders: &[Holder], changes: &[Change]) -> bool
-    requires { length changes.now ≤ MOST_CHANGES }
+fn fits(holders: &[Holder], index: &NameIndex, changes: &[Change]) -> bool
+    requires few { length changes.now ≤ MOST_CHANGES }
+    requires index { IsIndexOf holders.now index.now }
     ensures { IsTrue result ↔ Fits holders.now changes.now }
 {
-    all_suit(holders, changes) && are_named_once(changes) && have_room(holders, changes)
+    all_suit(holders, index, changes) && are_named_once(changes) && have_room(holders, changes)
 }
 
 /// Whether a batch can be the first of a tree: nobody goes out, no name comes twice, and the tree has a leaf for each.
@@ -49,18 +52,20 @@ fn fits_first(leaves: usize, changes: &[Change]) -> bool
 }
 
 /// Whether each `Out` names a member, and each `In` somebody who is none.
-fn all_suit(holders: &[Holder], changes: &[Change]) -> bool
+fn all_suit(holders: &[Holder], index: &NameIndex, changes: &[Change]) -> bool
+    requires { IsIndexOf holders.now index.now }
     ensures { result ≡ list_all (suits holders.now) changes.now }
 {
-    changes.iter().all(|change| suits(holders, change))
+    changes.iter().all(|change| suits(holders, index, change))
 }
 
-fn suits(holders: &[Holder], change: &Change) -> bool
+fn suits(holders: &[Holder], index: &NameIndex, change: &Change) -> bool
+    requires { IsIndexOf holders.now index.now }
     ensures { result ≡ suits holders.now change.now }
 {
     match change {
-        Change::Out { member } => holders::has_member(holders, member),
-        Change::In { member } => !holders::has_member(holders, member),
+        Change::Out { member } => index.has(holders, member),
+        Change::In { member } => !index.has(holders, member),
     }
 }
 

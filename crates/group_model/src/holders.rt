@@ -1,7 +1,7 @@
 //! The leaves of a tree and who has them, as a slice by rising leaf.
-ghost use Rattle.std.specs.Prelude.{◌≡◌, ◌≤◌, ◌^◌, ◌&&◌, length, is_some, is_none, IfOk, None, if◌then◌else◌};
+ghost use Rattle.std.specs.Prelude.{◌≡◌, ◌≤◌, ◌^◌, ◌&&◌, length, map, is_some, is_none, IfOk, None, if◌then◌else◌};
 ghost use Rattle.std.specs.List.{position, fold, list_any};
-ghost use Rattle.group_model.specs.Places.{is_held_by, place_in, no_holders, is_member, member_count, vacated, placed, leavers, joiners, holders_after};
+ghost use Rattle.group_model.specs.Places.{is_held_by, no_holders, member_count, vacated, placed, leavers, joiners, holders_after};
 ghost use Rattle.group_model.specs.Fresh.{is_same_holder, changed_leaves};
 ghost use Rattle.group_model.specs.Private.Unchanged.{unchanged_holders};
 
@@ -27,28 +27,22 @@ pub(crate) fn is_held_by(holder: &Holder, member: &MemberName) -> bool
     }
 }
 
-/// The leaf that a member has.
-pub(crate) fn leaf_of(depth: u8, holders: &[Holder], member: &MemberName) -> Option<LkhId>
-    requires not_deep { depth ≤ 9 }
-    requires leaves { length holders.now ≡ 2 ^ depth }
-    ensures { result ≡ place_in depth holders.now member.now }
-{
-    match place_of(holders, member) {
-        Some(place) => LkhId::new((holders.len() + place) as u16),
-        None => None,
-    }
-}
-
-pub(crate) fn has_member(holders: &[Holder], member: &MemberName) -> bool
-    ensures { result ≡ is_member holders.now member.now }
-{
-    holders.iter().any(|holder| is_held_by(holder, member))
-}
-
-fn place_of(holders: &[Holder], member: &MemberName) -> Option<usize>
+pub(crate) fn place_of(holders: &[Holder], member: &MemberName) -> Option<usize>
     ensures { result ≡ position (is_held_by member.now) holders.now }
 {
     holders.iter().position(|holder| is_held_by(holder, member))
+}
+
+/// For each leaf, whether somebody has it.
+pub(crate) fn held(alloc: Global, holders: &[Holder]) -> Result<List<bool>, NoMemory>
+    ensures leaves { IfOk result (λ leaves. leaves ≡ map is_some holders.now) }
+    ensures len { IfOk result (λ leaves. length leaves ≡ length holders.now) }
+{
+    let mut leaves = List::with_room(alloc, holders.len())?;
+    for holder in holders {
+        leaves.push(holder.is_some())?;
+    }
+    Ok(leaves)
 }
 
 pub(crate) fn count_members(holders: &[Holder]) -> usize
@@ -166,7 +160,7 @@ pub(crate) fn held_on(
     Ok(leaves)
 }
 
-fn is_held_on(before: &Holder, after: &Holder) -> bool
+pub(crate) fn is_held_on(before: &Holder, after: &Holder) -> bool
     ensures { result ≡ (is_some after.now && is_same_holder before.now after.now) }
 {
     after.is_some() && is_same(before, after)

@@ -20,12 +20,15 @@ pub use laws::{
 pub use pending::PendingChanges;
 pub use plans::BatchPlan;
 pub use present::PresentTree;
+pub use steps::TreeStep;
 
+mod advances;
 mod entries;
 mod fits;
 mod handovers;
 mod history;
 mod holders;
+mod indexes;
 mod laws;
 mod paths;
 mod pending;
@@ -33,6 +36,8 @@ mod pending;
 mod plan_tests;
 mod plans;
 mod present;
+mod seats;
+mod steps;
 #[cfg(test)]
 mod test_texts;
 #[cfg(test)]

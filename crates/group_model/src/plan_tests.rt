@@ -33,6 +33,39 @@ fn plans_put_out_what_their_batch_makes(rt: HostRuntime) -> Result<(), Fail> {
     Ok(())
 }
 
+/// A tree goes on by steps, each of which says for which keys values are drawn, and none goes past a limit.
+#[test]
+fn steps_make_what_their_batch_makes(rt: HostRuntime) -> Result<(), Fail> {
+    let alloc = rt.alloc();
+    let mut tree = PresentTree::new(alloc, 2)?;
+    for (outs, ins, want_step, want_tree) in [
+        (
+            "",
+            "abc",
+            "1 sequence 0 drawn 1 2 3 4 5 6",
+            "epoch 1 sequence 0 members 3 of 4 at 4 5 6 - last 1 1 1 1 1 1 - -",
+        ),
+        (
+            "b",
+            "",
+            "2 sequence 2 drawn 1 2",
+            "epoch 2 sequence 2 members 2 of 4 at 4 - 6 - last 2 2 1 1 2 1 - -",
+        ),
+        (
+            "",
+            "",
+            "past the limit",
+            "epoch 2 sequence 2 members 2 of 4 at 4 - 6 - last 2 2 1 1 2 1 - -",
+        ),
+    ] {
+        let text = go_on(&rt, alloc, &mut tree, outs, ins)?;
+        assert_eq!(rt; text.as_str(), want_step);
+        let text = tree_text(alloc, &tree)?;
+        assert_eq!(rt; text.as_str(), want_tree);
+    }
+    Ok(())
+}
+
 #[test]
 fn changes_wait_in_their_order(rt: HostRuntime) -> Result<(), Fail> {
     let mut pending = PendingChanges::new();
@@ -81,6 +114,29 @@ fn close(
     assert!(rt; tree.sequence() < u32::MAX - 1);
     let plan = tree.plan(alloc, &batch)?;
     Ok(tree.commit(plan))
+}
+
+/// Takes the step of a batch, with a limit of 3, and says what it is.
+fn go_on(
+    rt: &impl Abort,
+    alloc: Global,
+    tree: &mut PresentTree,
+    outs: &str,
+    ins: &str,
+) -> Result<String, Fail> {
+    let batch = batch_of(rt, outs, ins)?;
+    assert!(rt; tree.fits(&batch));
+    let mut text = String::new(alloc);
+    let Some(step) = tree.step(alloc, &batch, 3)? else {
+        text.push_str("past the limit")?;
+        return Ok(text);
+    };
+    write!(text, "{} sequence {} drawn", step.epoch(), step.sequence())?;
+    for id in step.drawn() {
+        push_number(&mut text, Some(u32::from(id.number())))?;
+    }
+    tree.advance(step);
+    Ok(text)
 }
 
 /// What a batch puts out, in one line.

@@ -5,10 +5,12 @@ ghost use Rattle.group_model.specs.Wraps.{is_nil};
 ghost use Rattle.group_model.specs.Present.{IsPlanOf};
 ghost use Rattle.group_model.specs.Private.Presents.{sent_in, all_sent};
 
+use crate::indexes::NameIndex;
 use crate::{
     Batch, Change, KeyName, List, MemberName, NoMemory, Output, PresentTree, SentReply, SymReply,
-    Wrap,
+    Wrap, holders,
 };
+use group_terms::LeafMarks;
 use std::alloc::Global;
 use std::marker::Model;
 
@@ -39,11 +41,14 @@ impl PresentTree {
         let tree = self.tree.after(alloc, self.depth, batch.changes(), epoch)?;
         let wraps = tree.wraps(alloc, self.depth, &self.tree, epoch)?;
         let sequence = sequence_after(self.sequence, &wraps);
+        let held = holders::held(alloc, tree.holders.as_slice())?;
         let next = PresentTree {
             depth: self.depth,
             epoch,
             sequence,
+            held: LeafMarks::of(alloc, self.depth, held.as_slice())?,
             tree,
+            index: NameIndex::none(),
         };
         let replies = next.replies(alloc, batch.changes())?;
         let output = Output {

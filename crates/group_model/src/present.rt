@@ -3,8 +3,10 @@ ghost use Rattle.std.specs.Prelude.{◌≡◌, ◌+◌, ◌^◌, ◌<◌, ◌≤
 ghost use Rattle.group_model.specs.Places.{place_in, is_member, member_count};
 ghost use Rattle.group_model.specs.Present.{StandsFor};
 
+use crate::indexes::NameIndex;
 use crate::trees::Tree;
 use crate::{LkhId, MemberName, NoMemory, holders};
+use group_terms::LeafMarks;
 use std::alloc::Global;
 use std::marker::Model;
 
@@ -17,6 +19,9 @@ pub struct PresentTree {
     pub(crate) epoch: u32,
     pub(crate) sequence: u32,
     pub(crate) tree: Tree,
+    /// The leaves that somebody has.
+    pub(crate) held: LeafMarks,
+    pub(crate) index: NameIndex,
 }
 
 impl Model for PresentTree {
@@ -34,7 +39,7 @@ impl Model for PresentTree {
       changes = present.tree.made;
     } };
 
-    ghost invariant = { λ present. IsPresent present.depth present.tree };
+    ghost invariant = { λ present. IsPresent present.depth present.tree present.held present.index };
 }
 
 impl PresentTree {
@@ -46,11 +51,15 @@ impl PresentTree {
         ensures empty { IfOk result (λ tree. StandsFor tree []) }
     {
         let tree = Tree::empty(alloc, depth)?;
+        let held = LeafMarks::none(alloc, depth)?;
+        let index = NameIndex::new(alloc, held.count())?;
         Ok(PresentTree {
             depth,
             epoch: 0,
             sequence: 0,
             tree,
+            held,
+            index,
         })
     }
 
@@ -99,7 +108,8 @@ impl PresentTree {
         ensures place { result ≡ place_in self.now.depth self.now.holders member.now }
         ensures leaf { IfSome result (λ leaf. (2 ^ self.now.depth ≤ leaf) × (leaf < 2 ^ (self.now.depth + 1))) }
     {
-        holders::leaf_of(self.depth, self.tree.holders.as_slice(), member)
+        self.index
+            .leaf(self.depth, self.tree.holders.as_slice(), member)
     }
 
     /// Whether somebody of this name is a member.
@@ -107,7 +117,7 @@ impl PresentTree {
         ensures member { result ≡ is_member self.now.holders member.now }
         ensures each { length self.now.holders ≡ 2 ^ self.now.depth }
     {
-        holders::has_member(self.tree.holders.as_slice(), member)
+        self.index.has(self.tree.holders.as_slice(), member)
     }
 
     /// The last epoch at which a position was given a new key; `None` where there was none, and only there.

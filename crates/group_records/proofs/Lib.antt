@@ -1,2 +1,3 @@
+pub mod HighLemmas
 pub mod ManyLemmas
 pub mod WrittenLemmas

@@ -1,5 +1,5 @@
 //! The record of a batch.
-ghost use Rattle.std.specs.Prelude.{◌≡◌, ◌≤◌, ◌++◌, length, IfOk};
+ghost use Rattle.std.specs.Prelude.{◌≡◌, ◌+◌, ◌*◌, ◌≤◌, ◌++◌, length, IfOk};
 ghost use Rattle.gd_wire.specs.Readings.{from_start};
 ghost use Rattle.group_records.specs.Texts.{batch_text};
 ghost use Rattle.group_records.specs.Readings.{batch_record, BatchAnswers};
@@ -66,7 +66,8 @@ pub fn write_batch(
     values: &BatchValues,
 ) -> Result<Octets, NoMemory>
     requires { length values.now.nodes ≤ 65535 }
-    ensures { IfOk result (λ text. text ≡ batch_text batch.now epoch sequence values.now) }
+    ensures octets { IfOk result (λ text. text ≡ batch_text batch.now epoch sequence values.now) }
+    ensures few { IfOk result (λ text. length text ≤ 1153 + 34 * length values.now.nodes) }
 {
     let changes = batch.changes();
     let nodes = values.nodes.as_slice();

@@ -1,5 +1,5 @@
 //! The changes of a batch in its record.
-ghost use Rattle.std.specs.Prelude.{◌≡◌, ◌≤◌, ◌++◌, [], OnOk};
+ghost use Rattle.std.specs.Prelude.{◌≡◌, ◌+◌, ◌*◌, ◌≤◌, ◌++◌, [], length, OnOk};
 ghost use Rattle.gd_wire.specs.Readings.{Gives};
 ghost use Rattle.group_records.specs.Texts.{change_text, changes_text};
 ghost use Rattle.group_records.specs.Readings.{change, many};
@@ -41,7 +41,8 @@ fn change(text: &mut Reader<'_>) -> Result<Change, WireFault>
 
 /// Appends changes.
 pub(crate) fn append_changes(batch: &[Change], out: &mut Octets) -> Result<(), NoMemory>
-    ensures { OnOk result (out.new ≡ out.old ++ changes_text batch.now) }
+    ensures octets { OnOk result (out.new ≡ out.old ++ changes_text batch.now) }
+    ensures few { OnOk result (length out.new ≤ length out.old + 34 * length batch.now) }
 {
     for change in batch {
         append_change(change, out)?;
@@ -50,7 +51,8 @@ pub(crate) fn append_changes(batch: &[Change], out: &mut Octets) -> Result<(), N
 }
 
 fn append_change(change: &Change, out: &mut Octets) -> Result<(), NoMemory>
-    ensures { OnOk result (out.new ≡ out.old ++ change_text change.now) }
+    ensures octets { OnOk result (out.new ≡ out.old ++ change_text change.now) }
+    ensures few { OnOk result (length out.new ≤ length out.old + 34) }
 {
     let kind = match change {
         Change::Out { .. } => OUT,

@@ -1,6 +1,7 @@
 //! The head of a group's journal.
 ghost use Rattle.std.specs.Prelude.{◌≡◌, ◌≤◌, ◌++◌, [], length, IfOk};
 ghost use Rattle.gd_wire.specs.Readings.{Answers, from_start};
+ghost use Rattle.group_records.specs.Fits.{HeadFits};
 ghost use Rattle.group_records.specs.Texts.{head_text};
 ghost use Rattle.group_records.specs.Readings.{head_record};
 
@@ -34,6 +35,7 @@ pub fn read_head(body: &[u8]) -> Result<Head, WireFault>
     ensures shallow { IfOk result (λ head. 1 ≤ head.depth) }
     ensures not_deep { IfOk result (λ head. head.depth ≤ 9) }
     ensures limited { IfOk result (λ head. 1 ≤ head.limit) }
+    ensures fits { IfOk result (λ head. HeadFits head) }
 {
     let mut text = Reader::new(body, 0);
     text.due_octet(HEAD, WireWhat::Value)?;
@@ -61,7 +63,8 @@ pub fn read_head(body: &[u8]) -> Result<Head, WireFault>
 
 /// The record of a head; `NoMemory` where there is none for it.
 pub fn write_head(alloc: Global, head: &Head) -> Result<Octets, NoMemory>
-    ensures { IfOk result (λ text. text ≡ head_text head.now) }
+    ensures octets { IfOk result (λ text. text ≡ head_text head.now) }
+    ensures few { IfOk result (λ text. length text ≤ 56) }
 {
     let mut out = Octets::new(alloc);
     out.extend(&[HEAD, VERSION, head.depth])?;

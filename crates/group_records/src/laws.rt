@@ -1,8 +1,9 @@
-//! What is written is read again.
-ghost use Rattle.std.specs.Prelude.{◌≡◌, ℕ, List, Ok};
-ghost use Rattle.gd_wire.specs.Readings.{from_start, value_of};
+//! What is written is read again, and what holds of what is read.
+ghost use Rattle.std.specs.Prelude.{◌≡◌, ◌≤◌, ℕ, List, Ok};
+ghost use Rattle.gd_wire.specs.Readings.{from_start, octet_at, value_of};
 ghost use Rattle.group_terms.specs.declared.changes.Change.{Change};
 ghost use Rattle.group_terms.specs.declared.values.BatchValues.{BatchValues};
+ghost use Rattle.group_records.specs.declared.batches.Stored.{Stored};
 ghost use Rattle.group_records.specs.declared.heads.Head.{Head};
 ghost use Rattle.group_records.specs.Fits.{HeadFits, BatchFits};
 ghost use Rattle.group_records.specs.Readings.{head_record, batch_record};
@@ -19,3 +20,9 @@ pub fn a_written_record_is_read()
 {
     a_written_field_is_read();
 }
+
+/// A batch that is read has a traffic key whose SPI has its highest bit set.
+pub fn a_read_batch_has_a_high_spi()
+    ensures { (body : List ℕ) (stored : Stored) → value_of (batch_record (from_start 0 body)) ≡ Ok stored →
+        128 ≤ octet_at stored.values.traffic.spi 0 }
+{}

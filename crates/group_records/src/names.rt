@@ -1,5 +1,5 @@
 //! Names in records: how many octets they have, and these.
-ghost use Rattle.std.specs.Prelude.{◌≡◌, ◌∷◌, ◌++◌, OnOk, length, IsTrue, ◌≤◌};
+ghost use Rattle.std.specs.Prelude.{◌≡◌, ◌+◌, ◌∷◌, ◌++◌, OnOk, length, IsTrue, ◌≤◌};
 ghost use Rattle.gd_wire.specs.Readings.{Gives};
 ghost use Rattle.group_records.specs.Texts.{named_text};
 ghost use Rattle.group_records.specs.Readings.{name_size, member_name, group_name};
@@ -50,7 +50,8 @@ pub(crate) fn group_name(text: &mut Reader<'_>) -> Result<GroupName, WireFault>
 /// Appends a name of at most 255 octets.
 pub(crate) fn append_name(name: &[u8], out: &mut Octets) -> Result<(), NoMemory>
     requires { length name.now ≤ 255 }
-    ensures { OnOk result (out.new ≡ out.old ++ named_text name.now) }
+    ensures octets { OnOk result (out.new ≡ out.old ++ named_text name.now) }
+    ensures long { OnOk result (length out.new ≡ length out.old + 1 + length name.now) }
 {
     out.push(name.len() as u8)?;
     out.extend(name)?;

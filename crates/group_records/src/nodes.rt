@@ -1,5 +1,5 @@
 //! The values of a batch in its record.
-ghost use Rattle.std.specs.Prelude.{◌≡◌, ◌++◌, [], length, IfOk, OnOk};
+ghost use Rattle.std.specs.Prelude.{◌≡◌, ◌+◌, ◌*◌, ◌++◌, [], length, IfOk, OnOk};
 ghost use Rattle.gd_wire.specs.Readings.{Gives};
 ghost use Rattle.group_records.specs.Texts.{node_text, nodes_text, traffic_text};
 ghost use Rattle.group_records.specs.Readings.{many, node, traffic, NodesGive};
@@ -62,7 +62,8 @@ pub(crate) fn traffic(text: &mut Reader<'_>) -> Result<TrafficValue, WireFault>
 
 /// Appends values of positions.
 pub(crate) fn append_nodes(nodes: &[Drawn], out: &mut Octets) -> Result<(), NoMemory>
-    ensures { OnOk result (out.new ≡ out.old ++ nodes_text nodes.now) }
+    ensures octets { OnOk result (out.new ≡ out.old ++ nodes_text nodes.now) }
+    ensures long { OnOk result (length out.new ≡ length out.old + 34 * length nodes.now) }
 {
     for node in nodes {
         append_node(node, out)?;
@@ -71,7 +72,8 @@ pub(crate) fn append_nodes(nodes: &[Drawn], out: &mut Octets) -> Result<(), NoMe
 }
 
 fn append_node(node: &Drawn, out: &mut Octets) -> Result<(), NoMemory>
-    ensures { OnOk result (out.new ≡ out.old ++ node_text node.now) }
+    ensures octets { OnOk result (out.new ≡ out.old ++ node_text node.now) }
+    ensures long { OnOk result (length out.new ≡ length out.old + 34) }
 {
     let mut id = [0; 2];
     BigEndian::write_u16(&mut id, node.id.number());
@@ -83,7 +85,8 @@ fn append_node(node: &Drawn, out: &mut Octets) -> Result<(), NoMemory>
 
 /// Appends the value of a traffic key.
 pub(crate) fn append_traffic(traffic: &TrafficValue, out: &mut Octets) -> Result<(), NoMemory>
-    ensures { OnOk result (out.new ≡ out.old ++ traffic_text traffic.now) }
+    ensures octets { OnOk result (out.new ≡ out.old ++ traffic_text traffic.now) }
+    ensures long { OnOk result (length out.new ≡ length out.old + 52) }
 {
     out.extend(&traffic.cipher_key)?;
     out.extend(&traffic.integrity_key)?;

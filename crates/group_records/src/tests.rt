@@ -1,7 +1,9 @@
 //! Records with the octets of another implementation, and records that are refused.
 ghost use Rattle.std.specs.Prelude.{◌≤◌, length};
 
-use crate::{Head, RecordFault, read_batch, read_head, write_batch, write_head};
+use crate::{
+    Head, RecordFault, batch_fits, head_fits, read_batch, read_head, write_batch, write_head,
+};
 use gd_wire::WireFault;
 use group_terms::{Change, List, Octets, WireWhat};
 use std::alloc::Global;
@@ -65,6 +67,7 @@ fn a_head_is_read_and_written(rt: HostRuntime) -> Result<(), Fail> {
     assert_eq!(rt; (head.depth, head.limit), (2, u32::MAX));
     assert_eq!(rt; head.name.text(), b"console".as_slice());
     assert_eq!(rt; &head.spi[..2], [0xad, 0xe0].as_slice());
+    head_fits(&head);
     let again = write_head(rt.alloc(), &head)?;
     assert_eq!(rt; again.as_slice(), body.as_slice());
     Ok(())
@@ -75,6 +78,7 @@ fn a_batch_is_read_and_written(rt: HostRuntime) -> Result<(), Fail> {
     for text in [FIRST, SECOND] {
         let body = octets(rt.alloc(), text)?;
         let stored = read_batch(rt.alloc(), whole(&body))?;
+        batch_fits(&stored.batch, stored.epoch, stored.sequence, &stored.values);
         let again = write_batch(
             rt.alloc(),
             &stored.batch,

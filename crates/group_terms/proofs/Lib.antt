@@ -1,3 +1,4 @@
 pub mod BelowLemmas
+pub mod LeafMarkLemmas
 pub mod MarkLemmas
 pub mod NameLemmas

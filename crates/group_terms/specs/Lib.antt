@@ -1,6 +1,7 @@
 pub mod Changes
 pub mod Faults
 pub mod GroupNames
+pub mod LeafMarks
 pub mod Lends
 pub mod Logs
 pub mod Names

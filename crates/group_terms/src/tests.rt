@@ -1,6 +1,6 @@
 use crate::{
-    Batch, Change, Failed, GroupName, List, Log, MOST_CHANGES, MemberName, NoMemory, Schedule,
-    WireFault, WireWhat, counted_on, marks_above,
+    Batch, Change, Failed, GroupName, LeafMarks, List, Log, MOST_CHANGES, MemberName, NoMemory,
+    Schedule, WireFault, WireWhat, counted_on, marks_above,
 };
 use std::test::Fail;
 
@@ -99,5 +99,24 @@ fn a_schedule_lists_the_calls_that_fail(rt: HostRuntime) -> Result<(), Fail> {
     assert_eq!(rt; schedule.fail(), Failed);
     assert_eq!(rt; (schedule.calls, schedule.faults), (3, 1));
     assert_eq!(rt; counted_on(u64::MAX), u64::MAX);
+    Ok(())
+}
+
+/// A mark set on a leaf is seen from the positions above it, and no more once it is taken off.
+#[test]
+fn marks_follow_their_leaf(rt: HostRuntime) -> Result<(), NoMemory> {
+    let mut marks = LeafMarks::none(rt.alloc(), 2)?;
+    marks.set(2, true);
+    let copy = marks.copy(rt.alloc())?;
+    let seen = [
+        marks.is_below(1),
+        marks.is_below(2),
+        marks.is_below(3),
+        marks.is_below(6),
+    ];
+    assert_eq!(rt; seen, [true, false, true, true]);
+    assert_eq!(rt; copy.lowest_unmarked(), Some(0));
+    marks.set(2, false);
+    assert!(rt; !marks.any() && copy.any() && copy.count() == 4);
     Ok(())
 }

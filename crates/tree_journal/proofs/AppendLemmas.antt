@@ -6,10 +6,10 @@ use Rattle.gd_disk.specs.Disks.{written}
 use Rattle.tree_journal.specs.Crashes.{IsBeforeOrAfter}
 use Rattle.tree_journal.specs.Private.Fronts.{IsFront, Reaches, IsEnd, IsReached, IsLast}
 use Rattle.tree_journal.specs.Private.Gates.{IsGated, gated}
-use Rattle.tree_journal.specs.Records.{records, bodies_from, record_text, records_text, with_front}
-use Rattle.tree_journal.proofs.FrontLemmas.{longer, length-longer, whole_text_at, next_front, reached_file, end_file, length-records_text-append}
+use Rattle.tree_journal.specs.Records.{records, bodies_from, record_text, records_text, with_front, AreRecordsFrom, IsRecordAt}
+use Rattle.tree_journal.proofs.FrontLemmas.{longer, length-longer, whole_text_at, there_with, next_front, next_reached, reached_file, end_file, length-records_text-append}
 use Rattle.tree_journal.proofs.GateLemmas.{written_both}
-use Rattle.tree_journal.proofs.RecordLemmas.{IsWhole, whole_text, closed_read}
+use Rattle.tree_journal.proofs.RecordLemmas.{IsWhole, whole_parts, whole_text, closed_read}
 
 abbrev bodies_of : List (List ℕ) → Result (List (List ℕ)) ℕ → List (List ℕ)
 bodies_of other (Ok bodies) = bodies
@@ -61,6 +61,9 @@ module _ (front : List ℕ) (bodies : List (List ℕ)) (shut : ℕ) (behind body
     | inl one ↦ inr (ap records after.1 ∙ ap (λ (gate : ℕ). records (gated front gate (piece_of body) behind)) one ∙ new_records)
     | inr other ↦ inl (ap records after.1 ∙ front_closed front bodies after.0 _ is other)
   ]
+
+  pub new_there : IsRecordAt (gated front 1 (piece_of body) behind) (length front) body
+  new_there = there_with front bodies (record_text body ++ 0 ∷ more) body whole (gated front 1 (piece_of body) behind) (0 ∷ more) new_text
 
   pub new_end : IsEnd (gated front 1 (piece_of body) behind) (length front + (5 + length body)) (bodies ++ body ∷ [])
   new_end = record {
@@ -124,6 +127,27 @@ module _ (front : List ℕ) (bodies : List (List ℕ)) (shut : ℕ) (behind body
         ∙ drop_at before (later ++ body ∷ []) (length before) refl in
         found.1 ∙ (λ i. Ok (rest i))
 
+  -- records that stood before, from a place that was reached, stand in the new file
+  module _ (file : List ℕ) (text : file ≡ front ++ shut ∷ behind) (x : ℕ) (later : List ℕ) where
+    still_there : (at : ℕ) (before : List (List ℕ)) (next : List ℕ) → Reaches file at before → IsRecordAt file at next
+        → IsRecordAt (front ++ x ∷ later) at next
+    unfolding next_reached still_reached
+    still_there at before next reaches there =
+        let whole_next = whole_parts there.0 next there.2 in
+        let now = still_reached file text (at + (5 + length next)) (before ++ next ∷ []) (next_reached file at before next reaches there) x later in
+        subst (λ (k : ℕ). IsRecordAt (front ++ x ∷ later) k next) (sym reaches.place)
+        (there_with reaches.front before there.0 next whole_next (front ++ x ∷ later) now.rest now.text)
+
+    pub still_stand : (at to : ℕ) (before all : List (List ℕ)) → Reaches file at before → AreRecordsFrom file at all to
+        → AreRecordsFrom (front ++ x ∷ later) at all to
+    still_stand at to before [] reaches here = here
+    still_stand at to before (next ∷ all) reaches (there, rest) =
+        let place : at + (5 + length next) ≡ at + 5 + length next = omega arith in (
+          still_there at before next reaches there,
+          still_stand (at + 5 + length next) to (before ++ next ∷ []) all
+              (subst (λ (k : ℕ). Reaches file k (before ++ next ∷ [])) place (next_reached file at before next reaches there)) rest,
+        )
+
 -- all that an append makes of a file whose closed gate is at a place
 pub record Ready (file : List ℕ) (end : ℕ) (body : List ℕ) : Type 0 where
   pub front : List ℕ
@@ -137,6 +161,9 @@ pub record Ready (file : List ℕ) (end : ℕ) (body : List ℕ) : Type 0 where
   pub doubt : (c : List ℕ) → IsGated front shut (piece_of body) behind c → IsBeforeOrAfter bodies body c
   pub last : IsLast (gated front 1 (piece_of body) behind) (end + (5 + length body))
   pub cursor : (at : ℕ) → IsReached file at → IsReached (gated front 1 (piece_of body) behind) at
+  pub there : IsRecordAt (gated front 1 (piece_of body) behind) end body
+  pub stay : (at to : ℕ) (all : List (List ℕ)) → IsReached file at → AreRecordsFrom file at all to
+      → AreRecordsFrom (gated front 1 (piece_of body) behind) at all to
   pub ahead : (at : ℕ) (later : List (List ℕ)) → IsReached file at → bodies_from file at ≡ Ok later
       → bodies_from (gated front 1 (piece_of body) behind) at ≡ Ok (later ++ body ∷ [])
 
@@ -165,6 +192,9 @@ ready file end body short last =
             (new_end front bodies shut behind body reaches.is last.1.closed short),
       );
       cursor = λ at reached. (reached.0, still_reached front bodies shut behind body reaches.is last.1.closed short file text at reached.0 reached.1 1 _);
+      there = subst (λ (k : ℕ). IsRecordAt (gated front 1 (piece_of body) behind) k body) (sym reaches.place)
+          (new_there front bodies shut behind body reaches.is last.1.closed short);
+      stay = λ at to all reached stand. still_stand front bodies shut behind body reaches.is last.1.closed short file text 1 _ at to reached.0 all reached.1 stand;
       ahead = λ at later reached read. read_on front bodies shut behind body reaches.is last.1.closed short file text at reached.0 reached.1 later read;
     }
 

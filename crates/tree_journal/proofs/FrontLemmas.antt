@@ -4,7 +4,7 @@ use Rattle.std.proofs.lemmas.List.{drop_at, append-nil, drop-drop}
 use Rattle.std.proofs.lemmas.Slice.Eq.{bytes_eq-Decides}
 use Rattle.tree_journal.specs.Private.Fronts.{IsFront, Reaches, IsEnd, IsReached, IsLast}
 use Rattle.tree_journal.specs.Records.{records, records_from, bodies_from, is_named, name_text, record_text, records_text, with_front, IsRecordAt}
-use Rattle.tree_journal.proofs.RecordLemmas.{steps_enough, with_none, with_both, record_read, closed_read, IsWhole, whole_parts, after_whole, length-record_text}
+use Rattle.tree_journal.proofs.RecordLemmas.{steps_enough, with_none, with_both, record_read, closed_read, IsWhole, whole_parts, whole_next, after_whole, length-record_text}
 
 pub length-records_text-append : (bodies more : List (List ℕ)) → length (records_text (bodies ++ more)) ≡ length (records_text bodies) + length (records_text more)
 length-records_text-append [] more = omega arith
@@ -38,6 +38,14 @@ module _ (front : List ℕ) (bodies : List (List ℕ)) (rest body : List ℕ) (w
 
   pub whole_text_at : front ++ 1 ∷ rest ≡ longer ++ whole.more
   whole_text_at = ap (λ (l : List ℕ). front ++ 1 ∷ l) whole.text ∙ sym (longer_text whole.more)
+
+  -- the record is there, whatever comes after it
+  pub there_with : (file tail : List ℕ) → file ≡ longer ++ tail → IsRecordAt file (length front) body
+  there_with file tail text = (
+    whole.head ++ (body ++ tail),
+    ap (λ (l : List ℕ). drop (length front) l) (text ∙ longer_text tail) ∙ drop_at front (1 ∷ (whole.head ++ (body ++ tail))) (length front) refl,
+    whole_next (whole.head ++ (body ++ tail)) body (with_tail rest body whole tail),
+  )
 
   pub next_front : IsFront front bodies → IsFront longer (bodies ++ body ∷ [])
   next_front is = record {
@@ -120,7 +128,7 @@ named_file file is =
     }
 
 -- a place that was reached, and a whole record there
-pub next_reached : (file : List ℕ) (at : ℕ) (bodies : List (List ℕ)) (body : List ℕ) → Reaches file at bodies → IsRecordAt file at body
+unfoldable pub next_reached : (file : List ℕ) (at : ℕ) (bodies : List (List ℕ)) (body : List ℕ) → Reaches file at bodies → IsRecordAt file at body
     → Reaches file (at + (5 + length body)) (bodies ++ body ∷ [])
 next_reached file at bodies body reaches found =
     let whole = whole_parts found.0 body found.2 in
@@ -156,6 +164,10 @@ pub reached_named_file : (file : List ℕ) (at : ℕ) → IsReached file at → 
 unfolding IsReached
 reached_named_file file at reached = reached_named file at reached.0 reached.1
 
+pub reached_begins : (file : List ℕ) (at : ℕ) → IsReached file at → is_named file ≡ true
+unfolding IsReached
+reached_begins file at reached = reached_is_named file at reached.0 reached.1
+
 pub first_is_reached : (file : List ℕ) → is_named file ≡ true → IsReached file 9
 unfolding IsReached
 first_is_reached file is = ([], named_file file is)
@@ -163,6 +175,10 @@ first_is_reached file is = ([], named_file file is)
 pub first_again : (file : List ℕ) (at : ℕ) → IsReached file at → IsReached file 9
 unfolding IsReached
 first_again file at reached = ([], named_file file (reached_is_named file at reached.0 reached.1))
+
+pub last_is_reached : (file : List ℕ) (at : ℕ) → IsLast file at → IsReached file at
+unfolding IsReached IsLast
+last_is_reached file at last = (last.0, last.1.reaches)
 
 pub next_is_reached : (file : List ℕ) (at : ℕ) (body : List ℕ) → IsReached file at → IsRecordAt file at body → IsReached file (at + (5 + length body))
 unfolding IsReached

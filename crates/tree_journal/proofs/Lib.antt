@@ -9,4 +9,5 @@ pub mod GateLemmas
 pub mod GatedMoments
 pub mod HeadLemmas
 pub mod RecordLemmas
+pub mod StandLemmas
 pub mod ViewLemmas

@@ -47,6 +47,11 @@ records_from (suc steps) at (gate ∷ rest) =
 abbrev pub IsRecordAt : List ℕ → ℕ → List ℕ → Type 0
 IsRecordAt file at body = (rest : List ℕ) × (drop at file ≡ 1 ∷ rest) × (body_next rest ≡ Some body)
 
+-- records with these bodies stand one after the other, from one place of a file to another
+abbrev pub AreRecordsFrom : List ℕ → ℕ → List (List ℕ) → ℕ → Type 0
+AreRecordsFrom file from [] to = from ≡ to
+AreRecordsFrom file from (body ∷ bodies) to = IsRecordAt file from body × AreRecordsFrom file (from + 5 + length body) bodies to
+
 -- the bodies of the records from the gate at a place of a file on
 abbrev pub bodies_from : List ℕ → ℕ → Result (List (List ℕ)) ℕ
 bodies_from file at = records_from (length file) at (drop at file)

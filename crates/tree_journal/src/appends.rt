@@ -5,7 +5,7 @@ ghost use Rattle.group_terms.specs.Faults.{Rose};
 ghost use Rattle.gd_disk.specs.Moments.{shown, Keeps, LeavesOnly};
 ghost use Rattle.tree_journal.specs.Crashes.{Opens, IsBeforeOrAfter};
 ghost use Rattle.tree_journal.specs.Private.Fronts.{IsLast, IsReached, Stands};
-ghost use Rattle.tree_journal.specs.Records.{records, record_text, bodies_from};
+ghost use Rattle.tree_journal.specs.Records.{AreRecordsFrom, IsRecordAt, records, record_text, bodies_from, is_named};
 ghost use Rattle.tree_journal.specs.declared.refusals.JournalRefusal.TheVariants.{Closed, DiskFault};
 
 use crate::gates::{SHUT, write_gated};
@@ -22,7 +22,7 @@ impl<D: Disk> Journal<D> {
     /// closed: from then on each call answers `Closed`.
     pub fn append(&mut self, body: &[u8]) -> Result<(), JournalRefusal>
         requires few { length body.now ≤ 65536 }
-        requires walked { IsSome self.old.end }
+        requires walked { self.old.closed ≡ false → IsSome self.old.end }
         ensures ok { (bodies : List (List ℕ)) → Opens (shown D.Disk self.old.disk) bodies →
             OnOk result (Opens (shown D.Disk self.new.disk) (bodies ++ body.now ∷ [])) }
         ensures durable { (bodies : List (List ℕ)) → Opens (shown D.Disk self.old.disk) bodies →
@@ -34,6 +34,11 @@ impl<D: Disk> Journal<D> {
         ensures ahead { (file now : List ℕ) (bodies : List (List ℕ)) → shown D.Disk self.old.disk ≡ Some file →
             shown D.Disk self.new.disk ≡ Some now → bodies_from file self.old.at ≡ Ok bodies →
             OnOk result (bodies_from now self.new.at ≡ Ok (bodies ++ body.now ∷ [])) }
+        ensures before { (file now : List ℕ) (bodies : List (List ℕ)) (to : ℕ) → shown D.Disk self.old.disk ≡ Some file →
+            shown D.Disk self.new.disk ≡ Some now → AreRecordsFrom file 9 bodies to → OnOk result (AreRecordsFrom now 9 bodies to) }
+        ensures there { (file now : List ℕ) (end : ℕ) → shown D.Disk self.old.disk ≡ Some file →
+            shown D.Disk self.new.disk ≡ Some now → self.old.end ≡ Some end → OnOk result (IsRecordAt now end body.now) }
+        ensures named { OnOk result (Knows (shown D.Disk self.new.disk) (λ now. is_named now ≡ true)) }
         ensures octets { (file : List ℕ) (end : ℕ) → shown D.Disk self.old.disk ≡ Some file → self.old.end ≡ Some end →
             OnOk result (shown D.Disk self.new.disk ≡
             Some (written (written file (end + 1) (record_text body.now ++ 0 ∷ [])) end (1 ∷ []))) }
@@ -43,7 +48,7 @@ impl<D: Disk> Journal<D> {
         ensures closes { OnErr result (self.new.closed ≡ true) }
         ensures goes_on { OnOk result (self.new.closed ≡ false) }
         ensures no_other { IfErr result (λ why. (why ≡ Closed) ⊎ (why ≡ DiskFault)) }
-        ensures walked { IsSome self.new.end }
+        ensures walked { IsSome self.old.end → IsSome self.new.end }
         ensures end { (end : ℕ) → self.old.end ≡ Some end →
             self.new.end ≡ Some (if is_err result then end else end + 5 + length body.now) }
         ensures stands { OnOk result (D.faults self.new.disk ≡ D.faults self.old.disk) }
@@ -90,6 +95,11 @@ fn write_record<D: Disk>(
     ensures ahead { (file now : List ℕ) (at : ℕ) (bodies : List (List ℕ)) → IsReached file at →
         shown D.Disk disk.old ≡ Some file → shown D.Disk disk.new ≡ Some now → bodies_from file at ≡ Ok bodies →
         OnOk result (bodies_from now at ≡ Ok (bodies ++ body.now ∷ [])) }
+    ensures before { (file now : List ℕ) (at to : ℕ) (bodies : List (List ℕ)) → IsReached file at →
+        shown D.Disk disk.old ≡ Some file → shown D.Disk disk.new ≡ Some now → AreRecordsFrom file at bodies to →
+        OnOk result (AreRecordsFrom now at bodies to) }
+    ensures there { (file now : List ℕ) → shown D.Disk disk.old ≡ Some file → shown D.Disk disk.new ≡ Some now →
+        OnOk result (IsRecordAt now gate body.now) }
     ensures any_moment { (bodies : List (List ℕ)) → Opens (shown D.Disk disk.old) bodies →
         LeavesOnly D.Disk disk.old disk.new (IsBeforeOrAfter bodies body.now) }
     ensures in_doubt { (bodies : List (List ℕ)) → Opens (shown D.Disk disk.old) bodies →

@@ -1,8 +1,9 @@
 //! A journal and its place on the disk.
-ghost use Rattle.std.specs.Prelude.{◌≡◌, ℕ, List, length, false, Ok, IsSome, IfOk};
+ghost use Rattle.std.specs.Prelude.{◌≡◌, ℕ, List, length, false, true, Some, Ok, IsSome, IfOk};
+ghost use Rattle.std.specs.Option.{unwrap_or};
 ghost use Rattle.gd_disk.specs.Disks.{Knows, Only};
 ghost use Rattle.gd_disk.specs.Moments.{shown, LeavesOnly};
-ghost use Rattle.tree_journal.specs.Records.{records, bodies_from};
+ghost use Rattle.tree_journal.specs.Records.{records, bodies_from, is_named};
 
 use gd_disk::Disk;
 use group_terms::{NoMemory, Octets};
@@ -59,6 +60,15 @@ impl<D: Disk> Journal<D> {
         self.at = FIRST;
     }
 
+    /// Goes on at the closed gate, if that is known, without reading what is before it.
+    pub fn to_end(&mut self)
+        ensures { self.new ≡ record self.old { at = unwrap_or self.old.end self.old.at } }
+    {
+        if let Some(end) = self.end {
+            self.at = end;
+        }
+    }
+
     /// The place of the gate at which reading goes on.
     pub fn place(&self) -> u64
         ensures { result ≡ self.now.at }
@@ -66,12 +76,13 @@ impl<D: Disk> Journal<D> {
         self.at
     }
 
-    /// Says what is known between two calls of a journal that is not closed: a crash leaves what a read gives and nothing else, the records are
-    /// those from the first gate on, and once the closed gate was found the file is a journal.
+    /// Says what is known between two calls of a journal that is not closed: a crash leaves what a read gives and nothing else, the file begins as a
+    /// journal, its records are those from the first gate on, and once the closed gate was found it is a journal.
     pub fn rests(&self)
         ensures durable { self.now.closed ≡ false → Knows (shown D.Disk self.now.disk) (λ file. Only file (D.may_leave self.now.disk)) }
         ensures still { self.now.closed ≡ false → Knows (shown D.Disk self.now.disk)
             (λ file. LeavesOnly D.Disk self.now.disk self.now.disk (λ c. c ≡ file)) }
+        ensures begins { self.now.closed ≡ false → Knows (shown D.Disk self.now.disk) (λ file. is_named file ≡ true) }
         ensures named { self.now.closed ≡ false → Knows (shown D.Disk self.now.disk) (λ file. records file ≡ bodies_from file 9) }
         ensures opens { self.now.closed ≡ false → IsSome self.now.end →
             Knows (shown D.Disk self.now.disk) (λ file. (bodies : List (List ℕ)) × (records file ≡ Ok bodies)) }

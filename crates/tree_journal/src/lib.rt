@@ -3,12 +3,16 @@
 #![tactic(auto)]
 
 pub use journals::Journal;
+pub use laws::{
+    a_journal_breaks_off_further_on, a_record_is_the_next_one, records_are_the_next_ones,
+};
 pub use refusals::{FormatRefusal, JournalRefusal};
 
 mod appends;
 mod formats;
 mod gates;
 mod journals;
+mod laws;
 mod reads;
 mod refusals;
 #[cfg(test)]

@@ -75,12 +75,43 @@ impl<D: Disk> Journal<D> {
         ensures stands { (result ≡ Err DiskFault → ⊥) → D.faults self.new.disk ≡ D.faults self.old.disk }
         ensures keeps { Keeps D.Disk self.old.disk self.new.disk }
     {
+        if !self.peek(alloc, body)? {
+            return Ok(false);
+        }
+        self.pass(body.as_slice());
+        Ok(true)
+    }
+
+    /// The same without going on after the record.
+    pub fn peek(&mut self, alloc: Global, body: &mut Octets) -> Result<bool, JournalRefusal>
+        ensures whole { result ≡ Ok true → Knows (shown D.Disk self.old.disk) (λ file. IsRecordAt file self.old.at body.new) }
+        ensures ended { result ≡ Ok false → Knows (shown D.Disk self.old.disk) (λ file. bodies_from file self.old.at ≡ Ok []) }
+        ensures broken { IfErr result (λ why. (at : ℕ) → why ≡ NotAJournal at →
+            (at ≡ self.old.at) × Knows (shown D.Disk self.old.disk) (λ file. bodies_from file self.old.at ≡ Err at)) }
+        ensures memory { result ≡ Err OutOfMemory → Knows (shown D.Disk self.old.disk)
+            (λ file. (body : List ℕ) × IsRecordAt file self.old.at body) }
+        ensures short { result ≡ Ok true → length body.new ≤ 65536 }
+        ensures near { result ≡ Ok true → self.old.at < 2 ^ 62 }
+        ensures place { self.new.at ≡ self.old.at }
+        ensures kept { (result ≡ Ok true → ⊥) → body.new ≡ body.old }
+        ensures walked { result ≡ Ok false → self.new.end ≡ Some self.old.at }
+        ensures end { (result ≡ Ok false → ⊥) → self.new.end ≡ self.old.end }
+        ensures same { shown D.Disk self.new.disk ≡ shown D.Disk self.old.disk }
+        ensures any_moment { self.old.closed ≡ false → Knows (shown D.Disk self.old.disk)
+            (λ file. LeavesOnly D.Disk self.old.disk self.new.disk (λ c. c ≡ file)) }
+        ensures closed { self.old.closed ≡ true → (result ≡ Err Closed) × (self.new ≡ self.old) }
+        ensures refused { result ≡ Err Closed → self.old.closed ≡ true }
+        ensures cause { result ≡ Err DiskFault → Rose (D.faults self.old.disk) (D.faults self.new.disk) }
+        ensures closes { result ≡ Err DiskFault → self.new.closed ≡ true }
+        ensures goes_on { (result ≡ Err DiskFault → ⊥) → self.new.closed ≡ self.old.closed }
+        ensures stands { (result ≡ Err DiskFault → ⊥) → D.faults self.new.disk ≡ D.faults self.old.disk }
+        ensures keeps { Keeps D.Disk self.old.disk self.new.disk }
+    {
         if self.closed {
             return Err(JournalRefusal::Closed);
         }
         match self.next(alloc)? {
             Found::Record { body: octets } => {
-                self.at += (HEAD + octets.len()) as u64;
                 *body = octets;
                 Ok(true)
             }
@@ -90,6 +121,18 @@ impl<D: Disk> Journal<D> {
             }
             Found::Nothing => Err(JournalRefusal::NotAJournal { at: self.at }),
         }
+    }
+
+    /// Goes on after the record with this body, which is the next one.
+    pub fn pass(&mut self, body: &[u8])
+        requires there { Knows (shown D.Disk self.old.disk) (λ file. IsRecordAt file self.old.at body.now) }
+        requires near { self.old.at < 2 ^ 62 }
+        requires short { length body.now ≤ 65536 }
+        ensures moved { self.new ≡ record self.old { at = self.old.at + 5 + length body.now } }
+        ensures ahead { Knows (shown D.Disk self.old.disk)
+            (λ file. bodies_from file self.old.at ≡ with_front (body.now ∷ []) (bodies_from file (self.old.at + 5 + length body.now))) }
+    {
+        self.at += (HEAD + body.len()) as u64;
     }
 
     /// What stands at the place where reading goes on, which stays.

@@ -2,7 +2,7 @@ use Rattle.std.proofs.Common.{◌≡◌, ◌∙◌, ℕ, List, Some, sym, ap, su
 use Rattle.gd_disk.specs.Disks.{Only}
 use Rattle.gd_disk.specs.MomentLaws.{weaker}
 use Rattle.tree_journal.specs.Crashes.{IsBeforeOrAfter}
-use Rattle.tree_journal.specs.Records.{bodies_from}
+use Rattle.tree_journal.specs.Records.{AreRecordsFrom, IsRecordAt, bodies_from}
 use Rattle.tree_journal.proofs.AnswerLemmas.{on_err}
 use Rattle.tree_journal.proofs.AppendLemmas.{ready, after_all, new_file, new_bodies, in_file}
 use Rattle.tree_journal.proofs.AppendStands.{new_stands}
@@ -49,6 +49,18 @@ returns-clause-ahead g c file now at bodies reached is new read =
     let made = ready file c.args.gate c.args.body.now c.requires.few (c.requires.last file is) in
     let text : _ ≡ now = cc (c.in_ok-write_gated.ensures.done file is ∙ ap Some (new_file file c.args.gate c.args.body.now made _ c.put_together.ensures.text), new) in
     ap (λ (l : List ℕ). bodies_from l at) (sym text) ∙ made.ahead at bodies reached read
+
+pub returns-clause-before : goal.returns-clause-before
+returns-clause-before g c file now at to bodies reached is new stand =
+    let made = ready file c.args.gate c.args.body.now c.requires.few (c.requires.last file is) in
+    let text : _ ≡ now = cc (c.in_ok-write_gated.ensures.done file is ∙ ap Some (new_file file c.args.gate c.args.body.now made _ c.put_together.ensures.text), new) in
+    subst (λ (l : List ℕ). AreRecordsFrom l at bodies to) text (made.stay at to bodies reached stand)
+
+pub returns-clause-there : goal.returns-clause-there
+returns-clause-there g c file now is new =
+    let made = ready file c.args.gate c.args.body.now c.requires.few (c.requires.last file is) in
+    let text : _ ≡ now = cc (c.in_ok-write_gated.ensures.done file is ∙ ap Some (new_file file c.args.gate c.args.body.now made _ c.put_together.ensures.text), new) in
+    subst (λ (l : List ℕ). IsRecordAt l c.args.gate c.args.body.now) text made.there
 
 pub returns-clause-stands : goal.returns-clause-stands
 returns-clause-stands g c at reached =

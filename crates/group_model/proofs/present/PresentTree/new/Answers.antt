@@ -1,5 +1,23 @@
+use Rattle.std.proofs.Common.{◌∙◌, ◌^◌, ◌+◌, None, map, sym, ap, subst, length}
+use Rattle.std.specs.Prelude.{is_some}
+use Rattle.std.proofs.lemmas.List.{length-replicate}
+use Rattle.group_model.specs.Places.{Holders}
+use Rattle.group_model.specs.Private.Seats.{IsIndexOf}
 use Rattle.group_model.proofs.PlanLemmas.{StandsFor-first}
+use Rattle.group_model.proofs.SeatLemmas.{nobody_held}
 use Rattle.group_model.proofs.present.PresentTree.new.Goals as goal
+
+pub invariant_of-result : goal.invariant_of-result
+invariant_of-result c = record {
+  shallow = c.requires.shallow;
+  not_deep = c.requires.not_deep;
+  shape = record {
+    leaves = ap length c.in_ok-tree.ensures.holders ∙ length-replicate (2 ^ c.args.depth) None;
+    positions = ap length c.in_ok-tree.ensures.made ∙ length-replicate (2 ^ (c.args.depth + 1)) None;
+  };
+  marked = c.in_ok-held.ensures ∙ (λ i. record { depth = c.args.depth; leaves = (sym (nobody_held (2 ^ c.args.depth)) ∙ ap (map is_some) (sym c.in_ok-tree.ensures.holders)) i });
+  indexed = subst (λ (holders : Holders). IsIndexOf holders c.in_ok-index.index) (sym c.in_ok-tree.ensures.holders) (c.in_ok-index.ensures (2 ^ c.args.depth));
+}
 
 pub returns-clause-empty : goal.returns-clause-empty
 returns-clause-empty c = StandsFor-first c.args.depth c.in_ok-tree.tree c.in_ok-tree.ensures.holders c.in_ok-tree.ensures.made

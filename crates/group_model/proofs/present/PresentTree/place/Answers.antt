@@ -8,6 +8,6 @@ pub returns-clause-leaf : goal.returns-clause-leaf
 returns-clause-leaf c =
     let holders = c.as_slice.result.now in
     let whole : length holders ≡ 2 ^ c.self.inside.depth = ap length c.as_slice.ensures ∙ c.self.invariant.shape.leaves in
-    each_is_leaf c.args.self.now.depth c.args.member.now c.leaf_of.result holders
+    each_is_leaf c.args.self.now.depth c.args.member.now c.leaf.result holders
     (subst (λ (tree : Present). length holders ≡ 2 ^ tree.depth) c.self.view_is whole)
-    (subst (λ (tree : Present). c.leaf_of.result ≡ place_in tree.depth holders c.args.member.now) c.self.view_is c.leaf_of.ensures)
+    (subst (λ (tree : Present). c.leaf.result ≡ place_in tree.depth holders c.args.member.now) c.self.view_is c.leaf.ensures)

@@ -1,62 +1,15 @@
-use Rattle.std.proofs.Common.{◌≡◌, ◌∙◌, inl, inr, ℕ, ◌+◌, ◌<◌, ◌^◌, [], ◌∷◌, sym, ap, subst, arith}
-use Rattle.std.proofs.lemmas.Bool.{cases_lt}
-use Rattle.gd_disk.specs.Moments.{shown}
-use Rattle.tree_journal.specs.Private.Found.{IsFound, IsShutAt}
-use Rattle.tree_journal.specs.Private.Fronts.{Stands}
-use Rattle.tree_journal.specs.Records.{IsRecordAt, bodies_from, with_front}
+use Rattle.std.proofs.Common.{◌≡◌, ◌∙◌, ℕ, ◌+◌, List, [], ◌∷◌, length, Ok, ap, arith}
+use Rattle.tree_journal.specs.Records.{bodies_from, with_front}
 use Rattle.tree_journal.specs.Views.{View}
 use Rattle.tree_journal.proofs.FrontLemmas.{found_read}
-use Rattle.tree_journal.proofs.ViewLemmas.{moved, ended}
 use Rattle.tree_journal.proofs.journals.Journal.read_next.Goals as goal
 
-pub invariant_of-self : goal.invariant_of-self
-invariant_of-self g c =
-    let inside = c.self-2.inside in
-    let now = c.args.self.now in
-    let next = c.in_ok-octets.ensures in
-    let octets = c.in-Record.octets in
-    let at : inside.at ≡ now.at = ap (λ (journal : View g.row.D.Denot). journal.at) (c.self-2.view_is ∙ next.ok (λ no. cc no)) in
-    let disk : inside.disk ≡ c.next.new.self.disk = ap (λ (journal : View g.row.D.Denot). journal.disk) c.self-2.view_is in
-    let shows : shown g.D.Disk inside.disk ≡ shown g.D.Disk now.disk = ap (shown g.D.Disk) disk ∙ next.same in
-    let near : now.at < 2 ^ 62 = elim (cases_lt now.at (2 ^ 62)) [
-      | inl less ↦ less
-      | inr far ↦ absurd (cc (next.far far, c.in-Record.is))
-    ] in
-    let short = next.short octets c.in-Record.is in (
-      c.self-2.invariant.0,
-      omega (arith, at, near, short, c.len.ensures),
-      c.self-2.invariant.2,
-      λ goes.
-          let stands = moved g.D.Disk inside.disk inside.at inside.end (c.self-2.invariant.3 goes) octets (λ file is.
-          subst (λ (k : ℕ). IsRecordAt file k octets) (sym at) (subst (IsFound file now.at) c.in-Record.is (next.found file (sym shows ∙ is)))) in
-          subst (λ (n : ℕ). Stands g.D.Disk inside.disk (inside.at + (5 + n)) inside.end) (sym c.len.ensures) stands,
-    )
-
-pub invariant_of-self-in-End : goal.invariant_of-self-in-End
-invariant_of-self-in-End g c =
-    let inside = c.self-2.inside in
-    let now = c.args.self.now in
-    let next = c.in_ok-octets.ensures in
-    let at : inside.at ≡ now.at = ap (λ (journal : View g.row.D.Denot). journal.at) (c.self-2.view_is ∙ next.ok (λ no. cc no)) in
-    let disk : inside.disk ≡ c.next.new.self.disk = ap (λ (journal : View g.row.D.Denot). journal.disk) c.self-2.view_is in
-    let shows : shown g.D.Disk inside.disk ≡ shown g.D.Disk now.disk = ap (shown g.D.Disk) disk ∙ next.same in
-    let near : now.at < 2 ^ 62 = elim (cases_lt now.at (2 ^ 62)) [
-      | inl less ↦ less
-      | inr far ↦ absurd (cc (next.far far, c.in-End.is))
-    ] in (
-      c.self-2.invariant.0,
-      c.self-2.invariant.1,
-      omega (arith, at, near),
-      λ goes. ended g.D.Disk inside.disk inside.at inside.end (c.self-2.invariant.3 goes) (λ file is.
-          subst (λ (k : ℕ). IsShutAt file k) (sym at) (subst (IsFound file now.at) c.in-End.is (next.found file (sym shows ∙ is)))),
-    )
-
-pub returns-in-Record-clause-ahead : goal.returns-in-Record-clause-ahead
-returns-in-Record-clause-ahead g c said file is =
-    let now = c.args.self.now in
-    let next = c.in_ok-octets.ensures in
-    let octets = c.in-Record.octets in
-    let at : c.self-2.inside.at ≡ now.at = ap (λ (journal : View g.row.D.Denot). journal.at) (c.self-2.view_is ∙ next.ok (λ no. cc no)) in
-    let found : IsRecordAt file now.at octets = subst (IsFound file now.at) c.in-Record.is (next.found file is) in
-    found_read file now.at octets found
-    ∙ (λ i. with_front (octets ∷ []) (bodies_from file (sym at i + (5 + sym c.len.ensures i))))
+pub returns-clause-ahead : goal.returns-clause-ahead
+returns-clause-ahead g c said file is =
+    let at = c.args.self.now.at in
+    let body : List ℕ = c.peek.new.body in
+    let peeked = c.in_ok-peek.ensures in
+    let passed : c.pass.new.self.at ≡ c.peek.new.self.at + 5 + length c.as_slice.result.now = ap (λ (journal : View g.row.D.Denot). journal.at) c.pass.ensures.moved in
+    let place : at + (5 + length body) ≡ c.pass.new.self.at = omega (arith, passed, peeked.place, ap length c.as_slice.ensures) in
+    found_read file at body (peeked.whole (λ i. Ok (c.if-not-branch.false i)) file is)
+    ∙ ap (λ (k : ℕ). with_front (body ∷ []) (bodies_from file k)) place

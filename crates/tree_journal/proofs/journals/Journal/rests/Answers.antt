@@ -2,7 +2,7 @@ use Rattle.std.proofs.Common.{◌≡◌, false, subst}
 use Rattle.gd_disk.specs.MomentLaws.{started}
 use Rattle.tree_journal.specs.Private.Fronts.{Stands}
 use Rattle.tree_journal.specs.Views.{View}
-use Rattle.tree_journal.proofs.FrontLemmas.{end_opens, reached_named_file}
+use Rattle.tree_journal.proofs.FrontLemmas.{end_opens, reached_begins, reached_named_file}
 use Rattle.tree_journal.proofs.journals.Journal.rests.Goals as goal
 
 pub returns-clause-durable : goal.returns-clause-durable
@@ -15,6 +15,12 @@ returns-clause-still g c goes file is =
     let P : View g.row.D.Denot → Type 0 = λ journal. journal.closed ≡ false → Stands g.D.Disk journal.disk journal.at journal.end in
     let stands = subst P c.self.view_is c.self.invariant.3 goes in
     started g.D.Disk c.args.self.now.disk (λ k. k ≡ file) (g.met.D.Disk.only_now c.args.self.now.disk) (stands.durable file is)
+
+pub returns-clause-begins : goal.returns-clause-begins
+returns-clause-begins g c goes file is =
+    let P : View g.row.D.Denot → Type 0 = λ journal. journal.closed ≡ false → Stands g.D.Disk journal.disk journal.at journal.end in
+    let stands = subst P c.self.view_is c.self.invariant.3 goes in
+    reached_begins file _ (stands.read file is)
 
 pub returns-clause-named : goal.returns-clause-named
 returns-clause-named g c goes file is =

@@ -1,0 +1,136 @@
+//! Leaves that change hands with a batch.
+ghost use Rattle.std.specs.Prelude.{◌≡◌, ◌^◌, ◌<◌, ◌≤◌, [], ◌∷◌, ◌++◌, length, map, is_some, IfOk, OnOk};
+ghost use Rattle.std.specs.List.{fold};
+ghost use Rattle.group_model.specs.Places.{Holders, placed, leavers, leaver, joiners};
+ghost use Rattle.group_model.specs.Private.Seats.{IsIndexOf, vacancies};
+ghost use Rattle.group_model.specs.Steps.{IsSeating, seated};
+
+use crate::holders::{self, Holder};
+use crate::indexes::NameIndex;
+use crate::{Change, List, MemberName, NoMemory};
+use group_terms::LeafMarks;
+use std::alloc::Global;
+
+/// A leaf, and who has it from now on.
+#[derive(Clone, Copy, Debug)]
+pub(crate) struct Seat {
+    /// The lowest leaf has the place 0.
+    pub(crate) place: usize,
+    pub(crate) holder: Holder,
+}
+
+/// The leaves that change hands, one after the other, and the leaves after that.
+#[derive(Debug, Drop)]
+pub(crate) struct Seating {
+    pub(crate) seats: List<Seat>,
+    /// Those that somebody has.
+    pub(crate) held: LeafMarks,
+    /// Those whose holder is another than before.
+    pub(crate) changed: LeafMarks,
+    /// Those that somebody has who had them before.
+    pub(crate) kept: LeafMarks,
+}
+
+impl Seating {
+    /// Nothing changed hands yet. `held` are the leaves that somebody has.
+    pub(crate) fn begin(alloc: Global, depth: u8, held: &LeafMarks) -> Result<Self, NoMemory>
+        requires { depth ≤ 9 }
+        ensures seats { IfOk result (λ seating. seating.seats ≡ []) }
+        ensures seating { IfOk result (λ seating. (before : Holders) → length before ≡ 2 ^ depth →
+            held.now ≡ record { depth = depth; leaves = map is_some before } → IsSeating before seating) }
+        ensures depth { IfOk result (λ seating. seating.held.depth ≡ held.now.depth) }
+    {
+        Ok(Seating {
+            seats: List::new(alloc),
+            held: held.copy(alloc)?,
+            changed: LeafMarks::none(alloc, depth)?,
+            kept: held.copy(alloc)?,
+        })
+    }
+
+    /// A leaf changes hands.
+    fn seat(&mut self, before: &[Holder], place: usize, holder: Holder) -> Result<(), NoMemory>
+        requires place { place < length before.now }
+        requires seating { IsSeating before.now self.old }
+        ensures seats { OnOk result (self.new.seats ≡ self.old.seats ++ record { place = place; holder = holder } ∷ []) }
+        ensures seating { IsSeating before.now self.new }
+        ensures depth { self.new.held.depth ≡ self.old.held.depth }
+    {
+        self.seats.push(Seat { place, holder })?;
+        self.held.set(place, holder.is_some());
+        self.changed
+            .set(place, !holders::is_same(&before[place], &holder));
+        self.kept
+            .set(place, holders::is_held_on(&before[place], &holder));
+        Ok(())
+    }
+
+    /// Those who go out with a batch leave their leaves.
+    pub(crate) fn vacate_all(
+        &mut self,
+        before: &[Holder],
+        index: &NameIndex,
+        batch: &[Change],
+    ) -> Result<(), NoMemory>
+        requires index { IsIndexOf before.now index.now }
+        requires seating { IsSeating before.now self.old }
+        ensures seats { OnOk result (self.new.seats ≡ self.old.seats ++ vacancies before.now (leavers batch.now)) }
+        ensures seating { IsSeating before.now self.new }
+        ensures depth { self.new.held.depth ≡ self.old.held.depth }
+    {
+        for change in batch {
+            self.vacate(before, index, change)?;
+        }
+        Ok(())
+    }
+
+    /// Who goes out with a change leaves its leaf.
+    fn vacate(
+        &mut self,
+        before: &[Holder],
+        index: &NameIndex,
+        change: &Change,
+    ) -> Result<(), NoMemory>
+        requires index { IsIndexOf before.now index.now }
+        requires seating { IsSeating before.now self.old }
+        ensures seats { OnOk result (self.new.seats ≡ self.old.seats ++ vacancies before.now (leavers (change.now ∷ []))) }
+        ensures seating { IsSeating before.now self.new }
+        ensures depth { self.new.held.depth ≡ self.old.held.depth }
+    {
+        let Change::Out { member } = change else {
+            return Ok(());
+        };
+        match index.find(before, member) {
+            Some(place) => self.seat(before, place, None),
+            None => Ok(()),
+        }
+    }
+
+    /// Those who come in with a batch get a leaf each, the lowest free one.
+    pub(crate) fn place_all(&mut self, before: &[Holder], batch: &[Change]) -> Result<(), NoMemory>
+        requires seating { IsSeating before.now self.old }
+        ensures seats { OnOk result (seated before.now self.new.seats ≡ fold placed (seated before.now self.old.seats) (joiners batch.now)) }
+        ensures seating { IsSeating before.now self.new }
+        ensures depth { self.new.held.depth ≡ self.old.held.depth }
+    {
+        for change in batch {
+            if let Change::In { member } = change {
+                self.place(before, member)?;
+            }
+        }
+        Ok(())
+    }
+
+    /// Who comes in gets the lowest free leaf.
+    fn place(&mut self, before: &[Holder], member: &MemberName) -> Result<(), NoMemory>
+        requires seating { IsSeating before.now self.old }
+        ensures seats { OnOk result (seated before.now self.new.seats ≡ placed (seated before.now self.old.seats) member.now) }
+        ensures seating { IsSeating before.now self.new }
+        ensures depth { self.new.held.depth ≡ self.old.held.depth }
+    {
+        match self.held.lowest_unmarked() {
+            Some(place) => self.seat(before, place, Some(*member)),
+            None => Ok(()),
+        }
+    }
+}

@@ -1,0 +1,5 @@
+pub mod GroupLemmas
+pub mod MakeLemmas
+pub mod OneGroup
+pub mod StoreLemmas
+pub mod WalkLemmas

@@ -1,0 +1,6 @@
+use Rattle.std.proofs.Common.{IsSome}
+use Rattle.tree_store.proofs.tests.refusals.journal_of.Given as goal
+
+-- the place of the closed gate is known
+abbrev pub invariant-loop-record : goal.invariant-loop-record
+invariant-loop-record l = IsSome l.journal.end

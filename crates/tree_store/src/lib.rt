@@ -1,0 +1,16 @@
+//! The group on disk: a journal whose records are the head of a group and its batches, each of them due after those before it.
+#![tactic(auto)]
+
+pub use group_records::{Head, Stored};
+pub use laws::a_file_has_one_group;
+pub use stores::TreeStore;
+pub use tree_journal::{FormatRefusal, JournalRefusal};
+
+mod commits;
+mod dues;
+mod laws;
+mod openings;
+mod stores;
+#[cfg(test)]
+mod tests;
+mod walks;

@@ -1,0 +1,174 @@
+//! Making and opening a store.
+ghost use Rattle.std.specs.Prelude.{◌≡◌, ◌⊎◌, ◌≤◌, [], ℕ, List, length, false, None, Some, Err, IfSome, IfNone, IfOk, IfErr, OnOk};
+ghost use Rattle.gd_disk.specs.Disks.{Knows};
+ghost use Rattle.gd_disk.specs.Moments.{shown, Keeps, LeavesOnly};
+ghost use Rattle.group_model.specs.Present.{StandsFor};
+ghost use Rattle.group_records.specs.declared.heads.Head.{Head};
+ghost use Rattle.group_terms.specs.Faults.{Rose};
+ghost use Rattle.tree_journal.specs.Records.{records};
+ghost use Rattle.tree_journal.specs.declared.refusals.JournalRefusal.TheVariants.{Closed, DiskFault, NotAJournal, NoMemory as OutOfMemory};
+ghost use Rattle.tree_store.specs.Groups.{IsHeadOf, HasGroup, IsGroup, IsGroupTo, HasNoHead, MakesGroup};
+ghost use Rattle.tree_store.specs.Views.{store_disk};
+
+use crate::stores::TreeStore;
+use gd_disk::{Disk, a_crash_may_leave_nothing_or_all};
+use group_model::PresentTree;
+use group_records::{Head, a_written_record_is_read, head_fits, read_head, write_head};
+use group_terms::{NoMemory, Octets};
+use std::alloc::Global;
+use tree_journal::{FormatRefusal, Journal, JournalRefusal};
+
+impl<D: Disk> TreeStore<D> {
+    /// Makes the store of a group without a batch on a disk, whatever that held. It gives the disk back where that fails (`DiskFault`), or where
+    /// there is no memory.
+    pub fn create(alloc: Global, disk: D, head: &Head) -> Result<Self, FormatRefusal<D>>
+        requires shallow { 1 ≤ head.now.depth }
+        requires not_deep { head.now.depth ≤ 9 }
+        requires limited { 1 ≤ head.now.limit }
+        ensures made { IfOk result (λ store. Knows (shown D.Disk disk) (λ _. HasGroup (shown D.Disk store.disk) head.now [])) }
+        ensures durable { IfOk result (λ store. Knows (shown D.Disk disk)
+            (λ _. (c : List ℕ) → D.may_leave store.disk c → IsGroup c head.now [])) }
+        ensures moments { Knows (shown D.Disk disk) (λ _. MakesGroup D.Disk head.now disk (store_disk result)) }
+        ensures read { IfOk result (λ store. Knows (shown D.Disk disk)
+            (λ _. Knows (shown D.Disk store.disk) (λ file. IsGroupTo file head.now [] store.at))) }
+        ensures tree { IfOk result (λ store. StandsFor store.tree []) }
+        ensures began { IfOk result (λ store. (store.head ≡ head.now) × (store.closed ≡ false) × (store.end ≡ Some store.at)) }
+        ensures cause { IfErr result (λ refused. refused.why ≡ DiskFault → Rose (D.faults disk) (D.faults refused.disk)) }
+        ensures no_other { IfErr result (λ refused. (refused.why ≡ DiskFault) ⊎ (refused.why ≡ OutOfMemory)) }
+        ensures untouched { IfErr result (λ refused. refused.why ≡ OutOfMemory → refused.disk ≡ disk) }
+        ensures stands { OnOk result (D.faults (store_disk result) ≡ D.faults disk) }
+        ensures faultless { IfErr result (λ refused. (refused.why ≡ DiskFault → ⊥) → D.faults refused.disk ≡ D.faults disk) }
+        ensures keeps { Keeps D.Disk disk (store_disk result) }
+    {
+        a_crash_may_leave_nothing_or_all();
+        let (made, tree) = match begun(alloc, head) {
+            Ok(both) => both,
+            Err(NoMemory) => return Err(no_memory(disk)),
+        };
+        let mut journal = Journal::format(alloc, disk)?;
+        match journal.append(made.as_slice()) {
+            Ok(()) => {
+                journal.to_end();
+                Ok(TreeStore {
+                    journal,
+                    head: *head,
+                    tree,
+                    body: Octets::new(alloc),
+                })
+            }
+            Err(why) => Err(FormatRefusal {
+                why,
+                disk: journal.into_disk(),
+            }),
+        }
+    }
+
+    /// Opens the store on a disk, to be read from its first batch. It gives the disk back where that fails (`DiskFault`), where there is no
+    /// memory, and where the file has no head of a group (`NotAJournal`, at 0 or 9).
+    pub fn open(alloc: Global, disk: D) -> Result<Self, FormatRefusal<D>>
+        ensures read { IfOk result (λ store. Knows (shown D.Disk disk) (λ file. IsGroupTo file store.head [] store.at)) }
+        ensures tree { IfOk result (λ store. StandsFor store.tree []) }
+        ensures began { IfOk result (λ store. (store.closed ≡ false) × (store.end ≡ None)) }
+        ensures broken { IfErr result (λ refused. (at : ℕ) → refused.why ≡ NotAJournal at →
+            ((at ≡ 0) × Knows (shown D.Disk disk) (λ file. records file ≡ Err 0))
+            ⊎ ((at ≡ 9) × Knows (shown D.Disk disk) (λ file. HasNoHead file))) }
+        ensures same { shown D.Disk (store_disk result) ≡ shown D.Disk disk }
+        ensures any_moment { Knows (shown D.Disk disk) (λ _. LeavesOnly D.Disk disk (store_disk result) (D.may_leave disk)) }
+        ensures cause { IfErr result (λ refused. refused.why ≡ DiskFault → Rose (D.faults disk) (D.faults refused.disk)) }
+        ensures no_other { IfErr result (λ refused. refused.why ≡ Closed → ⊥) }
+        ensures stands { OnOk result (D.faults (store_disk result) ≡ D.faults disk) }
+        ensures faultless { IfErr result (λ refused. (refused.why ≡ DiskFault → ⊥) → D.faults refused.disk ≡ D.faults disk) }
+        ensures keeps { Keeps D.Disk disk (store_disk result) }
+    {
+        let mut journal = Journal::open(alloc, disk)?;
+        let mut body = Octets::new(alloc);
+        match read_first(alloc, &mut journal, &mut body) {
+            Ok(head) => match PresentTree::new(alloc, head.depth) {
+                Ok(tree) => Ok(TreeStore {
+                    journal,
+                    head,
+                    tree,
+                    body,
+                }),
+                Err(NoMemory) => Err(no_memory(journal.into_disk())),
+            },
+            Err(why) => Err(FormatRefusal {
+                why,
+                disk: journal.into_disk(),
+            }),
+        }
+    }
+}
+
+/// The record of a head, and the tree of the group before its first batch.
+fn begun(alloc: Global, head: &Head) -> Result<(Octets, PresentTree), NoMemory>
+    requires shallow { 1 ≤ head.now.depth }
+    requires not_deep { head.now.depth ≤ 9 }
+    requires limited { 1 ≤ head.now.limit }
+    ensures made { IfOk result (λ both. IsHeadOf both.0 head.now) }
+    ensures few { IfOk result (λ both. length both.0 ≤ 65536) }
+    ensures depth { IfOk result (λ both. both.1.depth ≡ head.now.depth) }
+    ensures tree { IfOk result (λ both. StandsFor both.1 []) }
+{
+    head_fits(head);
+    a_written_record_is_read();
+    let made = write_head(alloc, head)?;
+    let tree = PresentTree::new(alloc, head.depth)?;
+    Ok((made, tree))
+}
+
+/// Reads the head, which is the first record.
+fn read_first<D: Disk>(
+    alloc: Global,
+    journal: &mut Journal<D>,
+    body: &mut Octets,
+) -> Result<Head, JournalRefusal>
+    requires began { journal.old ≡ record { disk = journal.old.disk; closed = false; at = 9; end = None } }
+    ensures read { IfOk result (λ head. Knows (shown D.Disk journal.old.disk) (λ file. IsGroupTo file head [] journal.new.at)) }
+    ensures shallow { IfOk result (λ head. 1 ≤ head.depth) }
+    ensures not_deep { IfOk result (λ head. head.depth ≤ 9) }
+    ensures limited { IfOk result (λ head. 1 ≤ head.limit) }
+    ensures goes_on { IfOk result (λ _. (journal.new.closed ≡ false) × (journal.new.end ≡ None)) }
+    ensures broken { IfErr result (λ why. (at : ℕ) → why ≡ NotAJournal at →
+        (at ≡ 9) × Knows (shown D.Disk journal.old.disk) (λ file. HasNoHead file)) }
+    ensures same { shown D.Disk journal.new.disk ≡ shown D.Disk journal.old.disk }
+    ensures any_moment { Knows (shown D.Disk journal.old.disk) (λ file. LeavesOnly D.Disk journal.old.disk journal.new.disk (λ c. c ≡ file)) }
+    ensures no_other { IfErr result (λ why. why ≡ Closed → ⊥) }
+    ensures cause { result ≡ Err DiskFault → Rose (D.faults journal.old.disk) (D.faults journal.new.disk) }
+    ensures stands { (result ≡ Err DiskFault → ⊥) → D.faults journal.new.disk ≡ D.faults journal.old.disk }
+    ensures keeps { Keeps D.Disk journal.old.disk journal.new.disk }
+{
+    journal.rests();
+    let at = journal.place();
+    if !journal.read_next(alloc, body)? {
+        return Err(JournalRefusal::NotAJournal { at });
+    }
+    match head_in(body.as_slice()) {
+        Some(head) => Ok(head),
+        None => Err(JournalRefusal::NotAJournal { at }),
+    }
+}
+
+/// The head in a record; `None` where that is none.
+fn head_in(body: &[u8]) -> Option<Head>
+    requires { length body.now ≤ 65536 }
+    ensures read { IfSome result (λ head. IsHeadOf body.now head) }
+    ensures none { IfNone result ((head : Head) → IsHeadOf body.now head → ⊥) }
+    ensures shallow { IfSome result (λ head. 1 ≤ head.depth) }
+    ensures not_deep { IfSome result (λ head. head.depth ≤ 9) }
+    ensures limited { IfSome result (λ head. 1 ≤ head.limit) }
+{
+    match read_head(body) {
+        Ok(head) => Some(head),
+        Err(_) => None,
+    }
+}
+
+fn no_memory<D: Disk>(disk: D) -> FormatRefusal<D>
+    ensures { result ≡ record { why = OutOfMemory; disk = disk } }
+{
+    FormatRefusal {
+        why: JournalRefusal::NoMemory,
+        disk,
+    }
+}

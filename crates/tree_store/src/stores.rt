@@ -1,0 +1,69 @@
+//! A store and what it has read.
+ghost use Rattle.std.specs.Prelude.{◌≡◌, ◌≤◌, false};
+ghost use Rattle.gd_disk.specs.Disks.{Knows, Only};
+ghost use Rattle.gd_disk.specs.Moments.{shown, LeavesOnly};
+
+use gd_disk::Disk;
+use group_model::PresentTree;
+use group_records::Head;
+use group_terms::Octets;
+use std::marker::Model;
+use tree_journal::Journal;
+
+/// The group on a disk.
+#[derive(Debug, Drop)]
+pub struct TreeStore<D: Disk> {
+    pub(crate) journal: Journal<D>,
+    pub(crate) head: Head,
+    /// The tree after the batches that were read.
+    pub(crate) tree: PresentTree,
+    /// Room for a record.
+    pub(crate) body: Octets,
+}
+
+impl<D: Disk> Model for TreeStore<D> {
+    ghost use Rattle.std.specs.Prelude.{◌≡◌, ◌≤◌};
+    ghost use Rattle.tree_store.specs.Views.{View};
+
+    ghost Value = { View D };
+
+    ghost invariant = { λ store. (store.tree.depth ≡ store.head.depth) × (1 ≤ store.head.limit) };
+
+    ghost view = { λ store. record {
+      disk = store.journal.disk;
+      closed = store.journal.closed;
+      at = store.journal.at;
+      end = store.journal.end;
+      head = store.head;
+      tree = store.tree;
+    } };
+}
+
+impl<D: Disk> TreeStore<D> {
+    /// What the group was made with: a tree of depth 1 to 9, and a limit of at least 1.
+    pub fn head(&self) -> Head
+        ensures head { result ≡ self.now.head }
+        ensures shallow { 1 ≤ result.depth }
+        ensures not_deep { result.depth ≤ 9 }
+        ensures limited { 1 ≤ result.limit }
+    {
+        self.tree.depth();
+        self.head
+    }
+
+    /// Says what is known between two calls of a store that is not closed: a crash leaves what a read gives and nothing else.
+    pub fn rests(&self)
+        ensures durable { self.now.closed ≡ false → Knows (shown D.Disk self.now.disk) (λ file. Only file (D.may_leave self.now.disk)) }
+        ensures still { self.now.closed ≡ false → Knows (shown D.Disk self.now.disk)
+            (λ file. LeavesOnly D.Disk self.now.disk self.now.disk (λ c. c ≡ file)) }
+    {
+        self.journal.rests();
+    }
+
+    /// The disk, as it is.
+    pub fn into_disk(self) -> D
+        ensures { result ≡ self.disk }
+    {
+        self.journal.into_disk()
+    }
+}

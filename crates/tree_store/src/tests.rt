@@ -1,0 +1,8 @@
+//! Stores on disks in memory.
+mod calls;
+mod groups;
+mod images;
+mod lists;
+mod numbers;
+mod refusals;
+mod unseen;

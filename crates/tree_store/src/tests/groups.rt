@@ -1,0 +1,194 @@
+//! Groups whose batches are stored, and what is read of them.
+ghost use Rattle.std.specs.Prelude.{◌≡◌, ◌≤◌, length, IsSome, IfOk};
+
+use crate::tests::numbers::Numbers;
+use crate::tests::unseen::UnseenDisk;
+use crate::{Head, JournalRefusal, Stored, TreeStore};
+use gd_disk::MemDisk;
+use group_model::{LkhId, PresentTree};
+use group_terms::{
+    Batch, BatchValues, Change, Drawn, GroupName, List, MOST_CHANGES, MemberName, Octets,
+};
+use std::alloc::Global;
+use std::test::Fail;
+
+/// Why a call refused, if it did.
+pub(crate) type Why = Option<JournalRefusal>;
+
+/// What is read of a disk: the head, the batches, and why no more are, if there was a reason.
+#[derive(Drop)]
+pub(crate) struct Found {
+    pub(crate) head: Option<Head>,
+    pub(crate) list: List<Stored>,
+    pub(crate) why: Why,
+}
+
+pub(crate) fn read_all(alloc: Global, disk: MemDisk) -> Result<Found, Fail> {
+    let mut list = List::new(alloc);
+    let mut store = match TreeStore::open(alloc, disk) {
+        Ok(store) => store,
+        Err(refused) => {
+            return Ok(Found {
+                head: None,
+                list,
+                why: Some(refused.why),
+            });
+        }
+    };
+    let head = Some(store.head());
+    for _ in 0..u64::MAX {
+        match store.next_batch(alloc) {
+            Ok(Some(stored)) => list.push(stored)?,
+            Ok(None) => {
+                return Ok(Found {
+                    head,
+                    list,
+                    why: None,
+                });
+            }
+            Err(why) => {
+                return Ok(Found {
+                    head,
+                    list,
+                    why: Some(why),
+                });
+            }
+        }
+    }
+    Err(Fail::new("it does not end"))
+}
+
+/// The head of a group with a tree of this depth, of 1 to 9.
+pub(crate) fn head_of(depth: u8) -> Result<Head, Fail>
+    ensures { IfOk result (λ head. (head.depth ≡ depth) × (head.limit ≡ 4294967295)) }
+{
+    let Some(name) = GroupName::read(b"console") else {
+        return Err(Fail::new("a name"));
+    };
+    Ok(Head {
+        depth,
+        name,
+        spi: [7; 16],
+        limit: u32::MAX,
+    })
+}
+
+/// A batch, where it fits after those for which a tree stands, with values. The tree goes on by it.
+pub(crate) fn next_of(
+    alloc: Global,
+    tree: &mut PresentTree,
+    batch: Batch,
+    numbers: &mut Numbers,
+) -> Result<Stored, Fail> {
+    if !tree.fits(&batch) {
+        return Err(Fail::new("it does not fit"));
+    }
+    let Some(step) = tree.step(alloc, &batch, u32::MAX)? else {
+        return Err(Fail::new("a limit"));
+    };
+    let stored = Stored {
+        batch,
+        epoch: step.epoch(),
+        sequence: step.sequence(),
+        values: values_of(alloc, step.drawn(), numbers)?,
+    };
+    tree.advance(step);
+    Ok(stored)
+}
+
+/// Values for the keys of these positions.
+fn values_of(alloc: Global, drawn: &[LkhId], numbers: &mut Numbers) -> Result<BatchValues, Fail> {
+    let mut nodes = List::new(alloc);
+    for id in drawn {
+        nodes.push(Drawn {
+            id: *id,
+            value: numbers.node(),
+        })?;
+    }
+    Ok(BatchValues {
+        nodes,
+        traffic: numbers.traffic(),
+    })
+}
+
+/// The batch of these changes, of which there are at most 32.
+pub(crate) fn batch_of(changes: &[Change]) -> Batch {
+    let mut batch = Batch::new();
+    for change in changes {
+        if batch.changes().len() < MOST_CHANGES {
+            batch.push(*change);
+        }
+    }
+    batch
+}
+
+pub(crate) fn named(name: &[u8]) -> Result<MemberName, Fail> {
+    Ok(MemberName::read(name).ok_or("a name")?)
+}
+
+/// Two batches of a group with a tree of depth 2: three members come in, and one goes out.
+pub(crate) fn two_batches(alloc: Global) -> Result<List<Stored>, Fail> {
+    let (a, b, c) = (named(b"a")?, named(b"b")?, named(b"c")?);
+    let joins = batch_of(&[
+        Change::In { member: a },
+        Change::In { member: b },
+        Change::In { member: c },
+    ]);
+    let leaves = batch_of(&[Change::Out { member: b }]);
+    let mut numbers = Numbers::new(1);
+    let mut tree = PresentTree::new(alloc, 2)?;
+    let mut list = List::new(alloc);
+    list.push(next_of(alloc, &mut tree, joins, &mut numbers)?)?;
+    list.push(next_of(alloc, &mut tree, leaves, &mut numbers)?)?;
+    Ok(list)
+}
+
+/// The record of a batch.
+fn record_of(alloc: Global, stored: &Stored) -> Result<Octets, Fail>
+    ensures { IfOk result (λ made. length made ≤ 65536) }
+{
+    if stored.values.nodes.len() > 1023 {
+        return Err(Fail::new("too many values"));
+    }
+    Ok(TreeStore::<UnseenDisk>::make_record(
+        alloc,
+        &stored.batch,
+        stored.epoch,
+        stored.sequence,
+        &stored.values,
+    )?)
+}
+
+/// Makes the record of each batch, and stores it; why that is refused, if it is.
+pub(crate) fn commit_all(
+    alloc: Global,
+    store: &mut TreeStore<UnseenDisk>,
+    list: &[Stored],
+) -> Result<List<Why>, Fail>
+    requires { IsSome store.old.end }
+{
+    let mut whys = List::new(alloc);
+    for stored in list {
+        let made = record_of(alloc, stored)?;
+        whys.push(store.commit(&made).err())?;
+    }
+    Ok(whys)
+}
+
+/// The disk in memory of a store.
+pub(crate) fn disk_of(store: TreeStore<UnseenDisk>) -> MemDisk {
+    store.into_disk().into_disk()
+}
+
+/// Whether lists have the same batches, with the same values.
+pub(crate) fn are_same(list: &[Stored], other: &[Stored]) -> bool {
+    list.len() == other.len() && list.iter().zip(other).all(|(a, b)| is_same(a, b))
+}
+
+fn is_same(stored: &Stored, other: &Stored) -> bool {
+    stored.epoch == other.epoch
+        && stored.sequence == other.sequence
+        && stored.batch.changes() == other.batch.changes()
+        && stored.values.nodes.as_slice() == other.values.nodes.as_slice()
+        && stored.values.traffic == other.values.traffic
+}
