@@ -3,11 +3,12 @@ use Rattle.std.proofs.Common.{◌≡◌, ℕ, ◌^◌, ◌≤◌, false, true, L
 use Rattle.std.proofs.lemmas.Bool.{ne_eqb}
 use Rattle.std.proofs.lemmas.List.{length-append}
 use Rattle.std.proofs.Math.Pow.{pow_mono}
+use Rattle.group_terms.specs.Changes.{is_pending}
 use Rattle.group_terms.specs.Names.{Name}
 use Rattle.group_terms.specs.declared.changes.Change.{Change}
 use Rattle.group_model.specs.declared.entries.Answer.TheVariants.{Queued, Done}
 use Rattle.group_model.specs.Places.{Holders, is_member, Fits}
-use Rattle.group_model.specs.Legal.{is_pending, leaves_taken, answer_to_join, answer_to_leave}
+use Rattle.group_model.specs.Legal.{leaves_taken, answer_to_join, answer_to_leave}
 use Rattle.group_model.specs.Laws.{ChangesAreFew}
 use Rattle.console_run.specs.Private.Held.{HasRoom}
 

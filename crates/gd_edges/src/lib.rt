@@ -1,7 +1,10 @@
 //! The outside that octets come from and go to: what a source and a sink promise, objects in memory that fail at
-//! chosen calls, and std's readers and writers; and who signs and who checks signatures.
+//! chosen calls, and std's readers and writers; who signs and who checks signatures; and where new keys come from.
 #![tactic(auto)]
 
+pub use chacha_draws::ChaChaDraws;
+pub use draw_lists::DrawList;
+pub use draws::Draws;
 pub use group_terms::{Failed, SignKind};
 pub use signatures::SigBytes;
 pub use signers::Signer;
@@ -14,6 +17,9 @@ pub use text_sinks::TextSink;
 pub use text_sources::TextSource;
 pub use verifiers::Verifier;
 
+mod chacha_draws;
+mod draw_lists;
+mod draws;
 mod signatures;
 mod signers;
 mod sinks;

@@ -1,6 +1,6 @@
 use crate::{
-    Failed, SignKind, Signer, Sink, Source, StdSink, StdSource, TestSigner, TestVerifier, TextSink,
-    TextSource, Verifier,
+    ChaChaDraws, DrawList, Draws, Failed, SignKind, Signer, Sink, Source, StdSink, StdSource,
+    TestSigner, TestVerifier, TextSink, TextSource, Verifier,
 };
 use group_terms::List;
 use std::io;
@@ -111,6 +111,47 @@ fn signs_and_checks<S: Signer, V: Verifier>(signer: &S, verifier: &V) -> bool {
     signer.kind() == kind
         && verifier.kind() == kind
         && verifier.check(&DIGEST, signer.sign(&DIGEST).as_slice())
+}
+
+/// The blocks are words of the key streams in RFC 8439, appendix A.1.
+#[test]
+fn draws_of_a_seed_are_words_of_its_key_stream(rt: HostRuntime) {
+    for (seed, stream, place, want) in [
+        (0, 0, 0, 0xade0b876_903df1a0_e56a5d40_28bd8653),
+        (0, 0, 1, 0xb819d2bd_1aed8da0_ccef36a8_c70d778b),
+        (0, 1, 4, 0x2452eb3a_9249f8ec_8d829d9b_ddd4ceb1),
+        (
+            0x00ff000000000000,
+            0,
+            8,
+            0xfb4dd572_4bc42ef1_df922636_327f1394,
+        ),
+    ] {
+        let mut draws = ChaChaDraws::new(seed, stream);
+        pass(&mut draws, place);
+        assert_eq!(rt; draws.place(), place);
+        assert_eq!(rt; u128::from_be_bytes(draws.draw()), want, "at {place}");
+    }
+}
+
+#[test]
+fn listed_draws_come_again_and_again(rt: HostRuntime) -> Result<(), Fail> {
+    let blocks = List::copy_of(rt.alloc(), &[[1; 16], [2; 16]])?;
+    assert!(rt; !blocks.is_empty());
+    let mut draws = DrawList::new(blocks);
+    pass(&mut draws, 1);
+    assert_eq!(rt;
+        (draws.draw(), draws.draw(), draws.place()),
+        ([2; 16], [1; 16], 3)
+    );
+    Ok(())
+}
+
+/// Draws so many blocks and drops them.
+fn pass<D: Draws>(draws: &mut D, blocks: u64) {
+    for _ in 0..blocks {
+        draws.draw();
+    }
 }
 
 const DIGEST: [u8; 32] = [

@@ -16,7 +16,7 @@ use Rattle.group_model.specs.Fresh.{changed_leaves}
 use Rattle.group_model.specs.Present.{Present, StandsFor, IsTreeAfter}
 use Rattle.group_model.specs.Steps.{IsSeating, IsStepOf, seated}
 use Rattle.group_model.specs.Wraps.{is_nil}
-use Rattle.group_model.specs.Private.Draws.{drawn_by}
+use Rattle.group_model.specs.Private.Draws.{fresh_by, drawn_by}
 use Rattle.group_model.specs.Private.Seats.{AreOnce}
 use Rattle.group_model.specs.Private.Trees.{renewed, wraps_between}
 use Rattle.group_model.specs.Private.Unchanged.{unchanged_holders}
@@ -104,10 +104,10 @@ module _ (was : Present) (batch : List Change) (seating : Seating) (stayed : Boo
   none_past is batches stands = none_within was batch next stayed limit fits (next_held batches stands) next_made next_stays is batches stands
 
   pub some_step : seating.held.depth ≡ was.depth → (given : ℕ) → Some given ≡ cond (leb (was.sequence + cond stayed 2 0) limit) (Some (was.sequence + cond stayed 2 0)) None
-      → was.epoch < limit → (drawn : List ℕ) → drawn ≡ drawn_by seating
-      → IsStepOf was batch limit (record { epoch = was.epoch + 1; sequence = given; seating = seating; drawn = drawn })
-  some_step depth given is early drawn drawn_is = record {
-    ready = (seats, depth);
+      → was.epoch < limit → (fresh drawn : List ℕ) → fresh ≡ fresh_by seating → drawn ≡ drawn_by seating
+      → IsStepOf was batch limit (record { epoch = was.epoch + 1; sequence = given; seating = seating; fresh = fresh; drawn = drawn })
+  some_step depth given is early fresh drawn fresh_is drawn_is = record {
+    ready = (seats, depth, fresh_is);
     next = λ batches stands. some_within was batch next stayed limit fits (next_held batches stands) next_made next_stays given is early batches stands;
     epoch = refl;
     drawn = λ batches stands.

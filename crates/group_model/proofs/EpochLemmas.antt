@@ -11,10 +11,11 @@ use Rattle.std.proofs.lemmas.List.Folds.{prefix_len-replicate}
 use Rattle.std.proofs.lemmas.Slice.Zip.{length-zip}
 use Rattle.std.proofs.lemmas.Grind.{pow_more}
 use Rattle.std.proofs.Math.Pow.{pow_pos}
+use Rattle.group_terms.specs.Changes.{leavers, joiners}
 use Rattle.group_terms.specs.Names.{Name}
 use Rattle.group_terms.specs.Positions.{is_below, some_leaf_below}
 use Rattle.group_terms.specs.declared.changes.Change.{Change}
-use Rattle.group_model.specs.Places.{Holders, no_holders, is_held_by, is_member, place_in, vacated, placed, leavers, joiners, holders_after, holders_of, holders_at, Fits, FitInTurn}
+use Rattle.group_model.specs.Places.{Holders, no_holders, is_held_by, is_member, place_in, vacated, placed, holders_after, holders_of, holders_at, Fits, FitInTurn}
 use Rattle.group_model.specs.Fresh.{is_same_holder, changed_leaves, is_fresh, last_change}
 use Rattle.group_model.specs.Private.Trees.{is_made_in, StandsAt, HasShape}
 use Rattle.group_model.specs.Present.{changes_at}

@@ -8,10 +8,10 @@ use Rattle.std.proofs.lemmas.List.{at_drop_more, take_rest, length-replicate, ni
 use Rattle.std.proofs.lemmas.List.Folds.{list_any_none}
 use Rattle.std.proofs.lemmas.Grind.{common_steps}
 use Rattle.group_terms.specs.Names.{Name, same_name}
-use Rattle.group_terms.specs.Changes.{member_of}
+use Rattle.group_terms.specs.Changes.{member_of, leavers, joiners}
 use Rattle.group_terms.specs.declared.changes.Change.{Change}
 use Rattle.group_terms.specs.declared.changes.Change.TheVariants.{Out, In}
-use Rattle.group_model.specs.Places.{Holders, no_holders, Fits, is_held_by, is_member, place_in, member_count, leavers, joiners, names_once}
+use Rattle.group_model.specs.Places.{Holders, no_holders, Fits, is_held_by, is_member, place_in, member_count, names_once}
 use Rattle.group_model.specs.Private.Suits.{suits}
 use Rattle.group_model.proofs.EpochLemmas.{is_member-no_holders}
 use Rattle.group_model.proofs.QueueLemmas.{leavers_few, length-changes}
@@ -76,10 +76,12 @@ Fits-from_tests holders batch suit once room =
     strangers false h = refl
 
 -- where the tests before it pass, the last one tells
-pub Fits-last_test : (holders : Holders) (changes batch : List Change) (suit once room : Bool) → changes ≡ batch → suit ≡ list_all (suits holders) changes → suit ≡ true → once ≡ names_once (map member_of changes) → once ≡ true → Decides room (member_count holders + length (joiners changes) ≤ length holders + length (leavers changes)) → Decides room (Fits holders batch)
-Fits-last_test holders changes batch suit once room same suit_is suits_all once_is names_all room_is =
-    subst (λ list. Decides room (Fits holders list)) same
-    (λ passes. Fits-from_tests holders changes (sym suit_is ∙ suits_all) (sym once_is ∙ names_all) (room_is.0 passes), λ fits. room_is.1 fits.room)
+pub Fits-last_test : (holders : Holders) (changes batch : List Change) (suit once room : Bool) → changes ≡ batch → suit ≡ list_all (suits holders) changes → suit ≡ true → once ≡ names_once (map member_of changes) → once ≡ true → Decides room (member_count holders + length (joiners batch) ≤ length holders + length (leavers batch)) → Decides room (Fits holders batch)
+Fits-last_test holders changes batch suit once room same suit_is suits_all once_is names_all room_is = (
+  λ passes. Fits-from_tests holders batch (ap (list_all (suits holders)) (sym same) ∙ sym suit_is ∙ suits_all)
+      (ap (λ list. names_once (map member_of list)) (sym same) ∙ sym once_is ∙ names_all) (room_is.0 passes),
+  λ fits. room_is.1 fits.room,
+)
 
 -- a test that fails tells that the batch does not fit
 pub Fits-failed_test : (holders : Holders) (changes batch : List Change) (test : Bool) → changes ≡ batch → test ≡ false → (Fits holders changes → test ≡ true) → Decides test (Fits holders batch)

@@ -1,12 +1,13 @@
 -- The batches of a history are a valid list, and the changes that wait behind them fit.
 use Rattle.std.proofs.Common.{◌≡◌, ℕ, ◌+◌, ◌^◌, ◌<◌, Bool, true, false, eqb, List, [], ◌∷◌, ◌++◌, length, sym, refl, ap, ◌∙◌, subst, arith, ◌⊎◌, inl, inr}
 use Rattle.std.proofs.lemmas.Bool.{cond_both, eqb-false, false≢true}
+use Rattle.group_terms.specs.Changes.{is_pending, leavers, joiners}
 use Rattle.group_terms.specs.Names.{Name}
 use Rattle.group_terms.specs.declared.changes.Change.{Change}
 use Rattle.group_terms.specs.declared.changes.Change.TheVariants.{Out, In}
-use Rattle.group_model.specs.Places.{Holders, no_holders, is_member, member_count, leavers, joiners, Fits}
+use Rattle.group_model.specs.Places.{Holders, no_holders, is_member, member_count, Fits}
 use Rattle.group_model.specs.Groups.{Reading, Group, no_group, new_group, present_holders, IsSound, with_batch, after_answer, after_entry, group_after, present_group}
-use Rattle.group_model.specs.Legal.{is_pending, leaves_taken, answer_to_join, answer_to_leave, IsDue, IsOutOfMemory, IsStep, AreSteps, IsLegalHistory}
+use Rattle.group_model.specs.Legal.{leaves_taken, answer_to_join, answer_to_leave, IsDue, IsOutOfMemory, IsStep, AreSteps, IsLegalHistory}
 use Rattle.group_model.specs.declared.entries.Entry.{Entry}
 use Rattle.group_model.specs.declared.entries.Asked.{Asked}
 use Rattle.group_model.specs.declared.entries.Asked.TheVariants.{Create, Join, Leave, Batch, Derive}

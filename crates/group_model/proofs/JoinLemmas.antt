@@ -4,9 +4,10 @@ use Rattle.std.specs.Prelude.{is_none, slice_set}
 use Rattle.std.specs.List.{fold, list_any, list_all, position_or_len}
 use Rattle.std.proofs.lemmas.Bool.{cases_Bool, or_cases, or_left, or_right, and_parts, not-true, false≢true, false_from_ne_true}
 use Rattle.std.proofs.lemmas.List.{length-map, length-set}
+use Rattle.group_terms.specs.Changes.{leavers, joiners}
 use Rattle.group_terms.specs.Names.{Name, same_name}
 use Rattle.group_terms.specs.declared.changes.Change.{Change}
-use Rattle.group_model.specs.Places.{Holders, no_holders, holders_of, IsValid, is_held_by, is_member, vacated, placed, leavers, joiners, names_once, holders_after, Fits}
+use Rattle.group_model.specs.Places.{Holders, no_holders, holders_of, IsValid, is_held_by, is_member, vacated, placed, names_once, holders_after, Fits}
 use Rattle.group_model.proofs.EpochLemmas.{length-fold, length-holders_after, fold-append_one, FitInTurn-last}
 use Rattle.group_model.proofs.StayedLemmas.{same_name-is, same_name-self, none_of, held_after, and_true, and_false}
 use Rattle.group_model.proofs.PlaceLemmas.{gone}

@@ -16,5 +16,6 @@ pub mod RowLemmas
 pub mod SeatLemmas
 pub mod SequenceLemmas
 pub mod StayedLemmas
+pub mod StepLemmas
 pub mod TreeLemmas
 pub mod WrapLemmas

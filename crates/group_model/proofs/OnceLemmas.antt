@@ -4,9 +4,10 @@ use Rattle.std.specs.Prelude.{is_none}
 use Rattle.std.specs.List.{fold, list_any, position_or_len}
 use Rattle.std.proofs.lemmas.Bool.{cases_Bool, cases_lt, cases_eq, and_parts, or_left, or_right, not-true, false≢true, false_from_ne_true}
 use Rattle.std.proofs.lemmas.List.{get_or_past, get_or-set_other}
+use Rattle.group_terms.specs.Changes.{leavers, joiners}
 use Rattle.group_terms.specs.Names.{Name, same_name}
 use Rattle.group_terms.specs.declared.changes.Change.{Change}
-use Rattle.group_model.specs.Places.{Holders, no_holders, is_held_by, is_member, vacated, placed, leavers, joiners, names_once, holders_after, holders_at, Fits, FitInTurn, IsValid}
+use Rattle.group_model.specs.Places.{Holders, no_holders, is_held_by, is_member, vacated, placed, names_once, holders_after, holders_at, Fits, FitInTurn, IsValid}
 use Rattle.group_model.specs.Private.Seats.{AreOnce}
 use Rattle.group_model.proofs.EpochLemmas.{is_member-no_holders}
 use Rattle.group_model.proofs.StayedLemmas.{same_name-is, same_name-self, member_at, none_of, vacated_all_at, placed_at}

@@ -7,9 +7,10 @@ use Rattle.std.proofs.lemmas.List.Elements.{All-from_get_or}
 use Rattle.std.proofs.lemmas.List.Folds.{list_any_none}
 use Rattle.std.proofs.lemmas.List.Quantifiers.{position-Some}
 use Rattle.std.proofs.lemmas.Option.{none-some, same_Some}
+use Rattle.group_terms.specs.Changes.{leavers, joiners}
 use Rattle.group_terms.specs.Names.{Name, same_name}
 use Rattle.group_terms.specs.declared.changes.Change.{Change}
-use Rattle.group_model.specs.Places.{Holders, no_holders, is_held_by, is_member, place_in, leavers, joiners, holders_after, holders_at, Fits, IsValid}
+use Rattle.group_model.specs.Places.{Holders, no_holders, is_held_by, is_member, place_in, holders_after, holders_at, Fits, IsValid}
 use Rattle.group_model.specs.Stayed.{has_stayed}
 use Rattle.group_model.proofs.EpochLemmas.{length-holders_after, FitInTurn-at}
 use Rattle.group_model.proofs.StayedLemmas.{same_name-is, none_of, held_after, and_true, and_false}

@@ -4,6 +4,7 @@ use Rattle.std.specs.List.{range_with_len}
 use Rattle.std.specs.Option.{option_map, unwrap_or}
 use Rattle.std.proofs.lemmas.List.{length-append, get_or_push}
 use Rattle.std.proofs.lemmas.List.Elements.{All-map, All-same}
+use Rattle.group_terms.specs.Changes.{joiners}
 use Rattle.group_terms.specs.Names.{Name}
 use Rattle.group_terms.specs.Positions.{some_leaf_below}
 use Rattle.group_terms.specs.declared.changes.Change.{Change}
@@ -11,7 +12,7 @@ use Rattle.group_terms.specs.declared.keys.Wrap.{Wrap}
 use Rattle.group_terms.specs.declared.keys.KeyName.TheVariants.{Node, Traffic}
 use Rattle.group_model.specs.declared.entries.SentReply.{SentReply}
 use Rattle.group_model.specs.declared.trees.Tree.{Tree}
-use Rattle.group_model.specs.Places.{no_holders, holders_after, holders_at, place_in, member_count, joiners, Fits, IsValid}
+use Rattle.group_model.specs.Places.{no_holders, holders_after, holders_at, place_in, member_count, Fits, IsValid}
 use Rattle.group_model.specs.Fresh.{changed_leaves, last_change, node_name, upwards, key_path}
 use Rattle.group_model.specs.Stayed.{sequence_at}
 use Rattle.group_model.specs.Wraps.{wraps_at, is_nil}

@@ -9,11 +9,10 @@ use Rattle.std.proofs.lemmas.List.Folds.{list_any-append}
 use Rattle.std.proofs.lemmas.List.Sums.{length-filter, count_by-le-length}
 use Rattle.std.proofs.lemmas.Slice.Eq.{bytes_eq-Decides}
 use Rattle.group_terms.specs.Names.{Name, same_name}
-use Rattle.group_terms.specs.Changes.{member_of}
+use Rattle.group_terms.specs.Changes.{member_of, is_pending, leaver, leavers, joiner, joiners}
 use Rattle.group_terms.specs.declared.changes.Change.{Change}
 use Rattle.group_terms.specs.declared.changes.Change.TheVariants.{Out, In}
-use Rattle.group_model.specs.Places.{Holders, is_held_by, is_member, member_count, vacated, leaver, leavers, joiner, joiners, names_once, Fits}
-use Rattle.group_model.specs.Legal.{is_pending}
+use Rattle.group_model.specs.Places.{Holders, is_held_by, is_member, member_count, vacated, names_once, Fits}
 use Rattle.group_model.proofs.StayedLemmas.{same_name-is}
 
 same_name-sym : (m n : Name) → same_name m n ≡ false → same_name n m ≡ false

@@ -1,21 +1,22 @@
 -- Leaves that change hands one after the other, and the index of names.
 use Rattle.std.proofs.Common.{◌≡◌, ℕ, zero, suc, ◌+◌, ◌<◌, Bool, true, false, not, ltb, List, [], ◌∷◌, ◌++◌, Option, None, Some, cond, ◌⊎◌, ◌^◌, length, map, replicate, get_or, set, ◌&&◌, ◌||◌, refl, sym, ap, ◌∙◌, subst, arith, inl, inr}
 use Rattle.std.specs.Prelude.{is_some, is_none}
-use Rattle.std.specs.List.{All, cons_option, fold, list_any, position, position_or_len, zip}
+use Rattle.std.specs.List.{All, cons_option, count_by, fold, list_any, position, position_or_len, zip}
 use Rattle.std.specs.Option.{option_map}
 use Rattle.std.proofs.lemmas.Bool.{cases_Bool, cases_eq, cases_lt, false≢true, false_from_ne_true, cond-true, lt-ltb, ltb-true, ltb-false}
 use Rattle.std.proofs.lemmas.List.{map-set, ext_get_or, get_or_past, get_or-set_same, get_or-set_other, length-map, length-set}
 use Rattle.std.proofs.lemmas.List.Elements.{All-push}
 use Rattle.std.proofs.lemmas.List.Quantifiers.{position-Some}
-use Rattle.std.proofs.lemmas.List.Sums.{fails_before_first}
+use Rattle.std.proofs.lemmas.List.Sums.{fails_before_first, sum_by-cons}
 use Rattle.std.proofs.lemmas.Option.{none-some}
+use Rattle.group_terms.specs.Changes.{leavers, joiners}
 use Rattle.group_terms.specs.LeafMarks.{Marked}
 use Rattle.group_terms.specs.Names.{Name}
 use Rattle.group_terms.specs.declared.changes.Change.{Change}
 use Rattle.group_model.specs.declared.seats.Seat.{Seat}
 use Rattle.group_model.specs.declared.seats.Seating.{Seating}
 use Rattle.group_model.specs.Fresh.{changed_leaves, is_same_holder}
-use Rattle.group_model.specs.Places.{Holders, is_held_by, vacated, placed, leavers, joiners, holders_after}
+use Rattle.group_model.specs.Places.{Holders, is_held_by, member_count, vacated, placed, holders_after}
 use Rattle.group_model.specs.Private.Seats.{IsIndex, AreOnce, vacancies}
 use Rattle.group_model.specs.Steps.{IsSeating, seated}
 use Rattle.group_model.specs.Private.Unchanged.{unchanged_holders}
@@ -92,14 +93,19 @@ pub length-seated : (before : Holders) (seats : List Seat) → length (seated be
 length-seated before [] = refl
 length-seated before (seat ∷ seats) = length-seated (set before seat.place seat.holder) seats ∙ length-set before seat.place seat.holder
 
+none_is : (holder : Option Name) → not (is_some holder) ≡ is_none holder
+none_is None = refl
+none_is (Some name) = refl
+
 -- one leaf more changed hands, and each mark of it with it
 pub IsSeating-more : (before : Holders) (was now : Seating) (place : ℕ) (holder : Option Name) → place < length before → IsSeating before was
     → now.seats ≡ was.seats ++ record { place = place; holder = holder } ∷ []
     → now.held ≡ record { depth = was.held.depth; leaves = set was.held.leaves place (is_some holder) }
+    → now.free ≡ record { depth = was.free.depth; leaves = set was.free.leaves place (not (is_some holder)) }
     → now.changed ≡ record { depth = was.changed.depth; leaves = set was.changed.leaves place (not (is_same_holder (get_or before place None) holder)) }
     → now.kept ≡ record { depth = was.kept.depth; leaves = set was.kept.leaves place (is_some holder && is_same_holder (get_or before place None) holder) }
     → IsSeating before now
-IsSeating-more before was now place holder low h seats held changed kept =
+IsSeating-more before was now place holder low h seats held free changed kept =
     let depth : was.held.depth ≡ now.held.depth = sym (ap (λ (marked : Marked). marked.depth) held) in
     let after : set (seated before was.seats) place holder ≡ seated before now.seats =
     sym (ap (seated before) seats ∙ seated_more before was.seats (record { place = place; holder = holder })) in
@@ -108,6 +114,10 @@ IsSeating-more before was now place holder low h seats held changed kept =
       within = subst (All (λ (seat : Seat). seat.place < length before)) (sym seats) (All-push (λ (seat : Seat). seat.place < length before) was.seats (record { place = place; holder = holder }) h.within low);
       held = ap (λ (marked : Marked). marked.leaves) held ∙ ap (λ (l : List Bool). set l place (is_some holder)) h.held
           ∙ sym (map-set is_some (seated before was.seats) place holder) ∙ ap (map is_some) after;
+      free = free
+          ∙ (λ i. record { depth = (h.free i).depth; leaves = set ((h.free i).leaves) place (none_is holder i) })
+          ∙ (λ i. record { depth = depth i; leaves = sym (map-set is_none (seated before was.seats) place holder) i })
+          ∙ (λ i. record { depth = now.held.depth; leaves = map is_none (after i) });
       changed = changed
           ∙ (λ i. record { depth = (h.changed i).depth; leaves = set ((h.changed i).leaves) place (not (is_same_holder (get_or before place None) holder)) })
           ∙ (λ i. record { depth = depth i; leaves = sym (changed_more before (seated before was.seats) place holder low) i })
@@ -133,28 +143,37 @@ all_kept (holder ∷ before) = λ i. (ap (λ same. is_some holder && same) (same
 -- before any leaf changed hands
 pub IsSeating-none : (before : Holders) (now : Seating) (depth : ℕ) → length before ≡ 2 ^ depth → now.seats ≡ []
     → now.held ≡ record { depth = depth; leaves = map is_some before }
+    → now.free ≡ record { depth = depth; leaves = map is_none before }
     → now.changed ≡ record { depth = depth; leaves = replicate (2 ^ depth) false }
     → now.kept ≡ record { depth = depth; leaves = map is_some before }
     → IsSeating before now
-IsSeating-none before now depth long seats held changed kept =
+IsSeating-none before now depth long seats held free changed kept =
     let same : depth ≡ now.held.depth = sym (ap (λ (marked : Marked). marked.depth) held) in
     let first : before ≡ seated before now.seats = sym (ap (seated before) seats) in
     record {
       leaves = long ∙ ap (λ d. 2 ^ d) same;
       within = subst (All (λ (seat : Seat). seat.place < length before)) (sym seats) (λ k d low. absurd (omega (arith, low)));
       held = ap (λ (marked : Marked). marked.leaves) held ∙ ap (map is_some) first;
+      free = free ∙ (λ i. record { depth = same i; leaves = map is_none (first i) });
       changed = changed ∙ (λ i. record { depth = same i; leaves = (ap (λ n. replicate n false) (sym long) ∙ sym (none_changed before) ∙ ap (changed_leaves before) first) i });
       kept = kept ∙ (λ i. record { depth = same i; leaves = (sym (all_kept before) ∙ ap (unchanged_holders before) first) i });
     }
 
-free_first : (holders : Holders) → position_or_len not (map is_some holders) ≡ position_or_len is_none holders
+free_first : (holders : Holders) → position_or_len (λ mark. mark) (map is_none holders) ≡ position_or_len is_none holders
 free_first [] = refl
 free_first (None ∷ holders) = refl
 free_first (Some name ∷ holders) = ap (λ n. 1 + n) (free_first holders)
 
--- the lowest leaf without a mark is the lowest that nobody has
-pub free_by_marks : (holders : Holders) → position not (map is_some holders) ≡ position is_none holders
-free_by_marks holders = λ i. cond (ltb (free_first holders i) (length-map holders is_some i)) (Some (free_first holders i)) None
+-- the lowest leaf that is marked as free is the lowest that nobody has
+pub free_by_marks : (holders : Holders) → position (λ mark. mark) (map is_none holders) ≡ position is_none holders
+free_by_marks holders = λ i. cond (ltb (free_first holders i) (length-map holders is_none i)) (Some (free_first holders i)) None
+
+-- as many are marked as held as there are members
+pub members_by_marks : (holders : Holders) → count_by (λ mark. mark) (map is_some holders) ≡ member_count holders
+members_by_marks [] = refl
+members_by_marks (holder ∷ holders) =
+    sum_by-cons (λ b. cond {A = ℕ} b 1 0) (is_some holder) (map is_some holders) ∙ ap (λ n. cond {A = ℕ} (is_some holder) 1 0 + n) (members_by_marks holders)
+    ∙ sym (sum_by-cons (λ h. cond {A = ℕ} (is_some h) 1 0) holder holders)
 
 -- a place is found exactly where one passes
 is_some_if : (b : Bool) (n : ℕ) → is_some (cond b (Some n) None) ≡ b

@@ -8,9 +8,10 @@ use Rattle.std.proofs.lemmas.List.Folds.{list_any_at}
 use Rattle.std.proofs.lemmas.List.Sums.{prefix_len_stops}
 use Rattle.std.proofs.lemmas.Slice.Eq.{bytes_eq-Decides}
 use Rattle.std.proofs.lemmas.Slice.Zip.{length-zip, get_or-zip}
+use Rattle.group_terms.specs.Changes.{leavers, joiners}
 use Rattle.group_terms.specs.Names.{Name, same_name}
 use Rattle.group_terms.specs.declared.changes.Change.{Change}
-use Rattle.group_model.specs.Places.{Holders, is_held_by, is_member, vacated, placed, leavers, joiners, holders_after, Fits}
+use Rattle.group_model.specs.Places.{Holders, is_held_by, is_member, vacated, placed, holders_after, Fits}
 use Rattle.group_model.specs.Fresh.{is_same_holder}
 use Rattle.group_model.specs.Stayed.{is_kept, kept_leaves}
 use Rattle.group_model.specs.Private.Unchanged.{unchanged_holders}

@@ -21,7 +21,7 @@ use Rattle.group_model.proofs.EpochLemmas.{get_or-changes_at, is_member-no_holde
 use Rattle.group_model.proofs.StayedLemmas.{kept-unchanged}
 
 -- only one of two lists of encryptions for each position, from the highest down
-flat_map-filter : (fresh : ℕ → Bool) (f g : ℕ → List Wrap) (n : ℕ) → ((v : ℕ) → 0 < v → v ≤ n → cond (fresh v) (f v) [] ≡ g v) → flat_map f (filter fresh (falling n)) ≡ flat_map g (falling n)
+pub flat_map-filter : (fresh : ℕ → Bool) (f g : ℕ → List Wrap) (n : ℕ) → ((v : ℕ) → 0 < v → v ≤ n → cond (fresh v) (f v) [] ≡ g v) → flat_map f (filter fresh (falling n)) ≡ flat_map g (falling n)
 flat_map-filter fresh f g zero agree = refl
 flat_map-filter fresh f g (suc n) agree =
     let rest = flat_map-filter fresh f g n (λ v p low. agree v p (omega arith)) in
@@ -32,13 +32,13 @@ flat_map-filter fresh f g (suc n) agree =
     ]
 
 -- the two children of a position
-map-filter_two : (p : ℕ → Bool) (f : ℕ → Wrap) (a b : ℕ) → map f (filter p (a ∷ b ∷ [])) ≡ cond (p a) (f a ∷ []) [] ++ cond (p b) (f b ∷ []) []
+pub map-filter_two : (p : ℕ → Bool) (f : ℕ → Wrap) (a b : ℕ) → map f (filter p (a ∷ b ∷ [])) ≡ cond (p a) (f a ∷ []) [] ++ cond (p b) (f b ∷ []) []
 map-filter_two p f a b = elim (cases_Bool (p a)) [
   | inl left ↦ elim (cases_Bool (p b)) [ inl right ↦ rw (left, right) refl | inr right ↦ rw (left, right) refl ]
   | inr left ↦ elim (cases_Bool (p b)) [ inl right ↦ rw (left, right) refl | inr right ↦ rw (left, right) refl ]
 ]
 
-list_any-map_self : {A : Type 0} (p : A → Bool) (xs : List A) → list_any (λ b. b) (map p xs) ≡ list_any p xs
+pub list_any-map_self : {A : Type 0} (p : A → Bool) (xs : List A) → list_any (λ b. b) (map p xs) ≡ list_any p xs
 list_any-map_self p [] = refl
 list_any-map_self p (x ∷ xs) = ap (λ b. p x || b) (list_any-map_self p xs)
 
@@ -93,22 +93,25 @@ module _ (depth : ℕ) (batches : List (List Change)) (epoch : ℕ) where
 abbrev between_by : ℕ → ℕ → List Bool → List (Option ℕ) → List Wrap
 between_by depth epoch kept made = cond (list_any (λ b. b) kept) (wraps_down epoch made (map (some_leaf_below depth kept) (range_with_len 0 (2 ^ (depth + 1)))) (2 ^ depth - 1) ++ record { by = Node 1 epoch; gives = Traffic epoch } ∷ []) []
 
+-- at the epochs of a valid list the leaves whose holder did not change are those of who stayed
+pub kept-unchanged_at : (depth : ℕ) (batches : List (List Change)) (epoch : ℕ) → IsValid depth batches → suc epoch ≤ length batches
+    → unchanged_holders (holders_at depth batches (suc epoch - 1)) (holders_at depth batches (suc epoch)) ≡ kept_leaves (holders_at depth batches (suc epoch - 1)) (holders_at depth batches (suc epoch))
+kept-unchanged_at depth batches epoch valid early =
+    let same_epoch : epoch ≡ suc epoch - 1 = omega arith in
+    let fits = FitInTurn-at (no_holders depth) batches epoch valid (omega (arith, early)) in
+    subst (λ k. unchanged_holders (holders_at depth batches k) (holders_at depth batches (suc epoch)) ≡ kept_leaves (holders_at depth batches k) (holders_at depth batches (suc epoch))) same_epoch
+    (ap (unchanged_holders (holders_at depth batches epoch)) fits.2 ∙ kept-unchanged (holders_at depth batches epoch) fits.0 fits.1 ∙ ap (kept_leaves (holders_at depth batches epoch)) (sym fits.2))
+
 -- what the two trees of an epoch encrypt is what the list says
 pub wraps_at-between : (depth : ℕ) (batches : List (List Change)) (epoch : ℕ) (was tree : Tree) → IsValid depth batches → 0 < epoch → epoch ≤ length batches → StandsAt depth batches (epoch - 1) was → StandsAt depth batches epoch tree → wraps_between depth was.holders tree epoch ≡ wraps_at depth batches epoch
 wraps_at-between depth batches zero was tree valid positive early stood stands = absurd (omega (arith, positive))
 wraps_at-between depth batches (suc epoch) was tree valid positive early stood stands =
-    ap (λ kept. between_by depth (suc epoch) kept tree.made) (ap (λ hs. unchanged_holders hs tree.holders) stood.holders ∙ ap (unchanged_holders (holders_at depth batches (suc epoch - 1))) stands.holders ∙ unchanged)
+    ap (λ kept. between_by depth (suc epoch) kept tree.made) (ap (λ hs. unchanged_holders hs tree.holders) stood.holders ∙ ap (unchanged_holders (holders_at depth batches (suc epoch - 1))) stands.holders ∙ kept-unchanged_at depth batches epoch valid early)
     ∙ ap (λ made. between_by depth (suc epoch) (kept_leaves (holders_at depth batches (suc epoch - 1)) (holders_at depth batches (suc epoch))) made) stands.made
     ∙ wraps_at-by depth batches (suc epoch) fresh
   where
     same_epoch : epoch ≡ suc epoch - 1
     same_epoch = omega arith
-
-    unchanged : unchanged_holders (holders_at depth batches (suc epoch - 1)) (holders_at depth batches (suc epoch)) ≡ kept_leaves (holders_at depth batches (suc epoch - 1)) (holders_at depth batches (suc epoch))
-    unchanged =
-        let fits = FitInTurn-at (no_holders depth) batches epoch valid (omega (arith, early)) in
-        subst (λ k. unchanged_holders (holders_at depth batches k) (holders_at depth batches (suc epoch)) ≡ kept_leaves (holders_at depth batches k) (holders_at depth batches (suc epoch))) same_epoch
-        (ap (unchanged_holders (holders_at depth batches epoch)) fits.2 ∙ kept-unchanged (holders_at depth batches epoch) fits.0 fits.1 ∙ ap (kept_leaves (holders_at depth batches epoch)) (sym fits.2))
 
     fresh : (v : ℕ) → is_made_in (suc epoch) (last_change depth batches (suc epoch) v) ≡ is_fresh depth (holders_at depth batches (suc epoch - 1)) (holders_at depth batches (suc epoch)) v
     fresh v = subst (λ k. is_made_in (suc epoch) (last_change depth batches (suc epoch) v) ≡ is_fresh depth (holders_at depth batches k) (holders_at depth batches (suc epoch)) v) same_epoch (made_in-fresh depth batches epoch v)

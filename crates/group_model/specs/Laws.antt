@@ -2,12 +2,13 @@
 use Rattle.std.specs.Prelude.{◌≡◌, ℕ, ◌+◌, ◌*◌, ◌^◌, ◌<◌, ◌≤◌, ◌&&◌, ◌||◌, not, true, None, Some, if◌then◌else◌}
 use Rattle.std.specs.Prelude.{List, [], ◌∷◌, ◌++◌, length, take, slice_index_or}
 use Rattle.std.specs.List.{list_any}
+use Rattle.group_terms.specs.Changes.{leavers, joiners}
 use Rattle.group_terms.specs.Names.{Name, same_name}
 use Rattle.group_terms.specs.declared.changes.Change.{Change}
 use Rattle.group_terms.specs.declared.changes.Change.TheVariants.{Out, In}
 use Rattle.group_model.specs.declared.entries.Entry.{Entry}
 use Rattle.group_model.specs.declared.entries.Answer.TheVariants.{Done, Queued}
-use Rattle.group_model.specs.Places.{Holders, is_held_by, is_member, member_count, place_in, leavers, joiners}
+use Rattle.group_model.specs.Places.{Holders, is_held_by, is_member, member_count, place_in}
 use Rattle.group_model.specs.Places.{holders_of, holders_at, Fits, IsValid}
 use Rattle.group_model.specs.Fresh.{last_change}
 use Rattle.group_model.specs.Stayed.{has_stayed, sequence_at}

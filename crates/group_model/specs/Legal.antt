@@ -1,8 +1,8 @@
 -- Which answers the group may give: legal histories.
 use Rattle.std.specs.Prelude.{◌≡◌, ℕ, ◌+◌, ◌-◌, ◌^◌, ◌≤◌, ◌==◌, ◌⊎◌, Bool, true, false, List, [], ◌∷◌, ◌++◌, length, All, Decides, Option, None, Some, if◌then◌else◌}
 use Rattle.std.specs.List.{list_any}
-use Rattle.group_terms.specs.Names.{Name, same_name}
-use Rattle.group_terms.specs.Changes.{member_of}
+use Rattle.group_terms.specs.Names.{Name}
+use Rattle.group_terms.specs.Changes.{is_pending, leavers, joiners}
 use Rattle.group_terms.specs.declared.changes.Change.{Change}
 use Rattle.group_terms.specs.declared.keys.KeyName.TheVariants.{Traffic}
 use Rattle.group_model.specs.declared.entries.Entry.{Entry}
@@ -15,16 +15,12 @@ use Rattle.group_model.specs.declared.entries.Answer.{Answer}
 use Rattle.group_model.specs.declared.entries.Answer.TheVariants.{Done, Queued, Batched, Opened, Nothing, Derived, Refused}
 use Rattle.group_model.specs.declared.entries.Refusal.{Refusal}
 use Rattle.group_model.specs.declared.entries.Refusal.TheVariants.{NotMember, AlreadyPending, TreeFull, NoMemory}
-use Rattle.group_model.specs.Places.{Holders, is_member, member_count, holders_of, leavers, joiners}
+use Rattle.group_model.specs.Places.{Holders, is_member, member_count, holders_of}
 use Rattle.group_model.specs.Stayed.{sequence_at}
 use Rattle.group_model.specs.Wraps.{wraps_at}
 use Rattle.group_model.specs.Replies.{replies_to, says_of}
 use Rattle.group_model.specs.Groups.{Reading, Group, no_group, present_holders, next_batches, after_entry}
 use Rattle.group_model.specs.Derivations.{CanDerive, held_names, pairs_sent}
-
--- whether a change of m is pending
-abbrev pub is_pending : List Change → Name → Bool
-is_pending queue m = list_any (λ change. same_name m (member_of change)) queue
 
 -- who has which leaf of a tree of this depth, and the pending changes
 module _ (depth : ℕ) (holders : Holders) (queue : List Change) where

@@ -1,12 +1,11 @@
 -- Which member has which leaf of the tree (RFC 2627 section 5.4), batch after batch. That in a batch all removals come first,
 -- and that a join takes the lowest free leaf, is this server's choice.
 use Rattle.std.specs.Prelude.{◌≡◌, ℕ, ◌+◌, ◌^◌, ◌≤◌, ◌&&◌, Bool, true, false, not, List, [], ◌∷◌, length, map, take, replicate, Option, None, Some, is_some, is_none, slice_set, if◌then◌else◌}
-use Rattle.std.specs.List.{list_any, list_all, filter_map, fold, position, position_or_len, count_by}
+use Rattle.std.specs.List.{list_any, list_all, fold, position, position_or_len, count_by}
 use Rattle.std.specs.Option.{option_map}
 use Rattle.group_terms.specs.Names.{Name, same_name}
-use Rattle.group_terms.specs.Changes.{member_of}
+use Rattle.group_terms.specs.Changes.{member_of, leavers, joiners}
 use Rattle.group_terms.specs.declared.changes.Change.{Change}
-use Rattle.group_terms.specs.declared.changes.Change.TheVariants.{Out, In}
 
 -- who has each leaf, by rising leaf, if anybody has it
 abbrev pub Holders : Type 0
@@ -39,22 +38,6 @@ vacated holders m = map (λ holder. if is_held_by m holder then None else holder
 -- m gets the lowest leaf that nobody has; where each is taken, nothing changes
 abbrev pub placed : Holders → Name → Holders
 placed holders m = slice_set holders (position_or_len is_none holders) (Some m)
-
--- whom a change takes out, and whom it lets in
-abbrev pub leaver : Change → Option Name
-leaver (Out m) = Some m
-leaver (In m) = None
-
-abbrev pub joiner : Change → Option Name
-joiner (Out m) = None
-joiner (In m) = Some m
-
--- the names of a batch's Outs and of its Ins, each in the order of the batch
-abbrev pub leavers : List Change → List Name
-leavers batch = filter_map leaver batch
-
-abbrev pub joiners : List Change → List Name
-joiners batch = filter_map joiner batch
 
 -- those who go out free their leaves before anybody comes in; the others come in one after the other, each at the first free leaf
 unfoldable pub holders_after : Holders → List Change → Holders

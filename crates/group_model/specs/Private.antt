@@ -5,6 +5,7 @@ pub mod Handovers
 pub mod Presents
 pub mod Rows
 pub mod Seats
+pub mod Steps
 pub mod Suits
 pub mod Trees
 pub mod Unchanged

@@ -1,11 +1,11 @@
 -- What members are told, by key names (RFC 6407 section 3.2).
 use Rattle.std.specs.Prelude.{ℕ, List, [], ◌∷◌, ◌++◌, map, length}
+use Rattle.group_terms.specs.Changes.{joiners}
 use Rattle.group_terms.specs.Names.{Name}
 use Rattle.group_terms.specs.declared.changes.Change.{Change}
 use Rattle.group_terms.specs.declared.keys.KeyName.TheVariants.{Traffic}
 use Rattle.group_model.specs.declared.entries.SentReply.{SentReply}
 use Rattle.group_model.specs.declared.entries.SymReply.{SymReply}
-use Rattle.group_model.specs.Places.{joiners}
 use Rattle.group_model.specs.Fresh.{key_path}
 use Rattle.group_model.specs.Stayed.{sequence_at}
 

@@ -1,5 +1,5 @@
 -- What a batch makes of the present tree, found out before it is done.
-use Rattle.std.specs.Prelude.{◌≡◌, ℕ, ◌+◌, ◌^◌, ◌<◌, List, [], ◌∷◌, ◌++◌, length, map, Some, is_some, slice_set}
+use Rattle.std.specs.Prelude.{◌≡◌, ℕ, ◌+◌, ◌^◌, ◌<◌, List, [], ◌∷◌, ◌++◌, length, map, Some, is_none, is_some, slice_set}
 use Rattle.std.specs.List.{All, fold}
 use Rattle.group_terms.specs.Positions.{marks_of}
 use Rattle.group_terms.specs.declared.changes.Change.{Change}
@@ -10,6 +10,7 @@ use Rattle.group_model.specs.Drawn.{drawn_at}
 use Rattle.group_model.specs.Fresh.{changed_leaves}
 use Rattle.group_model.specs.Places.{Holders}
 use Rattle.group_model.specs.Present.{Present, StandsFor, IsTreeAfter}
+use Rattle.group_model.specs.Private.Draws.{fresh_by}
 use Rattle.group_model.specs.Private.Trees.{renewed}
 use Rattle.group_model.specs.Private.Unchanged.{unchanged_holders}
 
@@ -22,12 +23,13 @@ pub record IsSeating (before : Holders) (seating : Seating) : Type 0 where
   pub leaves : length before ≡ 2 ^ seating.held.depth
   pub within : All (λ (seat : Seat). seat.place < length before) seating.seats
   pub held : seating.held.leaves ≡ map is_some (seated before seating.seats)
+  pub free : seating.free ≡ record { depth = seating.held.depth; leaves = map is_none (seated before seating.seats) }
   pub changed : seating.changed ≡ record { depth = seating.held.depth; leaves = changed_leaves before (seated before seating.seats) }
   pub kept : seating.kept ≡ record { depth = seating.held.depth; leaves = unchanged_holders before (seated before seating.seats) }
 
 -- a step that this tree can take
 abbrev pub IsReady : Present → TreeStep → Type 0
-IsReady tree step = IsSeating tree.holders step.seating × (step.seating.held.depth ≡ tree.depth)
+IsReady tree step = IsSeating tree.holders step.seating × (step.seating.held.depth ≡ tree.depth) × (step.fresh ≡ fresh_by step.seating)
 
 -- the tree after it
 abbrev pub stepped : Present → TreeStep → Present

@@ -1,17 +1,18 @@
 //! Taking a step.
-ghost use Rattle.std.specs.Prelude.{◌≡◌, ◌+◌, ◌^◌, ◌<◌, ◌==◌, ◌||◌, length, Some, if◌then◌else◌};
+ghost use Rattle.std.specs.Prelude.{◌≡◌, ◌+◌, ◌-◌, ◌^◌, ◌<◌, ℕ, Bool, List, length};
 ghost use Rattle.std.specs.List.{All};
-ghost use Rattle.group_terms.specs.Positions.{marks_of, some_leaf_below};
+ghost use Rattle.group_terms.specs.Positions.{marks_of};
 ghost use Rattle.group_model.specs.declared.seats.Seat.{Seat};
 ghost use Rattle.group_model.specs.Steps.{IsReady, seated, stepped};
+ghost use Rattle.group_model.specs.Private.Draws.{renewed_from};
 ghost use Rattle.group_model.specs.Private.Seats.{IsIndexOf};
 ghost use Rattle.group_model.specs.Private.Trees.{renewed};
 
 use crate::holders::Holder;
 use crate::indexes::NameIndex;
 use crate::seats::{Seat, Seating};
-use crate::{PresentTree, TreeStep};
-use group_terms::LeafMarks;
+use crate::{LkhId, PresentTree, TreeStep};
+use group_terms::a_mark_is_that_of_a_child;
 
 impl PresentTree {
     /// Takes a step that was found out for the tree as it is. It takes no memory.
@@ -23,15 +24,17 @@ impl PresentTree {
             epoch,
             sequence,
             seating,
+            fresh,
             drawn: _,
         } = step;
         let Seating {
             seats,
             held,
-            changed,
+            free,
+            changed: _,
             kept: _,
         } = seating;
-        renew_all(self.tree.made.as_mut_slice(), &changed, epoch);
+        renew_all(self.tree.made.as_mut_slice(), fresh.as_slice(), epoch);
         take_seats(
             self.tree.holders.as_mut_slice(),
             &mut self.index,
@@ -40,33 +43,21 @@ impl PresentTree {
         self.epoch = epoch;
         self.sequence = sequence;
         self.held = held;
+        self.free = free;
     }
 }
 
-/// Notes the epoch at the root and at each position at or above a leaf that changed hands.
-fn renew_all(made: &mut [Option<u32>], changed: &LeafMarks, epoch: u32)
-    requires { length made.old ≡ 2 ^ (changed.now.depth + 1) }
-    ensures made { made.new ≡ renewed epoch made.old (marks_of changed.now.depth changed.now.leaves) }
+/// Notes the epoch at the positions that it renews.
+fn renew_all(made: &mut [Option<u32>], fresh: &[LkhId], epoch: u32)
+    requires { All (λ v. v < length made.old) fresh.now }
+    ensures made { (depth : ℕ) (leaves : List Bool) → length made.old ≡ 2 ^ (depth + 1) → fresh.now ≡ renewed_from depth leaves 1 (2 ^ (depth + 1) - 1) →
+        made.new ≡ renewed epoch made.old (marks_of depth leaves) }
     ensures len { length made.new ≡ length made.old }
 {
-    for v in 0..made.len() {
-        made[v] = renewed(made[v], is_fresh(v, changed), epoch);
+    a_mark_is_that_of_a_child();
+    for id in fresh {
+        made[usize::from(id.number())] = Some(epoch);
     }
-}
-
-/// Whether a position is the root, or at or above a leaf that changed hands.
-pub(crate) fn is_fresh(v: usize, changed: &LeafMarks) -> bool
-    requires { v < 2 ^ (changed.now.depth + 1) }
-    ensures { result ≡ (v == 1 || some_leaf_below changed.now.depth changed.now.leaves v) }
-{
-    v == 1 || changed.is_below(v)
-}
-
-/// The last change of a position that a batch of this epoch changes or not.
-fn renewed(made: Option<u32>, fresh: bool, epoch: u32) -> Option<u32>
-    ensures { result ≡ (if fresh then Some epoch else made) }
-{
-    if fresh { Some(epoch) } else { made }
 }
 
 /// Gives leaves to their next holders, one after the other.

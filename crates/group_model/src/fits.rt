@@ -1,15 +1,15 @@
 //! Whether a batch can be the next one.
 ghost use Rattle.std.specs.Prelude.{◌≡◌, ◌+◌, ◌≤◌, ◌↔◌, length, map, true, IsTrue};
-ghost use Rattle.std.specs.List.{list_any, list_all};
-ghost use Rattle.group_terms.specs.Names.{same_name};
-ghost use Rattle.group_terms.specs.Changes.{member_of};
-ghost use Rattle.group_model.specs.Places.{Fits, holders_of, member_count, leaver, leavers, joiner, joiners, names_once};
+ghost use Rattle.std.specs.List.{list_all};
+ghost use Rattle.group_terms.specs.Changes.{member_of, leavers, joiners};
+ghost use Rattle.group_model.specs.Places.{Fits, holders_of, member_count, names_once};
 ghost use Rattle.group_model.specs.Private.Seats.{IsIndexOf};
 ghost use Rattle.group_model.specs.Private.Suits.{suits};
 
 use crate::holders::{self, Holder};
 use crate::indexes::NameIndex;
-use crate::{Batch, Change, History, MOST_CHANGES, MemberName, PresentTree};
+use crate::{Batch, Change, History, PresentTree};
+use group_terms::is_named;
 
 impl PresentTree {
     /// Whether the tree can take a batch next: each `Out` names a member, each `In` somebody who is none, no name comes twice,
@@ -17,7 +17,12 @@ impl PresentTree {
     pub fn fits(&self, batch: &Batch) -> bool
         ensures { IsTrue result ↔ Fits self.now.holders batch.now }
     {
-        fits(self.tree.holders.as_slice(), &self.index, batch.changes())
+        fits(
+            self.tree.holders.as_slice(),
+            &self.index,
+            self.members() as usize,
+            batch,
+        )
     }
 }
 
@@ -28,27 +33,37 @@ impl History {
         ensures { IsTrue result ↔ Fits (holders_of self.now.depth self.now.batches) batch.now }
     {
         match self.holders() {
-            Some(holders) => fits(holders, &NameIndex::none(), batch.changes()),
-            None => fits_first(self.leaves(), batch.changes()),
+            Some(holders) => fits(
+                holders,
+                &NameIndex::none(),
+                holders::count_members(holders),
+                batch,
+            ),
+            None => fits_first(self.leaves(), batch),
         }
     }
 }
 
 /// The same of a tree with these holders.
-fn fits(holders: &[Holder], index: &NameIndex, changes: &[Change]) -> bool
-    requires few { length changes.now ≤ MOST_CHANGES }
+fn fits(holders: &[Holder], index: &NameIndex, members: usize, batch: &Batch) -> bool
     requires index { IsIndexOf holders.now index.now }
-    ensures { IsTrue result ↔ Fits holders.now changes.now }
+    requires members { members ≡ member_count holders.now }
+    requires within { members ≤ length holders.now }
+    ensures { IsTrue result ↔ Fits holders.now batch.now }
 {
-    all_suit(holders, index, changes) && are_named_once(changes) && have_room(holders, changes)
+    let changes = batch.changes();
+    all_suit(holders, index, changes)
+        && are_named_once(changes)
+        && have_room(holders, members, batch)
 }
 
 /// Whether a batch can be the first of a tree: nobody goes out, no name comes twice, and the tree has a leaf for each.
-fn fits_first(leaves: usize, changes: &[Change]) -> bool
+fn fits_first(leaves: usize, batch: &Batch) -> bool
     ensures { IsTrue result
-        ↔ (length (leavers changes.now) ≡ 0) × (names_once (map member_of changes.now) ≡ true) × (length changes.now ≤ leaves) }
+        ↔ (length (leavers batch.now) ≡ 0) × (names_once (map member_of batch.now) ≡ true) × (length batch.now ≤ leaves) }
 {
-    count_leavers(changes) == 0 && are_named_once(changes) && changes.len() <= leaves
+    let changes = batch.changes();
+    batch.leaves() == 0 && are_named_once(changes) && changes.len() <= leaves
 }
 
 /// Whether each `Out` names a member, and each `In` somebody who is none.
@@ -70,13 +85,12 @@ fn suits(holders: &[Holder], index: &NameIndex, change: &Change) -> bool
 }
 
 /// Whether those who stay and those who come are no more than there are leaves.
-fn have_room(holders: &[Holder], changes: &[Change]) -> bool
-    requires { length changes.now ≤ MOST_CHANGES }
+fn have_room(holders: &[Holder], members: usize, batch: &Batch) -> bool
+    requires { members ≤ length holders.now }
     ensures { IsTrue result
-        ↔ (member_count holders.now + length (joiners changes.now) ≤ length holders.now + length (leavers changes.now)) }
+        ↔ (members + length (joiners batch.now) ≤ length holders.now + length (leavers batch.now)) }
 {
-    holders::count_members(holders) + count_joiners(changes)
-        <= holders.len() + count_leavers(changes)
+    members + batch.joins() <= holders.len() + batch.leaves()
 }
 
 fn are_named_once(changes: &[Change]) -> bool
@@ -88,50 +102,4 @@ fn are_named_once(changes: &[Change]) -> bool
         }
     }
     true
-}
-
-pub(crate) fn is_named(changes: &[Change], member: &MemberName) -> bool
-    ensures { result ≡ list_any (λ change. same_name member.now (member_of change)) changes.now }
-{
-    changes.iter().any(|change| is_about(change, member))
-}
-
-fn is_about(change: &Change, member: &MemberName) -> bool
-    ensures { result ≡ same_name member.now (member_of change.now) }
-{
-    member == change.member()
-}
-
-/// How many changes let somebody in.
-pub(crate) fn count_joiners(changes: &[Change]) -> usize
-    ensures count { result ≡ length (joiners changes.now) }
-    ensures within { result ≤ length changes.now }
-{
-    changes.iter().filter_map(joiner).count()
-}
-
-/// How many changes take a member out.
-pub(crate) fn count_leavers(changes: &[Change]) -> usize
-    ensures count { result ≡ length (leavers changes.now) }
-    ensures within { result ≤ length changes.now }
-{
-    changes.iter().filter_map(leaver).count()
-}
-
-fn joiner(change: &Change) -> Option<MemberName>
-    ensures { result ≡ joiner change.now }
-{
-    match change {
-        Change::Out { .. } => None,
-        Change::In { member } => Some(*member),
-    }
-}
-
-fn leaver(change: &Change) -> Option<MemberName>
-    ensures { result ≡ leaver change.now }
-{
-    match change {
-        Change::Out { member } => Some(*member),
-        Change::In { .. } => None,
-    }
 }

@@ -1,11 +1,13 @@
 //! The leaves of a tree and who has them, as a slice by rising leaf.
 ghost use Rattle.std.specs.Prelude.{◌≡◌, ◌≤◌, ◌^◌, ◌&&◌, length, map, is_some, is_none, IfOk, None, if◌then◌else◌};
 ghost use Rattle.std.specs.List.{position, fold, list_any};
-ghost use Rattle.group_model.specs.Places.{is_held_by, no_holders, member_count, vacated, placed, leavers, joiners, holders_after};
+ghost use Rattle.group_terms.specs.Changes.{leavers, joiners};
+ghost use Rattle.group_model.specs.Places.{is_held_by, no_holders, member_count, vacated, placed, holders_after};
 ghost use Rattle.group_model.specs.Fresh.{is_same_holder, changed_leaves};
 ghost use Rattle.group_model.specs.Private.Unchanged.{unchanged_holders};
 
-use crate::{Change, List, LkhId, MemberName, NoMemory};
+use crate::{Change, List, MemberName, NoMemory};
+use group_terms::LeafMarks;
 use std::alloc::Global;
 
 /// Who has a leaf, if anybody has it.
@@ -33,16 +35,30 @@ pub(crate) fn place_of(holders: &[Holder], member: &MemberName) -> Option<usize>
     holders.iter().position(|holder| is_held_by(holder, member))
 }
 
-/// For each leaf, whether somebody has it.
-pub(crate) fn held(alloc: Global, holders: &[Holder]) -> Result<List<bool>, NoMemory>
-    ensures leaves { IfOk result (λ leaves. leaves ≡ map is_some holders.now) }
-    ensures len { IfOk result (λ leaves. length leaves ≡ length holders.now) }
+/// The leaves that somebody has.
+pub(crate) fn held(alloc: Global, depth: u8, holders: &[Holder]) -> Result<LeafMarks, NoMemory>
+    requires not_deep { depth ≤ 9 }
+    requires leaves { length holders.now ≡ 2 ^ depth }
+    ensures { IfOk result (λ marks. marks ≡ record { depth = depth; leaves = map is_some holders.now }) }
 {
     let mut leaves = List::with_room(alloc, holders.len())?;
     for holder in holders {
         leaves.push(holder.is_some())?;
     }
-    Ok(leaves)
+    LeafMarks::of(alloc, depth, leaves.as_slice())
+}
+
+/// The leaves that nobody has.
+pub(crate) fn free(alloc: Global, depth: u8, holders: &[Holder]) -> Result<LeafMarks, NoMemory>
+    requires not_deep { depth ≤ 9 }
+    requires leaves { length holders.now ≡ 2 ^ depth }
+    ensures { IfOk result (λ marks. marks ≡ record { depth = depth; leaves = map is_none holders.now }) }
+{
+    let mut leaves = List::with_room(alloc, holders.len())?;
+    for holder in holders {
+        leaves.push(holder.is_none())?;
+    }
+    LeafMarks::of(alloc, depth, leaves.as_slice())
 }
 
 pub(crate) fn count_members(holders: &[Holder]) -> usize

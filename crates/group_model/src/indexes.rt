@@ -72,10 +72,12 @@ impl NameIndex {
         ensures { (holders : Holders) → IsIndexOf holders self.old → place < length holders → slice_index_or holders place None ≡ before.now →
             IsIndexOf (slice_set holders place after.now) self.new }
     {
-        if let Some(mut places) = self.places.take() {
-            if followed(&mut places, place, before, after) {
-                self.places = Some(places);
-            }
+        let is_kept = match &mut self.places {
+            Some(places) => followed(places, place, before, after),
+            None => true,
+        };
+        if !is_kept {
+            self.places = None;
         }
     }
 }

@@ -43,3 +43,4 @@ mod test_texts;
 #[cfg(test)]
 mod tests;
 mod trees;
+mod wraps;

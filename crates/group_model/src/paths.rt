@@ -46,7 +46,7 @@ impl PresentTree {
     }
 
     /// The key that a position has.
-    fn key(&self, id: LkhId) -> KeyName
+    pub(crate) fn key(&self, id: LkhId) -> KeyName
         ensures { result ≡ key_in self.now.changes id }
     {
         let made = self.last(id).unwrap_or(0);

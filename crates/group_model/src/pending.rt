@@ -1,10 +1,7 @@
 //! The changes that wait for the next batch.
 ghost use Rattle.std.specs.Prelude.{◌≡◌, ◌<◌, ◌≤◌, [], ◌∷◌, ◌++◌, length};
-ghost use Rattle.group_terms.specs.Names.{same_name};
-ghost use Rattle.group_model.specs.Places.{joiners, leavers};
-ghost use Rattle.group_model.specs.Legal.{is_pending};
+ghost use Rattle.group_terms.specs.Changes.{is_pending, leavers, joiners};
 
-use crate::fits::{count_joiners, count_leavers, is_named};
 use crate::{Batch, Change, MOST_CHANGES, MemberName};
 use std::marker::Model;
 
@@ -37,7 +34,7 @@ impl PendingChanges {
     pub fn has(&self, member: &MemberName) -> bool
         ensures { result ≡ is_pending self.now member.now }
     {
-        is_named(self.changes(), member)
+        self.batch.has(member)
     }
 
     /// How many joins wait.
@@ -45,7 +42,7 @@ impl PendingChanges {
         ensures count { result ≡ length (joiners self.now) }
         ensures few { result ≤ MOST_CHANGES }
     {
-        count_joiners(self.changes())
+        self.batch.joins()
     }
 
     /// How many leaves wait.
@@ -53,7 +50,7 @@ impl PendingChanges {
         ensures count { result ≡ length (leavers self.now) }
         ensures few { result ≤ MOST_CHANGES }
     {
-        count_leavers(self.changes())
+        self.batch.leaves()
     }
 
     /// Puts a change at the end.

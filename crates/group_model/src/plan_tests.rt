@@ -9,60 +9,43 @@ use std::test::Fail;
 fn plans_put_out_what_their_batch_makes(rt: HostRuntime) -> Result<(), Fail> {
     let alloc = rt.alloc();
     let mut tree = PresentTree::new(alloc, 2)?;
-    for (outs, ins, want_output, want_tree) in [
-        (
-            "",
-            "abc",
-            "epoch 1 sequence 0 members 3 replies a 1 0: 4.1 2.1 1.1 traffic.1, b 1 0: 5.1 2.1 1.1 traffic.1, \
-             c 1 0: 6.1 3.1 1.1 traffic.1, wraps",
-            "epoch 1 sequence 0 members 3 of 4 at 4 5 6 - last 1 1 1 1 1 1 - -",
-        ),
-        (
-            "b",
-            "",
-            "epoch 2 sequence 2 members 2 replies wraps 4.1 2.2, 2.2 1.2, 3.1 1.2, 1.2 traffic.2,",
-            "epoch 2 sequence 2 members 2 of 4 at 4 - 6 - last 2 2 1 1 2 1 - -",
-        ),
-    ] {
-        let output = close(&rt, alloc, &mut tree, outs, ins)?;
-        let text = output_text(alloc, &output)?;
-        assert_eq!(rt; text.as_str(), want_output);
-        let text = tree_text(alloc, &tree)?;
-        assert_eq!(rt; text.as_str(), want_tree);
-    }
+    let mut text = String::new(alloc);
+    push_plan(&rt, alloc, &mut tree, ["", "abc"], &mut text)?;
+    push_tree(&tree, &mut text)?;
+    push_plan(&rt, alloc, &mut tree, ["b", ""], &mut text)?;
+    push_tree(&tree, &mut text)?;
+    assert_eq!(rt;
+        text.as_str(),
+        "epoch 1 sequence 0 members 3 replies a 1 0: 4.1 2.1 1.1 traffic.1, b 1 0: 5.1 2.1 1.1 traffic.1, \
+         c 1 0: 6.1 3.1 1.1 traffic.1, wraps\n\
+         epoch 1 sequence 0 members 3 of 4 at 4 5 6 - last 1 1 1 1 1 1 - -\n\
+         epoch 2 sequence 2 members 2 replies wraps 4.1 2.2, 2.2 1.2, 3.1 1.2, 1.2 traffic.2,\n\
+         epoch 2 sequence 2 members 2 of 4 at 4 - 6 - last 2 2 1 1 2 1 - -\n"
+    );
     Ok(())
 }
 
-/// A tree goes on by steps, each of which says for which keys values are drawn, and none goes past a limit.
+/// A tree goes on by steps, each of which says for which keys values are drawn and what is encrypted, and none goes past a limit.
 #[test]
 fn steps_make_what_their_batch_makes(rt: HostRuntime) -> Result<(), Fail> {
     let alloc = rt.alloc();
     let mut tree = PresentTree::new(alloc, 2)?;
-    for (outs, ins, want_step, want_tree) in [
-        (
-            "",
-            "abc",
-            "1 sequence 0 drawn 1 2 3 4 5 6",
-            "epoch 1 sequence 0 members 3 of 4 at 4 5 6 - last 1 1 1 1 1 1 - -",
-        ),
-        (
-            "b",
-            "",
-            "2 sequence 2 drawn 1 2",
-            "epoch 2 sequence 2 members 2 of 4 at 4 - 6 - last 2 2 1 1 2 1 - -",
-        ),
-        (
-            "",
-            "",
-            "past the limit",
-            "epoch 2 sequence 2 members 2 of 4 at 4 - 6 - last 2 2 1 1 2 1 - -",
-        ),
-    ] {
-        let text = go_on(&rt, alloc, &mut tree, outs, ins)?;
-        assert_eq!(rt; text.as_str(), want_step);
-        let text = tree_text(alloc, &tree)?;
-        assert_eq!(rt; text.as_str(), want_tree);
-    }
+    let mut text = String::new(alloc);
+    push_step(&rt, alloc, &mut tree, ["", "abc"], &mut text)?;
+    push_tree(&tree, &mut text)?;
+    push_step(&rt, alloc, &mut tree, ["b", ""], &mut text)?;
+    push_tree(&tree, &mut text)?;
+    push_step(&rt, alloc, &mut tree, ["", ""], &mut text)?;
+    push_tree(&tree, &mut text)?;
+    assert_eq!(rt;
+        text.as_str(),
+        "1 sequence 0 drawn 1 2 3 4 5 6 wraps\n\
+         epoch 1 sequence 0 members 3 of 4 at 4 5 6 - last 1 1 1 1 1 1 - -\n\
+         2 sequence 2 drawn 1 2 wraps 4.1 2.2, 2.2 1.2, 3.1 1.2, 1.2 traffic.2,\n\
+         epoch 2 sequence 2 members 2 of 4 at 4 - 6 - last 2 2 1 1 2 1 - -\n\
+         past the limit\n\
+         epoch 2 sequence 2 members 2 of 4 at 4 - 6 - last 2 2 1 1 2 1 - -\n"
+    );
     Ok(())
 }
 
@@ -88,7 +71,7 @@ fn changes_wait_in_their_order(rt: HostRuntime) -> Result<(), Fail> {
 fn members_have_their_place_and_path(rt: HostRuntime) -> Result<(), Fail> {
     let alloc = rt.alloc();
     let mut tree = PresentTree::new(alloc, 2)?;
-    close(&rt, alloc, &mut tree, "", "abc")?;
+    close(&rt, alloc, &mut tree, ["", "abc"])?;
     assert_eq!(rt; tree.depth(), 2);
     assert_eq!(rt;
         (tree.is_member(&named(b'c')?), tree.is_member(&named(b'd')?)),
@@ -100,13 +83,12 @@ fn members_have_their_place_and_path(rt: HostRuntime) -> Result<(), Fail> {
     Ok(())
 }
 
-/// Makes a batch of those who go out and those who come in.
+/// Takes what a batch of those who go out and those who come in makes of the tree.
 fn close(
     rt: &impl Abort,
     alloc: Global,
     tree: &mut PresentTree,
-    outs: &str,
-    ins: &str,
+    [outs, ins]: [&str; 2],
 ) -> Result<Output, Fail> {
     let batch = batch_of(rt, outs, ins)?;
     assert!(rt; tree.fits(&batch));
@@ -116,41 +98,62 @@ fn close(
     Ok(tree.commit(plan))
 }
 
-/// Takes the step of a batch, with a limit of 3, and says what it is.
-fn go_on(
+/// Makes a batch of those who go out and those who come in, and says in a line what it puts out.
+fn push_plan(
     rt: &impl Abort,
     alloc: Global,
     tree: &mut PresentTree,
-    outs: &str,
-    ins: &str,
-) -> Result<String, Fail> {
+    changes: [&str; 2],
+    text: &mut String,
+) -> Result<(), Fail> {
+    let output = close(rt, alloc, tree, changes)?;
+    push_output(&output, text)
+}
+
+/// Takes the step of a batch, with a limit of 3, and says in a line what it is.
+fn push_step(
+    rt: &impl Abort,
+    alloc: Global,
+    tree: &mut PresentTree,
+    [outs, ins]: [&str; 2],
+    text: &mut String,
+) -> Result<(), Fail> {
     let batch = batch_of(rt, outs, ins)?;
     assert!(rt; tree.fits(&batch));
-    let mut text = String::new(alloc);
     let Some(step) = tree.step(alloc, &batch, 3)? else {
-        text.push_str("past the limit")?;
-        return Ok(text);
+        text.push_str("past the limit\n")?;
+        return Ok(());
     };
     write!(text, "{} sequence {} drawn", step.epoch(), step.sequence())?;
-    for id in step.drawn() {
-        push_number(&mut text, Some(u32::from(id.number())))?;
-    }
+    push_positions(step.drawn(), text)?;
+    text.push_str(" wraps")?;
+    push_wraps(text, &tree.wraps(alloc, &step)?)?;
+    text.push_str("\n")?;
     tree.advance(step);
-    Ok(text)
+    Ok(())
+}
+
+fn push_positions(ids: &[LkhId], text: &mut String) -> Result<(), Fail> {
+    for id in ids {
+        push_number(text, Some(u32::from(id.number())))?;
+    }
+    Ok(())
 }
 
 /// What a batch puts out, in one line.
-fn output_text(alloc: Global, output: &Output) -> Result<String, Fail> {
-    let mut text = format!(in alloc;
+fn push_output(output: &Output, text: &mut String) -> Result<(), Fail> {
+    write!(
+        text,
         "epoch {} sequence {} members {} replies",
         output.epoch, output.sequence, output.members
     )?;
     for reply in output.replies.as_slice() {
-        push_reply(&mut text, reply)?;
+        push_reply(text, reply)?;
     }
     text.push_str(" wraps")?;
-    push_wraps(&mut text, &output.wraps)?;
-    Ok(text)
+    push_wraps(text, &output.wraps)?;
+    text.push_str("\n")?;
+    Ok(())
 }
 
 /// To whom a reply goes, its epoch and sequence number, and its keys.
@@ -166,22 +169,29 @@ fn push_reply(text: &mut String, reply: &SentReply) -> Result<(), Fail> {
 }
 
 /// The tree in one line: which leaves a to d have, and when each of the positions 1 to 8 was changed last.
-fn tree_text(alloc: Global, tree: &PresentTree) -> Result<String, Fail> {
-    let mut text = format!(in alloc;
+fn push_tree(tree: &PresentTree, text: &mut String) -> Result<(), Fail> {
+    write!(
+        text,
         "epoch {} sequence {} members {} of {} at",
         tree.epoch(),
         tree.sequence(),
         tree.members(),
         tree.leaves()
     )?;
-    for letter in b"abcd" {
-        let place = tree.place(&named(*letter)?);
-        push_number(&mut text, place.map(|id| u32::from(id.number())))?;
-    }
+    push_places(tree, text)?;
     text.push_str(" last")?;
     for number in 1..9 {
         let id = LkhId::new(number).ok_or("a position")?;
-        push_number(&mut text, tree.last(id))?;
+        push_number(text, tree.last(id))?;
     }
-    Ok(text)
+    text.push_str("\n")?;
+    Ok(())
+}
+
+fn push_places(tree: &PresentTree, text: &mut String) -> Result<(), Fail> {
+    for letter in b"abcd" {
+        let place = tree.place(&named(*letter)?);
+        push_number(text, place.map(|id| u32::from(id.number())))?;
+    }
+    Ok(())
 }

@@ -10,7 +10,6 @@ use crate::{
     Batch, Change, KeyName, List, MemberName, NoMemory, Output, PresentTree, SentReply, SymReply,
     Wrap, holders,
 };
-use group_terms::LeafMarks;
 use std::alloc::Global;
 use std::marker::Model;
 
@@ -41,12 +40,14 @@ impl PresentTree {
         let tree = self.tree.after(alloc, self.depth, batch.changes(), epoch)?;
         let wraps = tree.wraps(alloc, self.depth, &self.tree, epoch)?;
         let sequence = sequence_after(self.sequence, &wraps);
-        let held = holders::held(alloc, tree.holders.as_slice())?;
+        let held = holders::held(alloc, self.depth, tree.holders.as_slice())?;
+        let free = holders::free(alloc, self.depth, tree.holders.as_slice())?;
         let next = PresentTree {
             depth: self.depth,
             epoch,
             sequence,
-            held: LeafMarks::of(alloc, self.depth, held.as_slice())?,
+            held,
+            free,
             tree,
             index: NameIndex::none(),
         };

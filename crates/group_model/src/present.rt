@@ -21,6 +21,8 @@ pub struct PresentTree {
     pub(crate) tree: Tree,
     /// The leaves that somebody has.
     pub(crate) held: LeafMarks,
+    /// Those that nobody has.
+    pub(crate) free: LeafMarks,
     pub(crate) index: NameIndex,
 }
 
@@ -39,7 +41,7 @@ impl Model for PresentTree {
       changes = present.tree.made;
     } };
 
-    ghost invariant = { λ present. IsPresent present.depth present.tree present.held present.index };
+    ghost invariant = { λ present. IsPresent present.depth present.tree present.held present.free present.index };
 }
 
 impl PresentTree {
@@ -52,6 +54,7 @@ impl PresentTree {
     {
         let tree = Tree::empty(alloc, depth)?;
         let held = LeafMarks::none(alloc, depth)?;
+        let free = holders::free(alloc, depth, tree.holders.as_slice())?;
         let index = NameIndex::new(alloc, held.count())?;
         Ok(PresentTree {
             depth,
@@ -59,6 +62,7 @@ impl PresentTree {
             sequence: 0,
             tree,
             held,
+            free,
             index,
         })
     }
@@ -100,7 +104,7 @@ impl PresentTree {
         ensures members { result ≡ member_count self.now.holders }
         ensures few { result ≤ length self.now.holders }
     {
-        holders::count_members(self.tree.holders.as_slice()) as u32
+        self.held.marked() as u32
     }
 
     /// The leaf that a member has; `None` for who is no member, and only there (RFC 2627 section 5.4).

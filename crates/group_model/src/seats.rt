@@ -1,7 +1,8 @@
 //! Leaves that change hands with a batch.
-ghost use Rattle.std.specs.Prelude.{◌≡◌, ◌^◌, ◌<◌, ◌≤◌, [], ◌∷◌, ◌++◌, length, map, is_some, IfOk, OnOk};
+ghost use Rattle.std.specs.Prelude.{◌≡◌, ◌^◌, ◌<◌, ◌≤◌, [], ◌∷◌, ◌++◌, length, map, is_none, is_some, IfOk, OnOk};
 ghost use Rattle.std.specs.List.{fold};
-ghost use Rattle.group_model.specs.Places.{Holders, placed, leavers, leaver, joiners};
+ghost use Rattle.group_terms.specs.Changes.{leaver, leavers, joiners};
+ghost use Rattle.group_model.specs.Places.{Holders, placed};
 ghost use Rattle.group_model.specs.Private.Seats.{IsIndexOf, vacancies};
 ghost use Rattle.group_model.specs.Steps.{IsSeating, seated};
 
@@ -25,6 +26,8 @@ pub(crate) struct Seating {
     pub(crate) seats: List<Seat>,
     /// Those that somebody has.
     pub(crate) held: LeafMarks,
+    /// Those that nobody has.
+    pub(crate) free: LeafMarks,
     /// Those whose holder is another than before.
     pub(crate) changed: LeafMarks,
     /// Those that somebody has who had them before.
@@ -32,17 +35,24 @@ pub(crate) struct Seating {
 }
 
 impl Seating {
-    /// Nothing changed hands yet. `held` are the leaves that somebody has.
-    pub(crate) fn begin(alloc: Global, depth: u8, held: &LeafMarks) -> Result<Self, NoMemory>
+    /// Nothing changed hands yet. `held` are the leaves that somebody has, and `free` the others.
+    pub(crate) fn begin(
+        alloc: Global,
+        depth: u8,
+        held: &LeafMarks,
+        free: &LeafMarks,
+    ) -> Result<Self, NoMemory>
         requires { depth ≤ 9 }
         ensures seats { IfOk result (λ seating. seating.seats ≡ []) }
         ensures seating { IfOk result (λ seating. (before : Holders) → length before ≡ 2 ^ depth →
-            held.now ≡ record { depth = depth; leaves = map is_some before } → IsSeating before seating) }
+            held.now ≡ record { depth = depth; leaves = map is_some before } →
+            free.now ≡ record { depth = depth; leaves = map is_none before } → IsSeating before seating) }
         ensures depth { IfOk result (λ seating. seating.held.depth ≡ held.now.depth) }
     {
         Ok(Seating {
             seats: List::new(alloc),
             held: held.copy(alloc)?,
+            free: free.copy(alloc)?,
             changed: LeafMarks::none(alloc, depth)?,
             kept: held.copy(alloc)?,
         })
@@ -57,7 +67,9 @@ impl Seating {
         ensures depth { self.new.held.depth ≡ self.old.held.depth }
     {
         self.seats.push(Seat { place, holder })?;
-        self.held.set(place, holder.is_some());
+        let taken = holder.is_some();
+        self.held.set(place, taken);
+        self.free.set(place, !taken);
         self.changed
             .set(place, !holders::is_same(&before[place], &holder));
         self.kept
@@ -128,7 +140,7 @@ impl Seating {
         ensures seating { IsSeating before.now self.new }
         ensures depth { self.new.held.depth ≡ self.old.held.depth }
     {
-        match self.held.lowest_unmarked() {
+        match self.free.lowest() {
             Some(place) => self.seat(before, place, Some(*member)),
             None => Ok(()),
         }

@@ -1,24 +1,27 @@
 //! What a batch makes of the present tree, found out before it is done.
-ghost use Rattle.std.specs.Prelude.{◌≡◌, ◌+◌, ◌-◌, ◌^◌, ◌<◌, ◌≤◌, ◌&&◌, ◌||◌, ◌==◌, ◌++◌, [], ◌∷◌, nat_le, Bool, length, None, Some, IfSome, IfNone, IfOk, OnOk, if◌then◌else◌};
-ghost use Rattle.std.specs.List.{filter, range_with_len};
+ghost use Rattle.std.specs.Prelude.{◌≡◌, ◌+◌, ◌-◌, ◌*◌, ◌^◌, ◌<◌, ◌≤◌, ◌&&◌, ◌||◌, ◌==◌, ◌++◌, [], ◌∷◌, nat_le, drop, length, None, Some, IfSome, IfNone, IfOk, OnOk, if◌then◌else◌};
+ghost use Rattle.std.specs.List.{All, filter, flat_map};
 ghost use Rattle.group_terms.specs.Positions.{some_leaf_below};
 ghost use Rattle.group_model.specs.Places.{Fits, holders_after};
 ghost use Rattle.group_model.specs.Present.{IsTreeAfter};
 ghost use Rattle.group_model.specs.Steps.{IsReady, IsSeating, IsStepOf, seated, stepped};
-ghost use Rattle.group_model.specs.Private.Draws.{is_drawn_by, drawn_by};
+ghost use Rattle.group_model.specs.Private.Draws.{renewed_from, marked_children};
 ghost use Rattle.group_model.specs.Private.Seats.{AreOnce};
 
 use crate::handovers::position;
 use crate::seats::Seating;
 use crate::{Batch, Change, List, LkhId, NoMemory, PresentTree};
+use group_terms::{LeafMarks, a_mark_is_that_of_a_child};
 use std::alloc::Global;
 
-/// What a batch makes of a tree. It costs the depth for each change, and a mark for each position.
+/// What a batch makes of a tree. It costs the depth for each change, and a copy of a mark for each position.
 #[derive(Debug, Drop)]
 pub struct TreeStep {
     pub(crate) epoch: u32,
     pub(crate) sequence: u32,
     pub(crate) seating: Seating,
+    /// The positions that the batch renews, rising.
+    pub(crate) fresh: List<LkhId>,
     pub(crate) drawn: List<LkhId>,
 }
 
@@ -64,11 +67,13 @@ impl PresentTree {
         let Some(sequence) = number_within(self.sequence, seating.kept.any(), limit) else {
             return Ok(None);
         };
-        let drawn = drawn(alloc, &seating)?;
+        let fresh = fresh(alloc, self.depth, &seating.changed)?;
+        let drawn = drawn(alloc, fresh.as_slice(), &seating.held)?;
         Ok(Some(TreeStep {
             epoch: self.epoch + 1,
             sequence,
             seating,
+            fresh,
             drawn,
         }))
     }
@@ -81,7 +86,7 @@ impl PresentTree {
             seated self.now.holders seating.seats ≡ holders_after self.now.holders batch.now) }
     {
         let holders = self.tree.holders.as_slice();
-        let mut seating = Seating::begin(alloc, self.depth, &self.held)?;
+        let mut seating = Seating::begin(alloc, self.depth, &self.held, &self.free)?;
         seating.vacate_all(holders, &self.index, batch)?;
         seating.place_all(holders, batch)?;
         Ok(seating)
@@ -104,37 +109,80 @@ fn number_within(sequence: u32, stayed: bool, limit: u32) -> Option<u32>
     Some(number)
 }
 
-/// The positions for whose keys values are drawn.
-fn drawn(alloc: Global, seating: &Seating) -> Result<List<LkhId>, NoMemory>
-    requires not_deep { seating.now.held.depth ≤ 9 }
-    requires same { seating.now.changed.depth ≡ seating.now.held.depth }
-    ensures { IfOk result (λ ids. ids ≡ drawn_by seating.now) }
+/// The positions that are renewed, found from the root down, level by level.
+fn fresh(alloc: Global, depth: u8, changed: &LeafMarks) -> Result<List<LkhId>, NoMemory>
+    requires not_deep { depth ≤ 9 }
+    requires same { changed.now.depth ≡ depth }
+    ensures { IfOk result (λ ids. ids ≡ renewed_from depth changed.now.leaves 1 (2 ^ (depth + 1) - 1)) }
 {
-    let mut ids = List::new(alloc);
-    for v in 1..2 * seating.held.count() {
-        draw(v, seating, &mut ids)?;
+    a_mark_is_that_of_a_child();
+    let mut ids = List::with_room(alloc, changed.count())?;
+    ids.push(position(1))?;
+    let mut level = 0;
+    for _ in 0..depth {
+        let next = ids.len();
+        push_below(level, changed, &mut ids)?;
+        level = next;
     }
     Ok(ids)
 }
 
-/// Adds a position, if a value is drawn for it.
-fn draw(v: usize, seating: &Seating, ids: &mut List<LkhId>) -> Result<(), NoMemory>
-    requires positive { 0 < v }
-    requires not_deep { seating.now.held.depth ≤ 9 }
-    requires within { v < 2 ^ (seating.now.held.depth + 1) }
-    requires same { seating.now.changed.depth ≡ seating.now.held.depth }
-    ensures { OnOk result (ids.new ≡ ids.old ++ (if is_drawn_by seating.now v then v ∷ [] else [])) }
+/// Adds the marked children of the positions of a level, the last one of the list, which begins at this place of it.
+fn push_below(level: usize, changed: &LeafMarks, ids: &mut List<LkhId>) -> Result<(), NoMemory>
+    requires not_deep { changed.now.depth ≤ 9 }
+    requires within { level ≤ length ids.old }
+    requires inner { All (λ v. v < 2 ^ changed.now.depth) (drop level ids.old) }
+    ensures { OnOk result (ids.new ≡ ids.old ++ flat_map (marked_children changed.now.depth changed.now.leaves) (drop level ids.old)) }
 {
-    if is_drawn(v, seating) {
+    for i in level..ids.len() {
+        let id = ids.as_slice()[i];
+        push_children(usize::from(id.number()), changed, ids)?;
+    }
+    Ok(())
+}
+
+/// Adds the marked children of a position.
+fn push_children(v: usize, changed: &LeafMarks, ids: &mut List<LkhId>) -> Result<(), NoMemory>
+    requires positive { 0 < v }
+    requires not_deep { changed.now.depth ≤ 9 }
+    requires inner { v < 2 ^ changed.now.depth }
+    ensures { OnOk result (ids.new ≡ ids.old ++ marked_children changed.now.depth changed.now.leaves v) }
+{
+    push_if(2 * v, changed.is_below(2 * v), ids)?;
+    push_if(2 * v + 1, changed.is_below(2 * v + 1), ids)?;
+    Ok(())
+}
+
+fn push_if(v: usize, marked: bool, ids: &mut List<LkhId>) -> Result<(), NoMemory>
+    requires positive { 0 < v }
+    requires small { v < 65536 }
+    ensures { OnOk result (ids.new ≡ ids.old ++ (if marked then v ∷ [] else [])) }
+{
+    if marked {
         ids.push(position(v))?;
     }
     Ok(())
 }
 
-fn is_drawn(v: usize, seating: &Seating) -> bool
-    requires within { v < 2 ^ (seating.now.held.depth + 1) }
-    requires same { seating.now.changed.depth ≡ seating.now.held.depth }
-    ensures { result ≡ is_drawn_by seating.now v }
+/// The renewed positions for whose keys values are drawn.
+fn drawn(alloc: Global, fresh: &[LkhId], held: &LeafMarks) -> Result<List<LkhId>, NoMemory>
+    requires { All (λ v. v < 2 ^ (held.now.depth + 1)) fresh.now }
+    ensures { IfOk result (λ ids. ids ≡ filter (λ v. v == 1 || some_leaf_below held.now.depth held.now.leaves v) fresh.now) }
 {
-    v == 1 || (seating.changed.is_below(v) && seating.held.is_below(v))
+    let mut ids = List::with_room(alloc, fresh.len())?;
+    for id in fresh {
+        if is_kept(*id, held) {
+            ids.push(*id)?;
+        }
+    }
+    Ok(ids)
+}
+
+/// Whether a position is the root, or a member stands below it.
+fn is_kept(id: LkhId, held: &LeafMarks) -> bool
+    requires { id < 2 ^ (held.now.depth + 1) }
+    ensures { result ≡ (id == 1 || some_leaf_below held.now.depth held.now.leaves id) }
+{
+    let v = usize::from(id.number());
+    v == 1 || held.is_below(v)
 }

@@ -202,7 +202,7 @@ fn wrap_under(
 }
 
 /// The name of the key that a position was given in an epoch.
-fn node(v: usize, made: u32) -> KeyName
+pub(crate) fn node(v: usize, made: u32) -> KeyName
     requires positive { 0 < v }
     requires small { v < 65536 }
     ensures { result ≡ Node v made }

@@ -7,8 +7,13 @@ ghost use Rattle.group_records.specs.Readings.{many, node, traffic, NodesGive};
 use crate::faults::RecordFault;
 use byteorder::{BigEndian, ByteOrder};
 use gd_wire::{Reader, WireFault, WireWhat, fault};
-use group_terms::{Drawn, List, LkhId, NoMemory, NodeValue, Octets, TrafficValue};
+use group_terms::{
+    Drawn, IV_OCTETS, KEY_OCTETS, List, LkhId, NoMemory, NodeValue, Octets, TrafficValue,
+};
 use std::alloc::Global;
+
+/// How many octets the value of a position has: its number, an IV and a key.
+const NODE_OCTETS: usize = 2 + IV_OCTETS + KEY_OCTETS;
 
 /// Reads a number of values of positions.
 pub(crate) fn nodes(
@@ -19,7 +24,8 @@ pub(crate) fn nodes(
     ensures gives { NodesGive result text.new (many node count text.old) }
     ensures count { IfOk result (λ drawn. length drawn ≡ count) }
 {
-    let mut drawn = List::new(alloc);
+    let whole = text.left().len() / NODE_OCTETS;
+    let mut drawn = List::with_room(alloc, whole.min(usize::from(count)))?;
     for _ in 0..count {
         drawn.push(node(text)?)?;
     }
@@ -35,10 +41,21 @@ fn node(text: &mut Reader<'_>) -> Result<Drawn, WireFault>
     let Some(id) = LkhId::new(text.number()?) else {
         return Err(fault(WireWhat::Value, at));
     };
-    let iv = text.array()?;
-    let key = text.array()?;
-    let value = NodeValue { iv, key };
+    let iv = text.octets(IV_OCTETS)?;
+    let key = text.octets(KEY_OCTETS)?;
+    let value = NodeValue {
+        iv: block(iv),
+        key: block(key),
+    };
     Ok(Drawn { id, value })
+}
+
+/// As many octets as an IV or a key has, as an array.
+fn block(octets: &[u8]) -> [u8; 16]
+    requires { length octets.now ≡ 16 }
+    ensures { result ≡ octets.now }
+{
+    *octets.first_chunk().unwrap()
 }
 
 /// Reads the value of a traffic key, whose SPI has its highest bit set.

@@ -4,7 +4,7 @@ use Rattle.std.proofs.lemmas.Bool.{or_cases, or_left, or_right, eqb-true, eq-eqb
 use Rattle.std.proofs.lemmas.Grind.{pow_more}
 use Rattle.group_terms.specs.Positions.{halved, IsBelow, is_below}
 
-pow_suc : (n : ℕ) → 2 ^ suc n ≡ 2 ^ n * 2
+pub pow_suc : (n : ℕ) → 2 ^ suc n ≡ 2 ^ n * 2
 pow_suc n = ap (λ k. 2 ^ k) (sym (add-one n)) ∙ pow_more 2 n
 
 pub pow_pos : (n : ℕ) → 0 < 2 ^ n

@@ -1,5 +1,7 @@
 -- What the changes of a batch say.
-use Rattle.group_terms.specs.Names.{Name}
+use Rattle.std.specs.Prelude.{Bool, List, Option, None, Some}
+use Rattle.std.specs.List.{filter_map, list_any}
+use Rattle.group_terms.specs.Names.{Name, same_name}
 use Rattle.group_terms.specs.declared.changes.Change.{Change}
 use Rattle.group_terms.specs.declared.changes.Change.TheVariants.{Out, In}
 
@@ -7,3 +9,23 @@ use Rattle.group_terms.specs.declared.changes.Change.TheVariants.{Out, In}
 abbrev pub member_of : Change → Name
 member_of (Out member) = member
 member_of (In member) = member
+
+-- whether a change of m is pending
+abbrev pub is_pending : List Change → Name → Bool
+is_pending queue m = list_any (λ change. same_name m (member_of change)) queue
+
+-- whom a change takes out, and whom it lets in
+abbrev pub leaver : Change → Option Name
+leaver (Out m) = Some m
+leaver (In m) = None
+
+abbrev pub joiner : Change → Option Name
+joiner (Out m) = None
+joiner (In m) = Some m
+
+-- the names of a batch's Outs and of its Ins, each in the order of the batch
+abbrev pub leavers : List Change → List Name
+leavers batch = filter_map leaver batch
+
+abbrev pub joiners : List Change → List Name
+joiners batch = filter_map joiner batch

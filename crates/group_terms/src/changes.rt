@@ -1,5 +1,6 @@
 ghost use Rattle.std.specs.Prelude.{◌≡◌, ◌<◌, ◌≤◌, [], ◌∷◌, ◌++◌, length};
-ghost use Rattle.group_terms.specs.Changes.{member_of};
+ghost use Rattle.group_terms.specs.Names.{same_name};
+ghost use Rattle.group_terms.specs.Changes.{member_of, is_pending, leaver, leavers, joiner, joiners};
 
 use crate::MemberName;
 use arrayvec::ArrayVec;
@@ -79,5 +80,61 @@ impl Batch {
         ensures few { length self.now ≤ MOST_CHANGES }
     {
         self.changes.as_slice()
+    }
+
+    /// Whether some change is about a member.
+    pub fn has(&self, member: &MemberName) -> bool
+        ensures { result ≡ is_pending self.now member.now }
+    {
+        is_named(self.changes(), member)
+    }
+
+    /// How many changes take a member out.
+    pub fn leaves(&self) -> usize
+        ensures count { result ≡ length (leavers self.now) }
+        ensures few { result ≤ MOST_CHANGES }
+    {
+        self.changes().iter().filter_map(leaver).count()
+    }
+
+    /// How many changes let somebody in.
+    pub fn joins(&self) -> usize
+        ensures count { result ≡ length (joiners self.now) }
+        ensures few { result ≤ MOST_CHANGES }
+    {
+        self.changes().iter().filter_map(joiner).count()
+    }
+}
+
+/// Whether some change is about a member.
+pub fn is_named(changes: &[Change], member: &MemberName) -> bool
+    ensures { result ≡ is_pending changes.now member.now }
+{
+    changes.iter().any(|change| is_about(change, member))
+}
+
+fn is_about(change: &Change, member: &MemberName) -> bool
+    ensures { result ≡ same_name member.now (member_of change.now) }
+{
+    member == change.member()
+}
+
+/// Whom a change takes out.
+fn leaver(change: &Change) -> Option<MemberName>
+    ensures { result ≡ leaver change.now }
+{
+    match change {
+        Change::Out { member } => Some(*member),
+        Change::In { .. } => None,
+    }
+}
+
+/// Whom a change lets in.
+fn joiner(change: &Change) -> Option<MemberName>
+    ensures { result ≡ joiner change.now }
+{
+    match change {
+        Change::Out { .. } => None,
+        Change::In { member } => Some(*member),
     }
 }

@@ -1,6 +1,6 @@
 //! Marks on the leaves of a tree, which say for each position whether a marked leaf stands below it.
-ghost use Rattle.std.specs.Prelude.{◌≡◌, ◌+◌, ◌^◌, ◌<◌, ◌≤◌, length, drop, replicate, slice_set, false, not, IfOk};
-ghost use Rattle.std.specs.List.{list_any, position};
+ghost use Rattle.std.specs.Prelude.{◌≡◌, ◌+◌, ◌*◌, ◌^◌, ◌<◌, ◌≤◌, length, drop, replicate, slice_set, false, IfOk, IsTrue, if◌then◌else◌};
+ghost use Rattle.std.specs.List.{count_by, list_any, position};
 ghost use Rattle.group_terms.specs.Positions.{some_leaf_below, marks_of};
 
 use crate::{List, NoMemory, marks_above};
@@ -13,17 +13,21 @@ pub struct LeafMarks {
     depth: u8,
     /// For each number up to that of the last leaf, whether a marked leaf stands at this position or below it.
     marks: List<bool>,
+    /// How many leaves are marked.
+    marked: usize,
 }
 
 impl Model for LeafMarks {
     ghost use Rattle.std.specs.Prelude.{◌≡◌, ◌≤◌, ◌^◌, drop};
+    ghost use Rattle.std.specs.List.{count_by};
     ghost use Rattle.group_terms.specs.Positions.{marks_of};
     ghost use Rattle.group_terms.specs.LeafMarks.{Marked};
 
     ghost Value = { Marked };
 
     ghost invariant = { λ leaf_marks. (leaf_marks.depth ≤ 9) ×
-        (leaf_marks.marks ≡ marks_of leaf_marks.depth (drop (2 ^ leaf_marks.depth) leaf_marks.marks)) };
+        (leaf_marks.marks ≡ marks_of leaf_marks.depth (drop (2 ^ leaf_marks.depth) leaf_marks.marks)) ×
+        (leaf_marks.marked ≡ count_by (λ mark. mark) (drop (2 ^ leaf_marks.depth) leaf_marks.marks)) };
 
     ghost view = { λ leaf_marks. record {
       depth = leaf_marks.depth;
@@ -38,7 +42,11 @@ impl LeafMarks {
         ensures { IfOk result (λ leaf_marks. leaf_marks ≡ record { depth = depth; leaves = replicate (2 ^ depth) false }) }
     {
         let marks = no_marks(alloc, depth)?;
-        Ok(LeafMarks { depth, marks })
+        Ok(LeafMarks {
+            depth,
+            marks,
+            marked: 0,
+        })
     }
 
     /// These marks, one for each leaf by rising leaf.
@@ -48,7 +56,11 @@ impl LeafMarks {
         ensures { IfOk result (λ leaf_marks. leaf_marks ≡ record { depth = depth; leaves = leaves.now }) }
     {
         let marks = marks_above(alloc, depth, leaves)?;
-        Ok(LeafMarks { depth, marks })
+        Ok(LeafMarks {
+            depth,
+            marks,
+            marked: count_marked(leaves),
+        })
     }
 
     /// The same marks again.
@@ -58,6 +70,7 @@ impl LeafMarks {
         Ok(LeafMarks {
             depth: self.depth,
             marks: List::copy_of(alloc, self.marks.as_slice())?,
+            marked: self.marked,
         })
     }
 
@@ -66,6 +79,8 @@ impl LeafMarks {
         requires { place < 2 ^ self.old.depth }
         ensures { self.new ≡ record { depth = self.old.depth; leaves = slice_set self.old.leaves place mark } }
     {
+        let was = self.marks.as_slice()[self.count() + place];
+        self.marked = recounted(self.marked, was, mark);
         set_mark(self.depth, self.marks.as_mut_slice(), place, mark);
     }
 
@@ -84,12 +99,20 @@ impl LeafMarks {
         self.marks.as_slice()[1]
     }
 
-    /// The place of the lowest leaf without a mark; `None` where each leaf has one.
-    pub fn lowest_unmarked(&self) -> Option<usize>
-        ensures { result ≡ position not self.now.leaves }
+    /// The place of the lowest marked leaf; `None` where no leaf is marked. It costs the depth.
+    pub fn lowest(&self) -> Option<usize>
+        ensures { result ≡ position (λ mark. mark) self.now.leaves }
     {
-        let (_, leaves) = self.marks.as_slice().split_at(self.count());
-        leaves.iter().position(|mark| !*mark)
+        lowest_in(self.depth, self.marks.as_slice())
+    }
+
+    /// How many leaves are marked.
+    pub fn marked(&self) -> usize
+        ensures marked { result ≡ count_by (λ mark. mark) self.now.leaves }
+        ensures few { result ≤ length self.now.leaves }
+        ensures small { result ≤ 512 }
+    {
+        self.marked
     }
 
     /// How many leaves there are.
@@ -108,7 +131,7 @@ fn no_marks(alloc: Global, depth: u8) -> Result<List<bool>, NoMemory>
     Ok(List::from_vec(vec![in alloc; false; 1 << (depth + 1)]?))
 }
 
-/// Changes the mark of a leaf, and from there up each mark that depends on it.
+/// Changes the mark of a leaf, and from there up each mark that depends on it, as far as they change.
 fn set_mark(depth: u8, marks: &mut [bool], place: usize, mark: bool)
     requires not_deep { depth ≤ 9 }
     requires place { place < 2 ^ depth }
@@ -119,6 +142,53 @@ fn set_mark(depth: u8, marks: &mut [bool], place: usize, mark: bool)
     marks[v] = mark;
     while v > 1 {
         v /= 2;
-        marks[v] = marks[2 * v] | marks[2 * v + 1];
+        let below = marks[2 * v] | marks[2 * v + 1];
+        if marks[v] == below {
+            return;
+        }
+        marks[v] = below;
+    }
+}
+
+/// The place of the lowest marked leaf, found from the root down.
+fn lowest_in(depth: u8, marks: &[bool]) -> Option<usize>
+    requires not_deep { depth ≤ 9 }
+    requires marks { marks.now ≡ marks_of depth (drop (2 ^ depth) marks.now) }
+    ensures { result ≡ position (λ mark. mark) (drop (2 ^ depth) marks.now) }
+{
+    if !marks[1] {
+        return None;
+    }
+    let mut v = 1;
+    for _ in 0..depth {
+        v = lower(v, marks[2 * v]);
+    }
+    Some(v - marks.len() / 2)
+}
+
+/// The left child of a position, if that is marked, or else the right one.
+fn lower(v: usize, left: bool) -> usize
+    requires { v < 65536 }
+    ensures { result ≡ (if left then 2 * v else 2 * v + 1) }
+{
+    if left { 2 * v } else { 2 * v + 1 }
+}
+
+fn count_marked(leaves: &[bool]) -> usize
+    ensures { result ≡ count_by (λ mark. mark) leaves.now }
+{
+    leaves.iter().filter(|mark| **mark).count()
+}
+
+/// How many leaves are marked once one of them, which was marked or not, is.
+fn recounted(marked: usize, was: bool, mark: bool) -> usize
+    requires few { marked ≤ 65536 }
+    requires some { IsTrue was → 0 < marked }
+    ensures { result + (if was then 1 else 0) ≡ marked + (if mark then 1 else 0) }
+{
+    match (was, mark) {
+        (true, false) => marked - 1,
+        (false, true) => marked + 1,
+        _ => marked,
     }
 }

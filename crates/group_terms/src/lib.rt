@@ -3,14 +3,14 @@
 //! how faults of the outside are counted.
 #![tactic(auto)]
 
-pub use changes::{Batch, Change, MOST_CHANGES};
+pub use changes::{Batch, Change, MOST_CHANGES, is_named};
 pub use faults::{Failed, counted_on};
 pub use groups::GroupName;
 pub use keys::{KeyName, Wrap};
 pub use leaf_marks::LeafMarks;
 pub use lists::{List, Octets};
 pub use logs::Log;
-pub use marks::marks_above;
+pub use marks::{a_mark_is_that_of_a_child, marks_above};
 pub use members::{MOST_MEMBERS, MemberNames};
 pub use memory::NoMemory;
 pub use names::MemberName;

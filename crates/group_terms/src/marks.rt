@@ -1,4 +1,4 @@
-ghost use Rattle.std.specs.Prelude.{◌≡◌, ◌≤◌, ◌^◌, ◌+◌, ◌++◌, false, length, map, replicate, IfOk};
+ghost use Rattle.std.specs.Prelude.{◌≡◌, ◌≤◌, ◌<◌, ◌^◌, ◌+◌, ◌*◌, ◌++◌, ◌||◌, ℕ, Bool, List, false, length, map, replicate, IfOk};
 ghost use Rattle.std.specs.List.{range_with_len};
 ghost use Rattle.group_terms.specs.Positions.{some_leaf_below};
 
@@ -30,3 +30,11 @@ fn mark_inner(depth: u8, leaves: &[bool], marks: &mut [bool])
         marks[v] = marks[2 * v] | marks[2 * v + 1];
     }
 }
+
+/// No leaf stands below 0, which is no position; and one stands below an inner position exactly where it does so below a child of it. So the same
+/// holds of marks.
+pub fn a_mark_is_that_of_a_child()
+    ensures none { (depth : ℕ) (leaves : List Bool) → some_leaf_below depth leaves 0 ≡ false }
+    ensures child { (depth : ℕ) (leaves : List Bool) (v : ℕ) → length leaves ≡ 2 ^ depth → 0 < v → v < 2 ^ depth →
+        some_leaf_below depth leaves v ≡ (some_leaf_below depth leaves (2 * v) || some_leaf_below depth leaves (2 * v + 1)) }
+{}

@@ -4,13 +4,14 @@ ghost use Rattle.std.specs.Cmp.{partial_equiv_from_equiv};
 ghost use Rattle.std.specs.Cmp.Lexicographic.{nat_list_eq_equiv};
 ghost use Rattle.group_terms.specs.Names.{is_name_octet, is_name, name_of, same_name, padded};
 
+use std::hash::{Hash, Hasher};
 use std::marker::Model;
 
 /// How many octets a name has at the most.
 pub(crate) const MOST_OCTETS: usize = 32;
 
 /// What a script calls a member: 1 to 32 octets out of a to z, 0 to 9 and `_`.
-#[derive(Clone, Copy, Debug, Hash)]
+#[derive(Clone, Copy, Debug)]
 pub struct MemberName {
     octets: [u8; MOST_OCTETS],
     length: u8,
@@ -82,6 +83,21 @@ impl PartialEq for MemberName {
 
 impl Eq for MemberName {
     ghost laws = { nat_list_eq_equiv };
+}
+
+impl Hash for MemberName {
+    ghost use Rattle.std.specs.Prelude.{[], ◌∷◌};
+    ghost use Rattle.std.proofs.Common.{ap};
+    ghost use Rattle.std.proofs.lemmas.Slice.Eq.{bytes_eq-Decides};
+
+    ghost hash_input = { λ name. name ∷ [] };
+
+    ghost respects_eq = { λ x y same. ap (λ text. text ∷ []) ((bytes_eq-Decides x y).0 same) };
+
+    /// The octets of the text at once, not one after the other with the zeros after them.
+    fn hash<H: Hasher>(&self, state: &mut H) {
+        state.write(self.text());
+    }
 }
 
 /// A text at the front of a field, with zeros after it.

@@ -115,8 +115,11 @@ fn marks_follow_their_leaf(rt: HostRuntime) -> Result<(), NoMemory> {
         marks.is_below(6),
     ];
     assert_eq!(rt; seen, [true, false, true, true]);
-    assert_eq!(rt; copy.lowest_unmarked(), Some(0));
+    assert_eq!(rt; (copy.lowest(), copy.marked()), (Some(2), 1));
     marks.set(2, false);
+    assert_eq!(rt; (marks.lowest(), marks.marked()), (None, 0));
     assert!(rt; !marks.any() && copy.any() && copy.count() == 4);
+    let marks = LeafMarks::of(rt.alloc(), 1, &[false, true])?;
+    assert_eq!(rt; (marks.lowest(), marks.marked()), (Some(1), 1));
     Ok(())
 }

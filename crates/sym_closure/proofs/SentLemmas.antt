@@ -7,16 +7,17 @@ use Rattle.std.proofs.lemmas.List.{append-nil, length-append, take-append-le, ta
 use Rattle.std.proofs.lemmas.List.Concat.{flat_map-append}
 use Rattle.std.proofs.lemmas.List.Elements.{Contains-append_left, Contains-append_right, Contains-append_cases}
 use Rattle.std.proofs.lemmas.Slice.Eq.{bytes_eq-Decides}
+use Rattle.group_terms.specs.Changes.{is_pending, joiners}
 use Rattle.group_terms.specs.Names.{Name, same_name}
 use Rattle.group_terms.specs.declared.changes.Change.{Change}
 use Rattle.group_terms.specs.declared.keys.KeyName.{KeyName}
 use Rattle.group_terms.specs.declared.keys.KeyName.TheVariants.{Traffic, Phase}
 use Rattle.group_terms.specs.declared.keys.Wrap.{Wrap}
-use Rattle.group_model.specs.Places.{is_held_by, is_member, holders_of, holders_at, joiners, IsValid}
+use Rattle.group_model.specs.Places.{is_held_by, is_member, holders_of, holders_at, IsValid}
 use Rattle.group_model.specs.Wraps.{wraps_at}
 use Rattle.group_model.specs.Replies.{reply_at, replies_to, says_of}
 use Rattle.group_model.specs.Groups.{Reading, Group, no_group, new_group, present_group, group_after, after_entry, after_answer, with_batch, depth_after, batches_after, present_holders, IsSound}
-use Rattle.group_model.specs.Legal.{IsDue, IsOutOfMemory, IsOutputOf, IsBatched, IsStep, AreSteps, IsLegalHistory, opens, leaves_taken, answer_to_join, answer_to_leave, is_pending}
+use Rattle.group_model.specs.Legal.{IsDue, IsOutOfMemory, IsOutputOf, IsBatched, IsStep, AreSteps, IsLegalHistory, opens, leaves_taken, answer_to_join, answer_to_leave}
 use Rattle.group_model.specs.Derivations.{replies_in, replies_sent, names_to, held_names, told_pairs, reply_pairs, pairs_in, pairs_sent, CanDerive}
 use Rattle.group_model.specs.declared.entries.Entry.{Entry}
 use Rattle.group_model.specs.declared.entries.SymReply.{SymReply}

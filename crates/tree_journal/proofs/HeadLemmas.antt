@@ -1,12 +1,12 @@
 -- What the octets at a gate say of the records from there on.
-use Rattle.std.proofs.Common.{◌≡◌, ◌≢◌, ◌∙◌, inl, inr, ℕ, zero, suc, ◌+◌, ◌-◌, List, [], ◌∷◌, length, take, drop, Option, Some, None, Result, Ok, Err, Bool, true, false, refl, sym, ap, subst, arith, length-take, length-drop}
+use Rattle.std.proofs.Common.{◌≡◌, ◌≢◌, ◌∙◌, inl, inr, ℕ, zero, suc, ◌+◌, ◌-◌, ◌≤◌, List, [], ◌∷◌, ◌++◌, length, min, take, drop, Option, Some, None, Result, Ok, Err, Bool, true, false, refl, sym, ap, subst, arith, length-take, length-drop}
 use Rattle.std.proofs.lemmas.Bool.{le-leb, lt-leb, eq-eqb, eqb-true, false≢true, cases_lt}
-use Rattle.std.proofs.lemmas.List.{drop-drop}
+use Rattle.std.proofs.lemmas.List.{append-nil, drop-drop, drop-take, drop_all, take-take, take_all, take_min}
 use Rattle.std.proofs.Math.Dec.{leb}
-use Rattle.std.specs.Prelude.{if◌then◌else◌, ◌==◌, ◌&&◌}
+use Rattle.std.specs.Prelude.{if◌then◌else◌, ◌==◌, ◌&&◌, OnErr}
 use Rattle.byteorder.specs.Endian.{big_from}
 use Rattle.byteorder.specs.Numbers.{big_from-take}
-use Rattle.tree_journal.specs.Private.Found.{IsShutAt}
+use Rattle.tree_journal.specs.Private.Found.{IsShutAt, near_octets}
 use Rattle.tree_journal.specs.Private.Heads.{head_in}
 use Rattle.tree_journal.specs.Records.{records_from, bodies_from, body_next, record_then, most_octets, IsRecordAt}
 use Rattle.tree_journal.specs.declared.reads.Head.{Head}
@@ -146,3 +146,32 @@ module _ (file : List ℕ) (at : ℕ) (head : Head) (is : head ≡ head_in (take
 
   pub found_whole : (size : ℕ) → head ≡ Open size → leb size (length file - (at + 5)) ≡ true → IsRecordAt file at (take size (drop (at + 5) file))
   found_whole size opens there = open_record file at size (drop at file) refl (sym opens ∙ is) there
+
+-- The first octets from a place on are enough for the gate and the length, and for a record that ends within them.
+module _ (file octets : List ℕ) (at : ℕ) (is : octets ≡ take near_octets (drop at file)) where
+  pub near_head : (n : ℕ) → n ≡ min (length octets) 5 → take n octets ≡ take 5 (drop at file)
+  near_head n few =
+      let same : n ≡ min 5 (length octets) = omega (arith, few) in
+      ap (λ k. take k octets) same ∙ take_min 5 octets ∙ ap (take 5) is ∙ take-take 5 near_octets (drop at file) (omega arith)
+
+  pub near_there : (size : ℕ) → 5 + size ≤ length octets → leb size (length file - (at + 5)) ≡ true
+  near_there size whole = le-leb size (length file - (at + 5)) (omega (arith, whole, ap length is, length-take near_octets (drop at file), length-drop at file))
+
+  pub near_body : (size : ℕ) → 5 + size ≤ length octets → Some (take (5 + size - 5) (drop 5 octets)) ≡ body_at file at size
+  near_body size whole =
+      let alone : 5 + size - 5 ≡ size = omega arith in
+      let long : size ≤ 2043 = omega (arith, whole, ap length is, length-take near_octets (drop at file)) in
+      let cut : drop 5 octets ≡ take 2043 (drop (at + 5) file) = ap (drop 5) is ∙ drop-take 5 2043 (drop at file) ∙ ap (take 2043) (drop-drop 5 at file) in
+      ap Some ((λ i. take (alone i) (cut i)) ∙ take-take size 2043 (drop (at + 5) file) long)
+      ∙ sym (ap (λ there. if there then Some (take size (drop (at + 5) file)) else None) (near_there size whole))
+
+-- what holds anyway holds where a call fails
+pub on_error : {A E : Type 0} (answer : Result A E) (P : Type 0) → P → OnErr answer P
+on_error (Ok value) P holds = tt
+on_error (Err why) P holds = holds
+
+-- a room of which all was written over
+pub room_after : (old new : List ℕ) → length new ≡ length old → take (length old) (new ++ drop (length new) old) ≡ new
+room_after old new same =
+    let nothing : drop (length new) old ≡ [] = drop_all (length new) old (omega (arith, same)) in
+    ap (λ rest. take (length old) (new ++ rest)) nothing ∙ ap (take (length old)) (append-nil new) ∙ take_all (length old) new (omega (arith, same))

@@ -3,11 +3,12 @@ ghost use Rattle.std.specs.Prelude.{◌≡◌, ◌<◌, ◌≤◌, ◌^◌, ◌+
 ghost use Rattle.gd_disk.specs.Disks.{Knows};
 ghost use Rattle.group_terms.specs.Faults.{Rose};
 ghost use Rattle.gd_disk.specs.Moments.{shown, Keeps, LeavesOnly};
-ghost use Rattle.tree_journal.specs.Private.Found.{IsFound};
+ghost use Rattle.tree_journal.specs.Private.Found.{IsFound, IsNear, IsShort, near_octets};
 ghost use Rattle.tree_journal.specs.Private.Heads.{head_in};
 ghost use Rattle.tree_journal.specs.Records.{IsRecordAt, bodies_from, with_front};
 ghost use Rattle.tree_journal.specs.declared.reads.Found.TheVariants.{Record, Nothing};
-ghost use Rattle.tree_journal.specs.declared.reads.Head.TheVariants.{Broken, Open};
+ghost use Rattle.tree_journal.specs.declared.reads.Head.TheVariants.{Open};
+ghost use Rattle.tree_journal.specs.declared.reads.Near.TheVariants.{Whole};
 ghost use Rattle.tree_journal.specs.declared.refusals.JournalRefusal.TheVariants.{Closed, DiskFault, NotAJournal, NoMemory as OutOfMemory};
 
 use crate::gates::OPEN;
@@ -15,11 +16,14 @@ use crate::journals::{Journal, MOST};
 use crate::refusals::JournalRefusal;
 use byteorder::{BigEndian, ByteOrder};
 use gd_disk::{Disk, Failed};
-use group_terms::Octets;
+use group_terms::{NoMemory, Octets};
 use std::alloc::Global;
 
 /// A gate and a length.
 const HEAD: usize = 5;
+
+/// How many octets are read first. Most records end within them.
+const NEAR: usize = 2048;
 
 /// What the octets of a gate and a length say.
 #[derive(Clone, Copy, Debug, PartialEq, Eq)]
@@ -41,6 +45,15 @@ pub(crate) enum Found {
     End,
     /// Neither.
     Nothing,
+}
+
+/// What the first octets at a place of a file tell of what stands there.
+#[derive(Debug, Drop)]
+pub(crate) enum Near {
+    /// All of it.
+    Whole { found: Found },
+    /// That there is an open gate, and that so many octets are due after it and the length, of which some are further on.
+    Begun { size: usize },
 }
 
 impl<D: Disk> Journal<D> {
@@ -152,10 +165,9 @@ impl<D: Disk> Journal<D> {
         ensures cause { result ≡ Err DiskFault → Rose (D.faults self.old.disk) (D.faults self.new.disk) }
         ensures keeps { Keeps D.Disk self.old.disk self.new.disk }
     {
-        let size = match self.head()? {
-            Head::Open { size } => size,
-            Head::Shut => return Ok(Found::End),
-            Head::Broken => return Ok(Found::Nothing),
+        let size = match self.near(alloc)? {
+            Near::Whole { found } => return Ok(found),
+            Near::Begun { size } => size,
         };
         match self.body(alloc, size)? {
             Some(body) => Ok(Found::Record { body }),
@@ -163,23 +175,25 @@ impl<D: Disk> Journal<D> {
         }
     }
 
-    /// What the gate and the length there say.
-    fn head(&mut self) -> Result<Head, JournalRefusal>
+    /// What the first octets there tell.
+    fn near(&mut self, alloc: Global) -> Result<Near, JournalRefusal>
         requires { self.old.closed ≡ false }
-        ensures head { IfOk result (λ head. Knows (shown D.Disk self.old.disk) (λ file. head ≡ head_in (take 5 (drop self.old.at file)))) }
-        ensures far { 2 ^ 62 ≤ self.old.at → IfOk result (λ head. head ≡ Broken) }
-        ensures short { IfOk result (λ head. (size : ℕ) → head ≡ Open size → size ≤ 65536) }
+        ensures near { IfOk result (λ near. Knows (shown D.Disk self.old.disk) (λ file. IsNear file self.old.at near)) }
+        ensures memory { result ≡ Err OutOfMemory → Knows (shown D.Disk self.old.disk)
+            (λ file. (body : List ℕ) × IsRecordAt file self.old.at body) }
+        ensures short { IfOk result IsShort }
+        ensures far { 2 ^ 62 ≤ self.old.at → IfOk result (λ near. near ≡ Whole Nothing) }
         ensures same { shown D.Disk self.new.disk ≡ shown D.Disk self.old.disk }
         ensures any_moment { Knows (shown D.Disk self.old.disk) (λ file. LeavesOnly D.Disk self.old.disk self.new.disk (λ c. c ≡ file)) }
-        ensures ok { OnOk result (self.new ≡ record self.old { disk = self.new.disk }) }
-        ensures err { OnErr result (self.new ≡ record self.old { disk = self.new.disk; closed = true }) }
-        ensures fault { IfErr result (λ why. why ≡ DiskFault) }
-        ensures stands { OnOk result (D.faults self.new.disk ≡ D.faults self.old.disk) }
-        ensures cause { OnErr result (Rose (D.faults self.old.disk) (D.faults self.new.disk)) }
+        ensures ok { (result ≡ Err DiskFault → ⊥) → self.new ≡ record self.old { disk = self.new.disk } }
+        ensures closes { result ≡ Err DiskFault → self.new ≡ record self.old { disk = self.new.disk; closed = true } }
+        ensures no_other { IfErr result (λ why. (why ≡ DiskFault) ⊎ (why ≡ OutOfMemory)) }
+        ensures stands { (result ≡ Err DiskFault → ⊥) → D.faults self.new.disk ≡ D.faults self.old.disk }
+        ensures cause { result ≡ Err DiskFault → Rose (D.faults self.old.disk) (D.faults self.new.disk) }
         ensures keeps { Keeps D.Disk self.old.disk self.new.disk }
     {
-        match read_front(&mut self.disk, self.at, self.piece.as_mut_slice(), HEAD) {
-            Ok(count) => Ok(head_in(&self.piece.as_slice()[..count])),
+        match read_front(&mut self.disk, self.at, self.piece.as_mut_slice(), NEAR) {
+            Ok(count) => Ok(near_in(alloc, &self.piece.as_slice()[..count])?),
             Err(Failed) => {
                 self.closed = true;
                 Err(JournalRefusal::DiskFault)
@@ -215,6 +229,29 @@ impl<D: Disk> Journal<D> {
             }
         }
     }
+}
+
+/// What the first octets at a gate tell of what stands there; `NoMemory` where there is none for a record.
+fn near_in(alloc: Global, octets: &[u8]) -> Result<Near, NoMemory>
+    ensures near { (file : List ℕ) (at : ℕ) → octets.now ≡ take near_octets (drop at file) → IfOk result (IsNear file at) }
+    ensures memory { (file : List ℕ) (at : ℕ) → octets.now ≡ take near_octets (drop at file) →
+        OnErr result ((body : List ℕ) × IsRecordAt file at body) }
+    ensures short { IfOk result IsShort }
+    ensures none { length octets.now ≡ 0 → IfOk result (λ near. near ≡ Whole Nothing) }
+{
+    let size = match head_in(&octets[..octets.len().min(HEAD)]) {
+        Head::Open { size } => size,
+        Head::Shut => return Ok(Near::Whole { found: Found::End }),
+        Head::Broken => return Ok(Near::Whole {
+            found: Found::Nothing,
+        }),
+    };
+    if octets.len() < HEAD + size {
+        return Ok(Near::Begun { size });
+    }
+    let body = Octets::copy_of(alloc, &octets[HEAD..HEAD + size])?;
+    let found = Found::Record { body };
+    Ok(Near::Whole { found })
 }
 
 /// What octets at a gate say, of which five are enough.

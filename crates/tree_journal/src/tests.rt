@@ -61,14 +61,14 @@ fn holding(alloc: Global, image: &[u8]) -> Result<MemDisk, Fail>
     Ok(MemDisk::holding(alloc, List::copy_of(alloc, image)?))
 }
 
-/// How each goes where a call from the first number to the second fails. The reads make two calls each.
+/// How each goes where a call from the first number to the second fails. The reads make one call each.
 const ANSWERS: [(u64, u64, &[Why]); 6] = [
     (1, 7, &[FAULT]),
     (8, 11, &[None, FAULT, CLOSED, CLOSED, CLOSED]),
     (12, 15, &[None, None, FAULT, CLOSED, CLOSED]),
-    (16, 17, &[None, None, None, FAULT, CLOSED]),
-    (18, 19, &[None, None, None, None, FAULT]),
-    (20, 20, &[None, None, None, None, None]),
+    (16, 16, &[None, None, None, FAULT, CLOSED]),
+    (17, 17, &[None, None, None, None, FAULT]),
+    (18, 18, &[None, None, None, None, None]),
 ];
 
 #[test]
@@ -101,7 +101,7 @@ const LEFT: [(u64, u64, Left, Left); 7] = [
     (11, 11, NO_RECORD, FIRST_ALONE),
     (12, 14, FIRST_ALONE, FIRST_ALONE),
     (15, 15, FIRST_ALONE, BOTH),
-    (16, 20, BOTH, BOTH),
+    (16, 18, BOTH, BOTH),
 ];
 
 /// Of an octet that was not synced, the choices 1, 2 and 5 keep the octet, and the others lose it, or leave another.

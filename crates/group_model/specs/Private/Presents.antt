@@ -1,6 +1,7 @@
 -- What the calls of a present tree are made of.
-use Rattle.std.specs.Prelude.{◌≡◌, ℕ, ◌≤◌, List, [], ◌∷◌, ◌++◌, map, slice_index_or, Option, None, is_some}
+use Rattle.std.specs.Prelude.{◌≡◌, ℕ, ◌≤◌, List, [], ◌∷◌, ◌++◌, map, slice_index_or, Option, None, is_none, is_some}
 use Rattle.std.specs.Option.{option_map, unwrap_or}
+use Rattle.group_terms.specs.Changes.{joiners}
 use Rattle.group_terms.specs.LeafMarks.{Marked}
 use Rattle.group_terms.specs.Names.{Name}
 use Rattle.group_terms.specs.declared.changes.Change.{Change}
@@ -10,19 +11,20 @@ use Rattle.group_model.specs.declared.entries.SentReply.{SentReply}
 use Rattle.group_model.specs.declared.entries.SymReply.{SymReply}
 use Rattle.group_model.specs.declared.indexes.NameIndex.{NameIndex}
 use Rattle.group_model.specs.declared.trees.Tree.{Tree}
-use Rattle.group_model.specs.Places.{place_in, joiners}
+use Rattle.group_model.specs.Places.{place_in}
 use Rattle.group_model.specs.Fresh.{upwards}
 use Rattle.group_model.specs.Present.{Present}
 use Rattle.group_model.specs.Private.Seats.{IsIndexOf}
 use Rattle.group_model.specs.Private.Trees.{HasShape}
 
 -- A present tree is 1 to 9 deep, and has a holder for each leaf and a last change for each number up to that of the last leaf. It has marks of the
--- leaves that somebody has, and an index of their names.
-pub record IsPresent (depth : ℕ) (tree : Tree) (held : Marked) (index : NameIndex) : Type 0 where
+-- leaves that somebody has and of those that nobody has, and an index of names.
+pub record IsPresent (depth : ℕ) (tree : Tree) (held free : Marked) (index : NameIndex) : Type 0 where
   pub shallow : 1 ≤ depth
   pub not_deep : depth ≤ 9
   pub shape : HasShape depth tree
   pub marked : held ≡ record { depth = depth; leaves = map is_some tree.holders }
+  pub unmarked : free ≡ record { depth = depth; leaves = map is_none tree.holders }
   pub indexed : IsIndexOf tree.holders index
 
 -- the key of a position with these last changes

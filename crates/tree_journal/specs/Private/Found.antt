@@ -1,8 +1,12 @@
 -- What stands at a place of a file.
-use Rattle.std.specs.Prelude.{◌≡◌, ◌≢◌, ℕ, List, ◌∷◌, drop, Err}
+use Rattle.std.specs.Prelude.{◌≡◌, ◌≢◌, ◌≤◌, ℕ, List, ◌∷◌, length, take, drop, Err}
 use Rattle.tree_journal.specs.Records.{bodies_from, IsRecordAt}
+use Rattle.tree_journal.specs.Private.Heads.{head_in}
 use Rattle.tree_journal.specs.declared.reads.Found.{Found}
 use Rattle.tree_journal.specs.declared.reads.Found.TheVariants.{Record, End, Nothing}
+use Rattle.tree_journal.specs.declared.reads.Head.TheVariants.{Open}
+use Rattle.tree_journal.specs.declared.reads.Near.{Near}
+use Rattle.tree_journal.specs.declared.reads.Near.TheVariants.{Whole, Begun}
 
 -- a closed gate
 abbrev pub IsShutAt : List ℕ → ℕ → Type 0
@@ -13,3 +17,22 @@ abbrev pub IsFound : List ℕ → ℕ → Found → Type 0
 IsFound file at (Record body) = IsRecordAt file at body
 IsFound file at End = IsShutAt file at
 IsFound file at Nothing = bodies_from file at ≡ Err at
+
+-- how many octets are read first
+abbrev pub near_octets : ℕ
+near_octets = 2048
+
+-- what stands at the place, or that there is an open gate, and so long a record is due after it
+abbrev pub IsNear : List ℕ → ℕ → Near → Type 0
+IsNear file at (Whole found) = IsFound file at found
+IsNear file at (Begun size) = head_in (take 5 (drop at file)) ≡ Open size
+
+-- no record is longer than one may be
+abbrev pub IsShortRecord : Found → Type 0
+IsShortRecord (Record body) = length body ≤ 65536
+IsShortRecord End = Unit {0}
+IsShortRecord Nothing = Unit {0}
+
+abbrev pub IsShort : Near → Type 0
+IsShort (Whole found) = IsShortRecord found
+IsShort (Begun size) = size ≤ 65536

@@ -1,6 +1,7 @@
 use Rattle.std.proofs.Common.{◌≡◌, drop}
 use Rattle.std.specs.List.{fold}
-use Rattle.group_model.specs.Places.{vacated, leavers}
+use Rattle.group_terms.specs.Changes.{leavers}
+use Rattle.group_model.specs.Places.{vacated}
 use Rattle.group_model.proofs.holders.vacate_all.Given as goal
 
 -- those that are left make of the holders what all make of the first ones

@@ -1,9 +1,10 @@
-use Rattle.std.proofs.Common.{◌≡◌, ◌+◌, ◌-◌, ◌^◌, ◌++◌}
-use Rattle.std.specs.List.{filter, range_with_len}
-use Rattle.group_model.specs.Private.Draws.{is_drawn_by, drawn_by}
+use Rattle.std.proofs.Common.{◌≡◌, ◌++◌, ◌||◌, drop, eqb}
+use Rattle.std.specs.List.{filter}
+use Rattle.group_terms.specs.Positions.{some_leaf_below}
 use Rattle.group_model.proofs.steps.drawn.Given as goal
 
 -- those so far, and those that are left
-abbrev pub invariant-loop-v : goal.invariant-loop-v
-invariant-loop-v l =
-    l.ids ++ filter (is_drawn_by l.seating) (range_with_len l.v (2 ^ (l.seating.held.depth + 1) - l.v)) ≡ drawn_by l.seating
+abbrev pub invariant-loop-id : goal.invariant-loop-id
+invariant-loop-id l =
+    l.ids ++ filter (λ v. eqb v 1 || some_leaf_below l.held.depth l.held.leaves v) (drop l.id-index l.fresh)
+    ≡ filter (λ v. eqb v 1 || some_leaf_below l.held.depth l.held.leaves v) l.fresh

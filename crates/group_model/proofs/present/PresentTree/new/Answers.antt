@@ -1,5 +1,5 @@
 use Rattle.std.proofs.Common.{◌∙◌, ◌^◌, ◌+◌, None, map, sym, ap, subst, length}
-use Rattle.std.specs.Prelude.{is_some}
+use Rattle.std.specs.Prelude.{is_none, is_some}
 use Rattle.std.proofs.lemmas.List.{length-replicate}
 use Rattle.group_model.specs.Places.{Holders}
 use Rattle.group_model.specs.Private.Seats.{IsIndexOf}
@@ -16,6 +16,7 @@ invariant_of-result c = record {
     positions = ap length c.in_ok-tree.ensures.made ∙ length-replicate (2 ^ (c.args.depth + 1)) None;
   };
   marked = c.in_ok-held.ensures ∙ (λ i. record { depth = c.args.depth; leaves = (sym (nobody_held (2 ^ c.args.depth)) ∙ ap (map is_some) (sym c.in_ok-tree.ensures.holders)) i });
+  unmarked = c.in_ok-free.ensures ∙ (λ i. record { depth = c.args.depth; leaves = map is_none (c.as_slice.ensures i) });
   indexed = subst (λ (holders : Holders). IsIndexOf holders c.in_ok-index.index) (sym c.in_ok-tree.ensures.holders) (c.in_ok-index.ensures (2 ^ c.args.depth));
 }
 

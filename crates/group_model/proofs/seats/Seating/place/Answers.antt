@@ -1,8 +1,9 @@
-use Rattle.std.proofs.Common.{◌∙◌, None, not, sym, ap, arith}
+use Rattle.std.proofs.Common.{◌∙◌, None, sym, ap, arith}
 use Rattle.std.specs.Prelude.{is_none}
 use Rattle.std.specs.List.{position}
 use Rattle.std.proofs.lemmas.List.Quantifiers.{position-Some}
 use Rattle.std.proofs.lemmas.Result.{on_ok_weaker}
+use Rattle.group_terms.specs.LeafMarks.{Marked}
 use Rattle.group_model.specs.Places.{Holders}
 use Rattle.group_model.specs.Steps.{seated}
 use Rattle.group_model.proofs.HolderLemmas.{placed_at, placed_nowhere}
@@ -12,13 +13,13 @@ use Rattle.group_model.proofs.seats.Seating.place.Goals as goal
 pub seat-requires-clause-place : goal.seat-requires-clause-place
 seat-requires-clause-place c =
     let now : Holders = seated c.args.before.now c.args.self.now.seats in
-    let found = sym (free_by_marks now) ∙ ap (position not) (sym c.requires.seating.held) ∙ sym c.lowest_unmarked.ensures ∙ c.in-Some.is in
+    let found = sym (free_by_marks now) ∙ ap (λ (marked : Marked). position (λ mark. mark) marked.leaves) (sym c.requires.seating.free) ∙ sym c.lowest.ensures ∙ c.in-Some.is in
     omega (arith, (position-Some is_none now c.in-Some.place None found).0, length-seated c.args.before.now c.args.self.now.seats)
 
 pub returns-in-Some-clause-seats : goal.returns-in-Some-clause-seats
 returns-in-Some-clause-seats c =
     let now : Holders = seated c.args.before.now c.args.self.now.seats in
-    let found = sym (free_by_marks now) ∙ ap (position not) (sym c.requires.seating.held) ∙ sym c.lowest_unmarked.ensures ∙ c.in-Some.is in
+    let found = sym (free_by_marks now) ∙ ap (λ (marked : Marked). position (λ mark. mark) marked.leaves) (sym c.requires.seating.free) ∙ sym c.lowest.ensures ∙ c.in-Some.is in
     on_ok_weaker c.seat.result
     (λ seats. ap (seated c.args.before.now) seats ∙ seated_more c.args.before.now c.args.self.now.seats _ ∙ placed_at now c.args.member.now c.in-Some.place found)
     c.seat.ensures.seats
@@ -27,4 +28,4 @@ pub returns-in-None-clause-seats : goal.returns-in-None-clause-seats
 returns-in-None-clause-seats c =
     let now : Holders = seated c.args.before.now c.args.self.now.seats in
     placed_nowhere now c.args.member.now
-    (sym (free_by_marks now) ∙ ap (position not) (sym c.requires.seating.held) ∙ sym c.lowest_unmarked.ensures ∙ c.in-None.is)
+    (sym (free_by_marks now) ∙ ap (λ (marked : Marked). position (λ mark. mark) marked.leaves) (sym c.requires.seating.free) ∙ sym c.lowest.ensures ∙ c.in-None.is)

@@ -1,6 +1,7 @@
 use Rattle.std.proofs.Common.{◌≡◌, drop}
 use Rattle.std.specs.List.{fold}
-use Rattle.group_model.specs.Places.{placed, joiners}
+use Rattle.group_terms.specs.Changes.{joiners}
+use Rattle.group_model.specs.Places.{placed}
 use Rattle.group_model.specs.Steps.{IsSeating, seated}
 use Rattle.group_model.proofs.seats.Seating.place_all.Given as goal
 

@@ -1,5 +1,5 @@
 use Rattle.std.proofs.Common.{◌≡◌, ◌++◌, drop}
-use Rattle.group_model.specs.Places.{leavers}
+use Rattle.group_terms.specs.Changes.{leavers}
 use Rattle.group_model.specs.Private.Seats.{vacancies}
 use Rattle.group_model.specs.Steps.{IsSeating}
 use Rattle.group_model.proofs.seats.Seating.vacate_all.Given as goal
