@@ -1,0 +1,10 @@
+//! The values of a group's keys, and what is drawn for those of a batch.
+#![tactic(auto)]
+
+pub use drawing::draw_values;
+pub use keeping::KeptValues;
+
+mod drawing;
+mod keeping;
+#[cfg(test)]
+mod tests;
