@@ -11,12 +11,12 @@ use Rattle.group_terms.specs.Positions.{is_below, some_leaf_below}
 use Rattle.group_terms.specs.declared.changes.Change.{Change}
 use Rattle.group_terms.specs.declared.values.Drawn.{Drawn}
 use Rattle.group_terms.specs.declared.values.NodeValue.{NodeValue}
-use Rattle.group_values.specs.Values.{Made, after_draw, all_drawn, batches_made, last_value, node_value, value_of}
+use Rattle.group_values.specs.Values.{Made, after_draw, all_drawn, batches_made, ids_of, last_value, node_value, value_of}
 use Rattle.group_model.specs.Drawn.{drawn_at, is_drawn, is_held_below}
 use Rattle.group_model.specs.Fresh.{changed_leaves, is_fresh, is_same_holder, last_change}
 use Rattle.group_model.specs.Laws.{EachLeafHasItsPlace, LastChangesStay}
 use Rattle.group_model.specs.Places.{Holders, holders_at, holders_of}
-use Rattle.group_keys.specs.Drawn.{AreDrawnFrom, IsInUse, IsLastDrawn, ids_of}
+use Rattle.group_keys.specs.Drawn.{AreDrawnFrom, IsInUse, IsLastDrawn}
 
 abbrev there : ℕ → List ℕ → Bool
 there v ids = list_any (λ id. eqb id v) ids
@@ -119,7 +119,7 @@ last_value-more list made v =
     flat_map-append (λ (made : Made). made.values.nodes) list (made ∷ []) ∙ ap (λ nodes. all_drawn list ++ nodes) (append-nil made.values.nodes) in
     ap (fold (after_draw v) None) all ∙ fold-append (after_draw v) None (all_drawn list) made.values.nodes
 
-slice_get-end : (list : List Made) (made : Made) → slice_get (list ++ made ∷ []) (length list) ≡ Some made
+pub slice_get-end : (list : List Made) (made : Made) → slice_get (list ++ made ∷ []) (length list) ≡ Some made
 slice_get-end [] made = refl
 slice_get-end (first ∷ list) made = slice_get-end list made
 

@@ -1,27 +1,36 @@
 -- What a member is told is what the batches made.
-use Rattle.std.proofs.Common.{◌≡◌, ℕ, zero, suc, ◌+◌, ◌/◌, ◌^◌, ◌<◌, ◌≤◌, true, eqb, ◌&&◌, List, [], ◌∷◌, None, Some, length, map, get_or, replicate, refl, sym, ap, subst, ◌∙◌, arith, inl, inr}
-use Rattle.std.specs.Prelude.{is_some, slice_get}
+use Rattle.std.proofs.Common.{◌≡◌, ℕ, zero, suc, ◌+◌, ◌/◌, ◌^◌, ◌<◌, ◌≤◌, true, eqb, ◌&&◌, List, [], ◌∷◌, ◌++◌, None, Some, length, map, take, get_or, replicate, refl, sym, ap, subst, ◌∙◌, arith, inl, inr, append_assoc, length-append}
+use Rattle.std.specs.Prelude.{is_some}
 use Rattle.std.specs.List.{All}
-use Rattle.std.specs.Option.{unwrap_or}
+use Rattle.std.specs.Option.{option_map, unwrap_or}
 use Rattle.std.proofs.lemmas.Bool.{eq-eqb, false≢true, or_cases, or_left, or_right}
 use Rattle.std.proofs.Math.Pow.{pow_mono}
 use Rattle.std.proofs.lemmas.Grind.{pow_more}
-use Rattle.std.proofs.lemmas.List.{get_or-map, length-map}
+use Rattle.std.proofs.lemmas.List.{append-nil, get_or-map, length-map, take_all}
 use Rattle.std.proofs.lemmas.List.Elements.{All-cons}
 use Rattle.std.proofs.lemmas.List.FromFn.{get_or-map-range_with_len}
 use Rattle.std.proofs.lemmas.Option.{slice_get-get_or}
 use Rattle.group_terms.specs.Names.{Name}
 use Rattle.group_terms.specs.Positions.{halved, is_below}
+use Rattle.group_terms.specs.declared.changes.Change.{Change}
 use Rattle.group_terms.specs.declared.keys.KeyName.TheVariants.{Node}
+use Rattle.group_terms.specs.declared.paths.Keyed.{Keyed}
 use Rattle.group_terms.specs.declared.paths.PathKey.{PathKey}
-use Rattle.group_values.specs.Values.{HasValue, Kept, KeepsLast, Made, batches_made, node_value, traffic_value}
-use Rattle.group_model.specs.Drawn.{is_held_below}
+use Rattle.group_terms.specs.declared.values.BatchValues.{BatchValues}
+use Rattle.group_terms.specs.declared.values.NodeValue.{NodeValue}
+use Rattle.group_values.specs.Values.{HasValue, Kept, KeepsLast, Made, Rises, batches_made, ids_of, last_value, node_value, traffic_value}
+use Rattle.group_model.specs.declared.steps.TreeStep.{TreeStep}
+use Rattle.group_model.specs.Drawn.{drawn_at, is_held_below}
 use Rattle.group_model.specs.Fresh.{last_change, node_name, upwards}
-use Rattle.group_model.specs.Places.{Holders, holders_of, is_held_by}
+use Rattle.group_model.specs.Laws.{PlacesAreHeld}
+use Rattle.group_model.specs.Places.{Holders, holders_of, is_held_by, place_in}
 use Rattle.group_model.specs.Present.{Present, StandsFor, changes_at}
-use Rattle.group_keys.specs.Drawn.{AreDrawn, IsInUse, IsLastDrawn}
-use Rattle.group_keys.specs.Private.Present.{IsPresentKey}
-use Rattle.group_keys.proofs.LastLemmas.{below_any}
+use Rattle.group_model.specs.Stayed.{sequence_at}
+use Rattle.group_model.specs.Steps.{stepped}
+use Rattle.group_keys.specs.Drawn.{AreDrawn, AreDrawnFrom, IsInUse, IsLastDrawn}
+use Rattle.group_keys.specs.Private.Present.{IsNextKey, IsPresentKey}
+use Rattle.group_keys.specs.Replies.{IsKeyedOf}
+use Rattle.group_keys.proofs.LastLemmas.{below_any, slice_get-end}
 use Rattle.group_keys.proofs.PathLemmas.{some_power, twice}
 
 halved-suc : (n x : ℕ) → halved (suc n) x ≡ halved n x / 2
@@ -87,9 +96,44 @@ of_keys P path ids is each = λ k key low.
     let all : All P (map (λ (key : PathKey). key.id) path) = subst (All P) (sym is) each in
     subst P (get_or-map (λ (key : PathKey). key.id) path k key key.id low) (all k key.id (omega (arith, low, length-map path (λ (key : PathKey). key.id))))
 
+-- a key with its last change in the tree and its last value in the list
+pub record IsLastKey (tree : Present) (list : List Made) (key : PathKey) : Type 0 where
+  pub made : key.made ≡ unwrap_or (get_or tree.changes key.id None) 0
+  pub value : key.id < 2 ^ (tree.depth + 1) → (value : NodeValue) → last_value list key.id ≡ Some value → value ≡ key.value
+
+pub present_last : (tree : Present) (kept : Kept) (list : List Made) (key : PathKey) → KeepsLast kept list → length kept.nodes ≡ 2 ^ (tree.depth + 1)
+    → IsPresentKey tree kept key → IsLastKey tree list key
+present_last tree kept list key keeps room present = record {
+  made = present.made;
+  value = λ low value last. cc (keeps.nodes key.id (omega (arith, low, room)) value last, present.value);
+}
+
+pub next_last : (tree : Present) (step : TreeStep) (kept : Kept) (values : BatchValues) (list : List Made) (changes : List Change) (key : PathKey)
+    → KeepsLast kept list → Rises (ids_of values.nodes) → IsNextKey tree step kept values key
+    → IsLastKey (stepped tree step) (list ++ record { changes = changes; values = values } ∷ []) key
+next_last tree step kept values list changes key keeps rises next = record {
+  made = next.made;
+  value = λ low value last. sym (next.value list changes value keeps rises last);
+}
+
+-- the positions of the values of the last batch
+pub last_drawn_at : (depth : ℕ) (before : List (List Change)) (list : List Made) (made : Made) → AreDrawnFrom depth before (list ++ made ∷ [])
+    → ids_of made.values.nodes ≡ drawn_at depth ((before ++ batches_made list) ++ made.changes ∷ []) (length (before ++ batches_made list) + 1)
+last_drawn_at depth before [] made drawn =
+    drawn.0 ∙ ap (λ batches. drawn_at depth (batches ++ made.changes ∷ []) (length batches + 1)) (sym (append-nil before))
+last_drawn_at depth before (first ∷ list) made drawn =
+    last_drawn_at depth (before ++ first.changes ∷ []) list made drawn.1
+    ∙ ap (λ batches. drawn_at depth (batches ++ made.changes ∷ []) (length batches + 1)) (append_assoc before (first.changes ∷ []) (batches_made list))
+
+-- the traffic key of the last batch
+pub last_traffic : (list : List Made) (made : Made) → traffic_value (list ++ made ∷ []) (length (list ++ made ∷ [])) ≡ Some made.values.traffic
+last_traffic list made =
+    let epoch : length (list ++ made ∷ []) ≡ suc (length list) = omega (arith, length-append list (made ∷ [])) in
+    ap (traffic_value (list ++ made ∷ [])) epoch ∙ ap (option_map (λ (made : Made). made.values.traffic)) (slice_get-end list made)
+
 module _ (last_drawn : (depth : ℕ) (list : List Made) (v : ℕ) → AreDrawn depth list → 0 < v → v < 2 ^ (depth + 1) → IsInUse depth list v → IsLastDrawn depth list v)
-    (tree : Present) (kept : Kept) (list : List Made) (stands : StandsFor tree (batches_made list)) (keeps : KeepsLast kept list) (drawn : AreDrawn tree.depth list)
-    (room : length kept.nodes ≡ 2 ^ (tree.depth + 1)) where
+    (places : PlacesAreHeld)
+    (tree : Present) (list : List Made) (stands : StandsFor tree (batches_made list)) (drawn : AreDrawn tree.depth list) where
   long : length (batches_made list) ≡ length list
   long = length-map list (λ (made : Made). made.changes)
 
@@ -99,28 +143,51 @@ module _ (last_drawn : (depth : ℕ) (list : List Made) (v : ℕ) → AreDrawn d
       ap (λ made. get_or made v None) (stands.changes ∙ ap (changes_at tree.depth (batches_made list)) long)
       ∙ get_or-map-range_with_len (last_change tree.depth (batches_made list) (length list)) 0 (2 ^ (tree.depth + 1)) v v None low (omega arith)
 
-  pub name_is : (key : PathKey) → key.id < 2 ^ (tree.depth + 1) → IsPresentKey tree kept key → Node key.id key.made ≡ node_name tree.depth (batches_made list) (length list) key.id
-  name_is key low present = ap (Node key.id) (present.made ∙ ap (λ made. unwrap_or made 0) (made_is key.id low))
+  name_is : (key : PathKey) → key.id < 2 ^ (tree.depth + 1) → IsLastKey tree list key → Node key.id key.made ≡ node_name tree.depth (batches_made list) (length list) key.id
+  name_is key low last = ap (Node key.id) (last.made ∙ ap (λ made. unwrap_or made 0) (made_is key.id low))
 
-  pub names_are : (path : List PathKey) → All (λ (key : PathKey). key.id < 2 ^ (tree.depth + 1)) path → All (IsPresentKey tree kept) path
+  names_are : (path : List PathKey) → All (λ (key : PathKey). key.id < 2 ^ (tree.depth + 1)) path → All (IsLastKey tree list) path
       → map (λ (key : PathKey). Node key.id key.made) path ≡ map (node_name tree.depth (batches_made list) (length list)) (map (λ (key : PathKey). key.id) path)
-  names_are [] low present = refl
-  names_are (key ∷ path) low present =
-      let here : Node key.id key.made ≡ node_name tree.depth (batches_made list) (length list) key.id = name_is key (low 0 key (omega arith)) (present 0 key (omega arith)) in
-      let later = names_are path (λ k d less. low (suc k) d (omega (arith, less))) (λ k d less. present (suc k) d (omega (arith, less))) in
+  names_are [] low last = refl
+  names_are (key ∷ path) low last =
+      let here : Node key.id key.made ≡ node_name tree.depth (batches_made list) (length list) key.id = name_is key (low 0 key (omega arith)) (last 0 key (omega arith)) in
+      let later = names_are path (λ k d less. low (suc k) d (omega (arith, less))) (λ k d less. last (suc k) d (omega (arith, less))) in
       λ i. here i ∷ later i
 
-  pub value_is : (leaf i : ℕ) (m : Name) → leaf ≡ 2 ^ tree.depth + i → is_held_by m (get_or tree.holders i None) ≡ true
-      → (key : PathKey) → IsOnPath tree.depth leaf key.id → IsPresentKey tree kept key → HasValue list key
-  value_is leaf i m place held key on present =
+  value_is : (leaf i : ℕ) (m : Name) → leaf ≡ 2 ^ tree.depth + i → is_held_by m (get_or tree.holders i None) ≡ true
+      → (key : PathKey) → IsOnPath tree.depth leaf key.id → IsLastKey tree list key → HasValue list key
+  value_is leaf i m place held key on is_last =
       let depth : ℕ = tree.depth in
       let below : is_below depth key.id (2 ^ depth + i) ≡ true = ap (is_below depth key.id) (sym place) ∙ on.above in
       let in_use : is_held_below depth (holders_of depth (batches_made list)) key.id ≡ true =
       ap (λ holders. is_held_below depth holders key.id) (sym stands.holders) ∙ held_marked depth (2 ^ depth) key.id tree.holders i m held below in
       let last : IsLastDrawn depth list key.id = last_drawn depth list key.id drawn on.some on.low (inr in_use) in
-      let there : slice_get kept.nodes key.id ≡ Some last.value = keeps.nodes key.id (omega (arith, room, on.low)) last.value last.last in
-      let same : last.value ≡ key.value = cc (there, present.value) in
-      ap (node_value list key.id) (present.made ∙ ap (λ made. unwrap_or made 0) (made_is key.id on.low)) ∙ last.drawn ∙ ap Some same
+      ap (node_value list key.id) (is_last.made ∙ ap (λ made. unwrap_or made 0) (made_is key.id on.low)) ∙ last.drawn ∙ ap Some (is_last.value on.low last.value last.last)
+
+  -- what the member at a leaf is told, with the keys from there up to the root
+  pub keyed_is : (rekey : List ℕ) (m : Name) (leaf : ℕ) (keyed : Keyed) → place_in tree.depth tree.holders m ≡ Some leaf → 2 ^ tree.depth ≤ leaf → leaf < 2 ^ (tree.depth + 1)
+      → keyed.epoch ≡ tree.epoch → keyed.sequence ≡ tree.sequence → keyed.spi ≡ rekey → traffic_value list (length list) ≡ Some keyed.traffic
+      → map (λ (key : PathKey). key.id) keyed.path ≡ upwards tree.depth leaf
+      → All (IsLastKey tree list) keyed.path → IsKeyedOf tree.depth rekey list m keyed
+  keyed_is rekey m leaf keyed there from to epoch sequence spi traffic ids last =
+      let depth : ℕ = tree.depth in
+      let batches : List (List Change) = batches_made list in
+      let held = places depth leaf tree.holders m there in
+      let on : All (λ (key : PathKey). IsOnPath depth leaf key.id) keyed.path =
+      of_keys (IsOnPath depth leaf) keyed.path (upwards depth leaf) ids (on_path depth leaf 0 depth leaf (omega arith) refl from to) in
+      let after : place_in depth (holders_of depth (take (length list) batches)) m ≡ Some leaf =
+      ap (λ made. place_in depth (holders_of depth made) m) (take_all (length list) batches (omega (arith, long)))
+      ∙ ap (λ holders. place_in depth holders m) (sym stands.holders) ∙ there in
+      record {
+        epoch = epoch ∙ stands.epoch ∙ long;
+        sequence = sequence ∙ stands.sequence ∙ ap (sequence_at depth batches) long;
+        spi = spi;
+        names = names_are keyed.path (λ k key low. (on k key low).low) last
+            ∙ ap (map (node_name depth batches (length list))) ids
+            ∙ sym (ap (λ place. unwrap_or (option_map (λ leaf. map (node_name depth batches (length list)) (upwards depth leaf)) place) []) after);
+        values = λ k key low. value_is leaf held.0 m held.1 held.2 (get_or keyed.path k key) (on k key low) (last k key low);
+        traffic = traffic;
+      }
 
 -- without a traffic key there was no batch, and so nobody has a leaf
 pub no_batch : (list : List Made) → None ≡ traffic_value list (length list) → list ≡ []

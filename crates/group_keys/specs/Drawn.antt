@@ -1,17 +1,12 @@
 -- Batches whose values are those of the positions for which they draw some.
-use Rattle.std.specs.Prelude.{◌≡◌, ◌⊎◌, ℕ, ◌+◌, ◌<◌, true, List, [], ◌∷◌, ◌++◌, length, map, Some}
+use Rattle.std.specs.Prelude.{◌≡◌, ◌⊎◌, ℕ, ◌+◌, ◌<◌, true, List, [], ◌∷◌, ◌++◌, length, Some}
 use Rattle.std.specs.Option.{unwrap_or}
 use Rattle.group_terms.specs.declared.changes.Change.{Change}
-use Rattle.group_terms.specs.declared.values.Drawn.{Drawn}
 use Rattle.group_terms.specs.declared.values.NodeValue.{NodeValue}
-use Rattle.group_values.specs.Values.{Made, batches_made, last_value, node_value}
+use Rattle.group_values.specs.Values.{Made, batches_made, ids_of, last_value, node_value}
 use Rattle.group_model.specs.Drawn.{drawn_at, is_held_below}
 use Rattle.group_model.specs.Fresh.{last_change}
 use Rattle.group_model.specs.Places.{holders_of}
-
--- the positions whose values a batch has
-abbrev pub ids_of : List Drawn → List ℕ
-ids_of nodes = map (λ (node : Drawn). node.id) nodes
 
 -- after other batches, one after the other
 abbrev pub AreDrawnFrom : ℕ → List (List Change) → List Made → Type 0

@@ -2,7 +2,7 @@
 #![tactic(auto)]
 
 pub use laws::the_last_value_is_that_of_the_last_change;
-pub use replies::keyed;
+pub use replies::{keyed, keyed_after};
 
 mod laws;
 mod replies;

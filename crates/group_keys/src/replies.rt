@@ -1,18 +1,23 @@
 //! What a member is told.
-ghost use Rattle.std.specs.Prelude.{◌≡◌, ◌<◌, ◌≤◌, ◌^◌, ◌+◌, ◌/◌, List, None, length, map, IfSome, IfNone};
+ghost use Rattle.std.specs.Prelude.{◌≡◌, ◌<◌, ◌≤◌, ◌^◌, ◌+◌, ◌/◌, ◌++◌, ◌∷◌, [], ℕ, List, None, Some, length, map, IfSome, IfNone};
 ghost use Rattle.std.specs.List.{All};
+ghost use Rattle.group_terms.specs.Names.{Name};
+ghost use Rattle.group_terms.specs.declared.changes.Change.{Change};
 ghost use Rattle.group_terms.specs.declared.paths.PathKey.{PathKey};
 ghost use Rattle.group_values.specs.Values.{KeepsLast, Made, batches_made};
 ghost use Rattle.group_model.specs.Fresh.{upwards};
-ghost use Rattle.group_model.specs.Places.{place_in};
+ghost use Rattle.group_model.specs.Places.{holders_of, place_in};
 ghost use Rattle.group_model.specs.Present.{StandsFor};
+ghost use Rattle.group_model.specs.Steps.{IsReady, IsStepOf};
 ghost use Rattle.group_keys.specs.Drawn.{AreDrawn};
-ghost use Rattle.group_keys.specs.Private.Present.{IsPresentKey};
+ghost use Rattle.group_keys.specs.Private.Present.{IsNextKey, IsPresentKey};
 ghost use Rattle.group_keys.specs.Replies.{IsKeyedOf};
 
 use crate::the_last_value_is_that_of_the_last_change;
-use group_model::{PresentTree, each_leaf_has_its_place, places_are_held};
-use group_terms::{Keyed, LkhId, MemberName, Path, PathKey};
+use group_model::{
+    PresentTree, TreeStep, drawn_positions_rise, each_leaf_has_its_place, places_are_held,
+};
+use group_terms::{BatchValues, Keyed, LkhId, MemberName, Path, PathKey};
 use group_values::KeptValues;
 
 /// What a member of the present epoch is told that asks now (RFC 6407 section 3.2); `None` for who has no leaf, and only there. It takes no memory.
@@ -43,6 +48,37 @@ pub fn keyed(
     })
 }
 
+/// What a member is told of the epoch that a batch makes, found out before the tree takes the step (RFC 6407 section 3.2). It is the member that has this
+/// leaf then, and the values are those that the batch drew. It takes no memory.
+pub fn keyed_after(
+    tree: &PresentTree,
+    step: &TreeStep,
+    kept: &KeptValues,
+    values: &BatchValues,
+    spi: &[u8; 16],
+    leaf: LkhId,
+) -> Keyed
+    requires ready { IsReady tree.now step.now }
+    requires room { length kept.now.nodes ≡ 2 ^ (tree.now.depth + 1) }
+    requires from { 2 ^ tree.now.depth ≤ leaf }
+    requires to { leaf < 2 ^ (tree.now.depth + 1) }
+    ensures { (list : List Made) (changes : List Change) (limit : ℕ) (m : Name) → StandsFor tree.now (batches_made list) → KeepsLast kept.now list →
+        AreDrawn tree.now.depth (list ++ record { changes = changes; values = values.now } ∷ []) → IsStepOf tree.now changes limit step.now →
+        place_in tree.now.depth (holders_of tree.now.depth (batches_made list ++ changes ∷ [])) m ≡ Some leaf →
+        IsKeyedOf tree.now.depth spi.now (list ++ record { changes = changes; values = values.now } ∷ []) m result }
+{
+    the_last_value_is_that_of_the_last_change();
+    drawn_positions_rise();
+    places_are_held();
+    Keyed {
+        epoch: step.epoch(),
+        sequence: step.sequence(),
+        spi: *spi,
+        path: path_after(tree, step, kept, values, leaf),
+        traffic: values.traffic,
+    }
+}
+
 /// The keys from a leaf up to the root.
 fn path_from(tree: &PresentTree, kept: &KeptValues, leaf: LkhId) -> Path
     requires room { length kept.now.nodes ≡ 2 ^ (tree.now.depth + 1) }
@@ -71,6 +107,52 @@ fn present_key(tree: &PresentTree, kept: &KeptValues, id: LkhId) -> PathKey
         id,
         made: tree.last(id).unwrap_or(0),
         value: kept.node(id),
+    }
+}
+
+/// The keys that the positions from a leaf up to the root have after a step.
+fn path_after(
+    tree: &PresentTree,
+    step: &TreeStep,
+    kept: &KeptValues,
+    values: &BatchValues,
+    leaf: LkhId,
+) -> Path
+    requires ready { IsReady tree.now step.now }
+    requires room { length kept.now.nodes ≡ 2 ^ (tree.now.depth + 1) }
+    requires from { 2 ^ tree.now.depth ≤ leaf }
+    requires to { leaf < 2 ^ (tree.now.depth + 1) }
+    ensures ids { map (λ (key : PathKey). key.id) result ≡ upwards tree.now.depth leaf }
+    ensures keys { All (IsNextKey tree.now step.now kept.now values.now) result }
+{
+    let mut path = Path::new();
+    let mut id = leaf;
+    for _ in 0..tree.depth() {
+        path.push(next_key(tree, step, kept, values, id));
+        id = above(id);
+    }
+    path.push(next_key(tree, step, kept, values, id));
+    path
+}
+
+/// The key that a position has after a step.
+fn next_key(
+    tree: &PresentTree,
+    step: &TreeStep,
+    kept: &KeptValues,
+    values: &BatchValues,
+    id: LkhId,
+) -> PathKey
+    requires ready { IsReady tree.now step.now }
+    requires room { length kept.now.nodes ≡ 2 ^ (tree.now.depth + 1) }
+    requires within { id < length kept.now.nodes }
+    ensures id { result.id ≡ id }
+    ensures key { IsNextKey tree.now step.now kept.now values.now result }
+{
+    PathKey {
+        id,
+        made: tree.last_after(step, id).unwrap_or(0),
+        value: kept.node_after(values, id),
     }
 }
 

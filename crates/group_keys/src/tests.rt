@@ -1,11 +1,12 @@
-ghost use Rattle.std.specs.Prelude.{◌≡◌, ◌<◌, length, IfOk};
+ghost use Rattle.std.specs.Prelude.{◌≡◌, ◌<◌, ◌≤◌, length, IfOk};
 ghost use Rattle.std.specs.List.{All};
 ghost use Rattle.group_terms.specs.declared.values.Drawn.{Drawn};
 
-use crate::keyed;
+use crate::{keyed, keyed_after};
 use group_model::PresentTree;
 use group_terms::{
-    Batch, BatchValues, Change, Drawn, List, LkhId, MemberName, NodeValue, PathKey, TrafficValue,
+    Batch, BatchValues, Change, Drawn, Keyed, List, LkhId, MemberName, NodeValue, PathKey,
+    TrafficValue,
 };
 use group_values::KeptValues;
 use std::alloc::Global;
@@ -43,6 +44,44 @@ fn who_went_is_told_nothing(rt: HostRuntime) -> Result<(), Fail> {
     second_goes_out(&rt, alloc, &mut group)?;
     assert!(rt; keyed(&group.tree, &group.kept, &[9; 16], &named(b'b')?).is_none());
     Ok(())
+}
+
+#[test]
+fn who_comes_in_is_told_its_keys_before_the_step_is_taken(rt: HostRuntime) -> Result<(), Fail> {
+    let alloc = rt.alloc();
+    let group = two_members(&rt, alloc)?;
+    let told = told_after(&rt, alloc, &group, 3)?;
+    assert_eq!(rt; (told.epoch, told.sequence, told.spi), (2, 2, [9; 16]));
+    let keys: &[PathKey] = &[key(3, 2, 2)?, key(1, 2, 2)?];
+    assert_eq!(rt; told.path.keys(), keys);
+    assert_eq!(rt; told.traffic, traffic(2));
+    Ok(())
+}
+
+#[test]
+fn who_stays_has_its_old_leaf_key_after_the_step(rt: HostRuntime) -> Result<(), Fail> {
+    let alloc = rt.alloc();
+    let group = two_members(&rt, alloc)?;
+    let told = told_after(&rt, alloc, &group, 2)?;
+    let keys: &[PathKey] = &[key(2, 1, 1)?, key(1, 2, 2)?];
+    assert_eq!(rt; told.path.keys(), keys);
+    Ok(())
+}
+
+/// What the member at a leaf is told of the batch in which the second member goes out and another comes in, with values of the octet 2 alone.
+fn told_after(rt: &impl Abort, alloc: Global, group: &Group, leaf: u16) -> Result<Keyed, Fail>
+    requires depth { group.now.tree.depth ≡ 1 }
+    requires room { length group.now.kept.nodes ≡ 4 }
+    requires from { 2 ≤ leaf }
+    requires to { leaf < 4 }
+{
+    let leaf = LkhId::new(leaf).ok_or("a leaf")?;
+    let member = named(b'b')?;
+    let batch = batch_of(rt, &[Change::Out { member }, joins(b'c')?]);
+    let values = made(alloc, 2, &[drawn(1, 2)?, drawn(3, 2)?])?;
+    assert!(rt; group.tree.fits(&batch));
+    let step = group.tree.step(alloc, &batch, 9)?.ok_or("past the limit")?;
+    Ok(keyed_after(&group.tree, &step, &group.kept, &values, &[9; 16], leaf))
 }
 
 #[derive(Debug, Drop)]
@@ -83,15 +122,20 @@ fn go_on(
 ) -> Result<(), Fail>
     ensures { tree.new.depth ≡ tree.old.depth }
 {
+    let batch = batch_of(rt, changes);
+    assert!(rt; tree.fits(&batch));
+    let step = tree.step(alloc, &batch, 9)?.ok_or("past the limit")?;
+    tree.advance(step);
+    Ok(())
+}
+
+fn batch_of(rt: &impl Abort, changes: &[Change]) -> Batch {
     let mut batch = Batch::new();
     for change in changes {
         assert!(rt; batch.changes().len() < 9);
         batch.push(*change);
     }
-    assert!(rt; tree.fits(&batch));
-    let step = tree.step(alloc, &batch, 9)?.ok_or("past the limit")?;
-    tree.advance(step);
-    Ok(())
+    batch
 }
 
 /// What a batch made: these nodes, and a traffic key of this octet alone.

@@ -1,9 +1,10 @@
 -- The tree after one batch more stands for one batch more.
-use Rattle.std.proofs.Common.{◌≡◌, inr, ℕ, ◌+◌, ◌-◌, ◌^◌, ◌<◌, ◌≤◌, length, Bool, true, false, cond, List, [], ◌∷◌, ◌++◌, Option, None, Some, map, refl, sym, ap, ◌∙◌, subst, arith}
+use Rattle.std.proofs.Common.{◌≡◌, inr, ℕ, ◌+◌, ◌-◌, ◌*◌, ◌^◌, ◌<◌, ◌≤◌, length, Bool, true, false, cond, List, [], ◌∷◌, ◌++◌, Option, None, Some, map, refl, sym, ap, ◌∙◌, subst, arith}
 use Rattle.std.proofs.Math.Dec.{leb}
 use Rattle.std.proofs.lemmas.Bool.{leb-true, leb-false}
 use Rattle.std.proofs.lemmas.List.{length-append}
 use Rattle.std.specs.List.{list_any, filter, range_with_len}
+use Rattle.group_terms.specs.Changes.{joiners}
 use Rattle.group_terms.specs.LeafMarks.{Marked}
 use Rattle.group_terms.specs.Positions.{some_leaf_below, marks_of}
 use Rattle.group_terms.specs.declared.changes.Change.{Change}
@@ -11,17 +12,19 @@ use Rattle.group_terms.specs.declared.keys.Wrap.{Wrap}
 use Rattle.group_model.specs.declared.seats.Seating.{Seating}
 use Rattle.group_model.specs.declared.trees.Tree.{Tree}
 use Rattle.group_model.specs.Drawn.{is_drawn}
-use Rattle.group_model.specs.Places.{Fits, holders_after, holders_at}
+use Rattle.group_model.specs.Places.{Fits, holders_after, holders_at, holders_of, place_in}
 use Rattle.group_model.specs.Fresh.{changed_leaves}
 use Rattle.group_model.specs.Present.{Present, StandsFor, IsTreeAfter}
 use Rattle.group_model.specs.Steps.{IsSeating, IsStepOf, seated}
 use Rattle.group_model.specs.Wraps.{is_nil}
-use Rattle.group_model.specs.Private.Draws.{fresh_by, drawn_by}
-use Rattle.group_model.specs.Private.Seats.{AreOnce}
+use Rattle.group_model.specs.Private.Draws.{renewed_from, fresh_by, drawn_by}
+use Rattle.group_model.specs.Private.Seats.{AreOnce, seats_of, leaves_taken}
 use Rattle.group_model.specs.Private.Trees.{renewed, wraps_between}
 use Rattle.group_model.specs.Private.Unchanged.{unchanged_holders}
 use Rattle.group_model.proofs.DrawLemmas.{drawn_by-is}
 use Rattle.group_model.proofs.EpochLemmas.{holders_at-all, holders_at-append}
+use Rattle.group_model.proofs.FewLemmas.{renewed_few}
+use Rattle.group_model.proofs.JoinedLemmas.{joined_places}
 use Rattle.group_model.proofs.OnceLemmas.{AreOnce-at}
 use Rattle.group_model.proofs.PlanLemmas.{after_batch, StandsFor-next}
 
@@ -96,17 +99,29 @@ module _ (was : Present) (batch : List Change) (seating : Seating) (stayed : Boo
   next_stays : stayed ≡ list_any (λ passes. passes) (unchanged_holders was.holders next.holders)
   next_stays = stays ∙ ap (list_any (λ passes. passes)) (ap (λ (marked : Marked). marked.leaves) seats.kept)
 
+  once_before : (batches : List (List Change)) → StandsFor was batches → AreOnce was.holders
+  once_before batches stands =
+      subst AreOnce (holders_at-all was.depth batches (length batches) (omega arith) ∙ sym stands.holders) (AreOnce-at was.depth (length batches) batches stands.valid)
+
   next_held : (batches : List (List Change)) → StandsFor was batches → next.holders ≡ holders_after was.holders batch
-  next_held batches stands =
-      now (subst AreOnce (holders_at-all was.depth batches (length batches) (omega arith) ∙ sym stands.holders) (AreOnce-at was.depth (length batches) batches stands.valid))
+  next_held batches stands = now (once_before batches stands)
 
   pub none_past : None ≡ cond (leb (was.sequence + cond stayed 2 0) limit) (Some (was.sequence + cond stayed 2 0)) None → IsTreeAfter was batch limit None
   none_past is batches stands = none_within was batch next stayed limit fits (next_held batches stands) next_made next_stays is batches stands
 
+  few_renewed : (fresh : List ℕ) → seating.held.depth ≡ was.depth → fresh ≡ fresh_by seating → seating.seats ≡ seats_of was.holders batch
+      → length fresh ≤ (was.depth + 1) * length batch + 1
+  few_renewed fresh depth fresh_is seats_are =
+      let changed : seating.changed.leaves ≡ changed_leaves was.holders next.holders = ap (λ (marked : Marked). marked.leaves) seats.changed in
+      let is : fresh ≡ renewed_from was.depth (changed_leaves was.holders next.holders) 1 (2 ^ (was.depth + 1) - 1) =
+      fresh_is ∙ (λ i. renewed_from (depth i) (changed i) 1 (2 ^ (depth i + 1) - 1)) in
+      omega (arith, ap length is, renewed_few was.depth (2 ^ (was.depth + 1) - 1) was.holders batch seating.seats seats_are)
+
   pub some_step : seating.held.depth ≡ was.depth → (given : ℕ) → Some given ≡ cond (leb (was.sequence + cond stayed 2 0) limit) (Some (was.sequence + cond stayed 2 0)) None
-      → was.epoch < limit → (fresh drawn : List ℕ) → fresh ≡ fresh_by seating → drawn ≡ drawn_by seating
-      → IsStepOf was batch limit (record { epoch = was.epoch + 1; sequence = given; seating = seating; fresh = fresh; drawn = drawn })
-  some_step depth given is early fresh drawn fresh_is drawn_is = record {
+      → was.epoch < limit → (fresh drawn joined : List ℕ) → fresh ≡ fresh_by seating → drawn ≡ drawn_by seating
+      → seating.seats ≡ seats_of was.holders batch → joined ≡ leaves_taken (2 ^ was.depth) seating.seats
+      → IsStepOf was batch limit (record { epoch = was.epoch + 1; sequence = given; seating = seating; fresh = fresh; drawn = drawn; joined = joined })
+  some_step depth given is early fresh drawn joined fresh_is drawn_is seats_are joined_is = record {
     ready = (seats, depth, fresh_is);
     next = λ batches stands. some_within was batch next stayed limit fits (next_held batches stands) next_made next_stays given is early batches stands;
     epoch = refl;
@@ -121,4 +136,10 @@ module _ (was : Present) (batch : List Change) (seating : Seating) (stayed : Boo
         after.1.holders ∙ sym (holders_at-all was.depth longer (was.epoch + 1) (omega (arith, last))) in
         drawn_is ∙ drawn_by-is was.holders seating seats
         ∙ (λ i. filter (is_drawn (depth i) (before_is i) (after_is i)) (range_with_len 1 (2 ^ (depth i + 1) - 1)));
+    joined = λ batches stands.
+        let after = some_within was batch next stayed limit fits (next_held batches stands) next_made next_stays given is early batches stands in
+        let after_is : holders_after was.holders batch ≡ holders_of was.depth (batches ++ batch ∷ []) = sym (next_held batches stands) ∙ after.1.holders in
+        ap (map Some) joined_is ∙ joined_places was.depth was.holders batch seating.seats (once_before batches stands) fits seats_are
+        ∙ ap (λ holders. map (place_in was.depth holders) (joiners batch)) after_is;
+    few = few_renewed fresh depth fresh_is seats_are;
   }

@@ -14,7 +14,7 @@ use Rattle.group_model.proofs.PlaceLemmas.{gone}
 use Rattle.group_model.proofs.QueueLemmas.{members, members-count, members-vacated, all_vacated, leavers_once}
 
 -- each of the members that lose their leaves, none twice, frees one
-members-vacated_all : (holders : Holders) (names : List Name) → names_once names ≡ true → list_all (is_member holders) names ≡ true → members (fold vacated holders names) + length names ≤ members holders
+pub members-vacated_all : (holders : Holders) (names : List Name) → names_once names ≡ true → list_all (is_member holders) names ≡ true → members (fold vacated holders names) + length names ≤ members holders
 members-vacated_all holders [] once h = omega arith
 members-vacated_all holders (m ∷ names) once h =
     let first = and_parts (not (list_any (same_name m) names)) (names_once names) once in
@@ -22,20 +22,20 @@ members-vacated_all holders (m ∷ names) once h =
     omega (arith, members-vacated m holders each.0, members-vacated_all (vacated holders m) names first.1 (all_vacated m holders names (not-true (list_any (same_name m) names) first.0) each.1))
 
 -- a leaf that is taken is passed over
-placed-taken : (m name : Name) (holders : Holders) → placed (Some name ∷ holders) m ≡ Some name ∷ placed holders m
+pub placed-taken : (m name : Name) (holders : Holders) → placed (Some name ∷ holders) m ≡ Some name ∷ placed holders m
 placed-taken m name holders =
     let next : 1 + position_or_len is_none holders ≡ suc (position_or_len is_none holders) = omega arith in
     ap (λ i. slice_set (Some name ∷ holders) i (Some m)) next
 
 -- a name that gets a leaf is at most one member more
-members-placed : (m : Name) (holders : Holders) → members (placed holders m) ≤ members holders + 1
+pub members-placed : (m : Name) (holders : Holders) → members (placed holders m) ≤ members holders + 1
 unfolding members
 members-placed m [] = omega arith
 members-placed m (None ∷ holders) = omega arith
 members-placed m (Some name ∷ holders) = rw (placed-taken m name holders) (omega (arith, members-placed m holders))
 
 -- where not each leaf is taken, the name has one
-placed_member : (m : Name) (holders : Holders) → members holders < length holders → is_member (placed holders m) m ≡ true
+pub placed_member : (m : Name) (holders : Holders) → members holders < length holders → is_member (placed holders m) m ≡ true
 unfolding members
 placed_member m [] room = absurd (omega (arith, room))
 placed_member m (None ∷ holders) room = or_left _ _ (same_name-self m)

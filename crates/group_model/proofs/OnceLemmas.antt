@@ -14,10 +14,10 @@ use Rattle.group_model.proofs.StayedLemmas.{same_name-is, same_name-self, member
 use Rattle.group_model.proofs.QueueLemmas.{joiners_once}
 
 -- m has no leaf
-abbrev HasNone : Holders → Name → Type 0
+abbrev pub HasNone : Holders → Name → Type 0
 HasNone holders m = (i : ℕ) → is_held_by m (get_or holders i None) ≡ false
 
-HasNone-from_stranger : (holders : Holders) (m : Name) → is_member holders m ≡ false → HasNone holders m
+pub HasNone-from_stranger : (holders : Holders) (m : Name) → is_member holders m ≡ false → HasNone holders m
 HasNone-from_stranger holders m stranger i = elim (cases_lt i (length holders)) [
   | inl low ↦ false_from_ne_true (is_held_by m (get_or holders i None)) (λ here. false≢true (sym stranger ∙ member_at holders m i low here))
   | inr past ↦ ap (is_held_by m) (get_or_past holders i None past)

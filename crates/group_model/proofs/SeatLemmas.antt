@@ -128,7 +128,7 @@ IsSeating-more before was now place holder low h seats held free changed kept =
           ∙ (λ i. record { depth = now.held.depth; leaves = unchanged_holders before (after i) });
     }
 
-same_as_itself : (holder : Option Name) → is_same_holder holder holder ≡ true
+pub same_as_itself : (holder : Option Name) → is_same_holder holder holder ≡ true
 same_as_itself None = refl
 same_as_itself (Some name) = same_name-self name
 

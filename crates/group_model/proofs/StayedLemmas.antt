@@ -85,7 +85,7 @@ placed_at holders m n i other = elim (cases_lt (position_or_len is_none holders)
   ]
 ]
 
-placed_all_at : (m : Name) (i : ℕ) (holders : Holders) (names : List Name) → list_any (same_name m) names ≡ false → is_held_by m (get_or (fold placed holders names) i None) ≡ is_held_by m (get_or holders i None)
+pub placed_all_at : (m : Name) (i : ℕ) (holders : Holders) (names : List Name) → list_any (same_name m) names ≡ false → is_held_by m (get_or (fold placed holders names) i None) ≡ is_held_by m (get_or holders i None)
 placed_all_at m i holders [] h = refl
 placed_all_at m i holders (n ∷ names) h =
     let parts = or_parts (same_name m n) (list_any (same_name m) names) h in

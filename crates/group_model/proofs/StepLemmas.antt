@@ -1,10 +1,11 @@
 -- What the batch of a step encrypts is what the list says of its epoch.
 use Rattle.std.proofs.Common.{◌≡◌, ℕ, zero, suc, ◌+◌, ◌-◌, ◌*◌, ◌^◌, ◌<◌, ◌≤◌, Bool, true, false, cond, ◌||◌, List, [], ◌∷◌, ◌++◌, None, Some, length, get_or, refl, sym, ap, ◌∙◌, subst, arith, inl, inr, append_assoc}
 use Rattle.std.proofs.Math.Dec.{eqb}
-use Rattle.std.proofs.lemmas.Bool.{cases_Bool, lt-ltb, le-ltb, ne_eqb}
+use Rattle.std.proofs.lemmas.Bool.{cases_Bool, lt-ltb, le-ltb}
 use Rattle.std.proofs.lemmas.Grind.{pow_more}
-use Rattle.std.proofs.lemmas.List.{append-nil}
+use Rattle.std.proofs.lemmas.List.{append-nil, length-append}
 use Rattle.std.proofs.lemmas.List.FromFn.{get_or-map-range_with_len}
+use Rattle.std.specs.Prelude.{nat_lt}
 use Rattle.std.specs.List.{flat_map, filter, list_any}
 use Rattle.std.specs.Option.{unwrap_or}
 use Rattle.group_terms.specs.LeafMarks.{Marked}
@@ -17,7 +18,6 @@ use Rattle.group_model.specs.Fresh.{changed_leaves, is_fresh, node_name}
 use Rattle.group_model.specs.Places.{Holders, holders_at}
 use Rattle.group_model.specs.Present.{Present, StandsFor, changes_at}
 use Rattle.group_model.specs.Private.Draws.{is_renewed, renewed_from}
-use Rattle.group_model.specs.Private.Presents.{key_in}
 use Rattle.group_model.specs.Private.Trees.{renewed_at}
 use Rattle.group_model.specs.Private.Steps.{step_wrap, child_wrap, inner_wraps, wraps_up}
 use Rattle.group_model.specs.Private.Unchanged.{unchanged_holders}
@@ -72,23 +72,38 @@ module _ (tree : Present) (step : TreeStep) where
   no_inner v leaf =
       ap (λ b. cond b (child_wrap tree step v (2 * v) ++ child_wrap tree step v (2 * v + 1)) []) (le-ltb v (2 ^ tree.depth) (omega (arith, leaf, pow_some tree.depth)))
 
--- a key after a step is a new one where a leaf below it changed hands
-pub key_in-stepped : (tree : Present) (step : TreeStep) (v : ℕ) → 1 < v → v < 2 ^ (tree.depth + 1) → length tree.changes ≡ 2 ^ (tree.depth + 1)
-    → key_in (stepped tree step).changes v ≡ Node v (cond (some_leaf_below tree.depth step.seating.changed.leaves v) step.epoch (unwrap_or (get_or tree.changes v None) 0))
-key_in-stepped tree step v below within long =
+-- a position has a new key after a step where it is the root, or a leaf that changed hands is below it
+pub changes-stepped : (tree : Present) (step : TreeStep) (v : ℕ) → v < 2 ^ (tree.depth + 1) → length tree.changes ≡ 2 ^ (tree.depth + 1)
+    → get_or (stepped tree step).changes v None ≡ cond (eqb v 1 || some_leaf_below tree.depth step.seating.changed.leaves v) (Some step.epoch) (get_or tree.changes v None)
+changes-stepped tree step v within long =
     let leaves : List Bool = step.seating.changed.leaves in
     let marks : List Bool = marks_of tree.depth leaves in
     let mark : get_or marks v false ≡ some_leaf_below tree.depth leaves v = get_or-map-range_with_len (some_leaf_below tree.depth leaves) 0 (2 ^ (tree.depth + 1)) v v false within (omega arith) in
-    let here : get_or (stepped tree step).changes v None ≡ renewed_at step.epoch tree.changes marks v =
-    get_or-map-range_with_len (renewed_at step.epoch tree.changes marks) 0 (length tree.changes) v v None (omega (arith, within, long)) (omega arith) in
-    ap (λ made. Node v (unwrap_or made 0)) here
-    ∙ ap (λ b. Node v (unwrap_or (cond (b || get_or marks v false) (Some step.epoch) (get_or tree.changes v None)) 0)) (ne_eqb v 1 (λ e. absurd (omega (arith, e, below))))
-    ∙ ap (λ b. Node v (unwrap_or (cond b (Some step.epoch) (get_or tree.changes v None)) 0)) mark
-    ∙ chosen (some_leaf_below tree.depth leaves v)
+    get_or-map-range_with_len (renewed_at step.epoch tree.changes marks) 0 (length tree.changes) v v None (omega (arith, within, long)) (omega arith)
+    ∙ ap (λ b. cond (eqb v 1 || b) (Some step.epoch) (get_or tree.changes v None)) mark
+
+-- no more than two encryptions for each position
+length-inner_wraps : (tree : Present) (step : TreeStep) (v : ℕ) → length (inner_wraps tree step v) ≤ 2
+length-inner_wraps tree step v = elim (nat_lt v (2 ^ tree.depth)) as (λ b. length (cond b (child_wrap tree step v (2 * v) ++ child_wrap tree step v (2 * v + 1)) []) ≤ 2) [
+  | true ↦ omega (arith, length-append (child_wrap tree step v (2 * v)) (child_wrap tree step v (2 * v + 1)), one (2 * v), one (2 * v + 1))
+  | false ↦ omega arith
+]
   where
-    chosen : (b : Bool) → Node v (unwrap_or (cond b (Some step.epoch) (get_or tree.changes v None)) 0) ≡ Node v (cond b step.epoch (unwrap_or (get_or tree.changes v None) 0))
-    chosen true = refl
-    chosen false = refl
+    one : (child : ℕ) → length (child_wrap tree step v child) ≤ 1
+    one child = elim (some_leaf_below tree.depth step.seating.kept.leaves child) as (λ b. length (cond b (step_wrap tree step v child ∷ []) []) ≤ 1) [
+      | true ↦ omega arith
+      | false ↦ omega arith
+    ]
+
+length-wraps_up : (tree : Present) (step : TreeStep) (vs : List ℕ) → length (wraps_up tree step vs) ≤ 2 * length vs
+length-wraps_up tree step [] = omega arith
+length-wraps_up tree step (v ∷ vs) =
+    omega (arith, length-append (wraps_up tree step vs) (inner_wraps tree step v), length-wraps_up tree step vs, length-inner_wraps tree step v)
+
+pub wraps_few : (tree : Present) (step : TreeStep) (vs : List ℕ) (stayed : Bool) (last : Wrap)
+    → length (cond stayed (wraps_up tree step vs ++ last ∷ []) []) ≤ 2 * length vs + 1
+wraps_few tree step vs true last = omega (arith, length-append (wraps_up tree step vs) (last ∷ []), length-wraps_up tree step vs)
+wraps_few tree step vs false last = omega arith
 
 -- the step of the last batch of a list
 module _ (tree : Present) (step : TreeStep) (list : List (List Change))

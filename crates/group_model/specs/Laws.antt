@@ -6,10 +6,12 @@ use Rattle.group_terms.specs.Changes.{leavers, joiners}
 use Rattle.group_terms.specs.Names.{Name, same_name}
 use Rattle.group_terms.specs.declared.changes.Change.{Change}
 use Rattle.group_terms.specs.declared.changes.Change.TheVariants.{Out, In}
+use Rattle.group_values.specs.Values.{Rises}
 use Rattle.group_model.specs.declared.entries.Entry.{Entry}
 use Rattle.group_model.specs.declared.entries.Answer.TheVariants.{Done, Queued}
 use Rattle.group_model.specs.Places.{Holders, is_held_by, is_member, member_count, place_in}
 use Rattle.group_model.specs.Places.{holders_of, holders_at, Fits, IsValid}
+use Rattle.group_model.specs.Drawn.{drawn_at}
 use Rattle.group_model.specs.Fresh.{last_change}
 use Rattle.group_model.specs.Stayed.{has_stayed, sequence_at}
 use Rattle.group_model.specs.Wraps.{wraps_at, is_nil}
@@ -72,6 +74,10 @@ WrapsUseTwoNumbers =
     → sequence_at depth (batches ++ batch ∷ []) (length batches + 1)
     ≡ sequence_at depth batches (length batches) + (if is_nil (wraps_at depth (batches ++ batch ∷ []) (length batches + 1)) then 0 else 2)
 
+-- The positions for whose keys a batch draws values come by rising number.
+abbrev pub DrawnPositionsRise : Type 0
+DrawnPositionsRise = (depth : ℕ) (batches : List (List Change)) (epoch : ℕ) → Rises (drawn_at depth batches epoch)
+
 -- The batch without a change fits always.
 abbrev pub NoChangeFits : Type 0
 NoChangeFits = (holders : Holders) → Fits holders []
@@ -121,6 +127,7 @@ pub record Laws : Type 0 where
   pub places_stay : PlacesStay
   pub who_is_member : BatchesSayWhoIsMember
   pub two_numbers : WrapsUseTwoNumbers
+  pub drawn_rise : DrawnPositionsRise
   pub no_change_fits : NoChangeFits
   pub leavers_few : LeaversAreFew
   pub changes_few : ChangesAreFew

@@ -14,7 +14,7 @@ use Rattle.group_model.specs.declared.entries.Asked.TheVariants.{Create, Join, L
 use Rattle.group_model.specs.declared.entries.Answer.{Answer}
 use Rattle.group_model.specs.declared.entries.Answer.TheVariants.{Done, Queued, Batched, Opened, Nothing, Derived, Refused}
 use Rattle.group_model.specs.declared.entries.Refusal.{Refusal}
-use Rattle.group_model.specs.declared.entries.Refusal.TheVariants.{NotMember, AlreadyPending, TreeFull, NoMemory}
+use Rattle.group_model.specs.declared.entries.Refusal.TheVariants.{NeedsReopen, NotMember, AlreadyPending, TreeFull, BatchFull, Spent, DiskFault, NotAJournal, NoMemory}
 use Rattle.group_model.specs.Places.{Holders, is_member, member_count, holders_of}
 use Rattle.group_model.specs.Stayed.{sequence_at}
 use Rattle.group_model.specs.Wraps.{wraps_at}
@@ -122,9 +122,14 @@ pub record IsLegalHistory (readings : List Reading) (entries : List Entry) : Typ
   pub steps : AreSteps (no_group readings) [] entries
 
 abbrev pub is_no_memory : Refusal → Bool
+is_no_memory NeedsReopen = false
 is_no_memory NotMember = false
 is_no_memory AlreadyPending = false
 is_no_memory (TreeFull held) = false
+is_no_memory (BatchFull pending) = false
+is_no_memory (Spent counter at) = false
+is_no_memory DiskFault = false
+is_no_memory (NotAJournal at) = false
 is_no_memory NoMemory = true
 
 -- whether a request was refused because it ran out of memory

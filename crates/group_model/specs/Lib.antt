@@ -9,6 +9,7 @@ pub mod Places
 pub mod Present
 pub mod Private
 pub mod Replies
+pub mod Servers
 pub mod Stayed
 pub mod Steps
 pub mod Wraps

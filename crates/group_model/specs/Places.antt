@@ -1,6 +1,6 @@
 -- Which member has which leaf of the tree (RFC 2627 section 5.4), batch after batch. That in a batch all removals come first,
 -- and that a join takes the lowest free leaf, is this server's choice.
-use Rattle.std.specs.Prelude.{◌≡◌, ℕ, ◌+◌, ◌^◌, ◌≤◌, ◌&&◌, Bool, true, false, not, List, [], ◌∷◌, length, map, take, replicate, Option, None, Some, is_some, is_none, slice_set, if◌then◌else◌}
+use Rattle.std.specs.Prelude.{◌≡◌, ℕ, ◌+◌, ◌^◌, ◌≤◌, ◌&&◌, Bool, true, false, not, List, [], ◌∷◌, length, map, take, replicate, Option, None, Some, is_some, is_none, slice_set, slice_index_or, nat_lt, ◌-◌, if◌then◌else◌}
 use Rattle.std.specs.List.{list_any, list_all, fold, position, position_or_len, count_by}
 use Rattle.std.specs.Option.{option_map}
 use Rattle.group_terms.specs.Names.{Name, same_name}
@@ -30,6 +30,10 @@ member_count holders = count_by is_some holders
 -- the leaf that m has; the lowest leaf is 2^depth
 abbrev pub place_in : ℕ → Holders → Name → Option ℕ
 place_in depth holders m = option_map (λ i. 2 ^ depth + i) (position (is_held_by m) holders)
+
+-- who has a leaf, if anybody has it; nobody has a position that is no leaf
+abbrev pub member_at : ℕ → Holders → ℕ → Option Name
+member_at depth holders leaf = if nat_lt leaf (2 ^ depth) then None else slice_index_or holders (leaf - 2 ^ depth) None
 
 -- m loses its leaf
 abbrev pub vacated : Holders → Name → Holders

@@ -1,6 +1,7 @@
 -- What a batch makes of the present tree, found out before it is done.
-use Rattle.std.specs.Prelude.{◌≡◌, ℕ, ◌+◌, ◌^◌, ◌<◌, List, [], ◌∷◌, ◌++◌, length, map, Some, is_none, is_some, slice_set}
+use Rattle.std.specs.Prelude.{◌≡◌, ℕ, ◌+◌, ◌*◌, ◌^◌, ◌<◌, ◌≤◌, List, [], ◌∷◌, ◌++◌, length, map, Some, is_none, is_some, slice_set}
 use Rattle.std.specs.List.{All, fold}
+use Rattle.group_terms.specs.Changes.{joiners}
 use Rattle.group_terms.specs.Positions.{marks_of}
 use Rattle.group_terms.specs.declared.changes.Change.{Change}
 use Rattle.group_model.specs.declared.seats.Seat.{Seat}
@@ -8,7 +9,7 @@ use Rattle.group_model.specs.declared.seats.Seating.{Seating}
 use Rattle.group_model.specs.declared.steps.TreeStep.{TreeStep}
 use Rattle.group_model.specs.Drawn.{drawn_at}
 use Rattle.group_model.specs.Fresh.{changed_leaves}
-use Rattle.group_model.specs.Places.{Holders}
+use Rattle.group_model.specs.Places.{Holders, holders_of, place_in}
 use Rattle.group_model.specs.Present.{Present, StandsFor, IsTreeAfter}
 use Rattle.group_model.specs.Private.Draws.{fresh_by}
 use Rattle.group_model.specs.Private.Trees.{renewed}
@@ -41,9 +42,13 @@ stepped tree step = record {
   changes = renewed step.epoch tree.changes (marks_of tree.depth step.seating.changed.leaves);
 }
 
--- The step is that of a batch, whatever list the tree stands for, where no epoch and no number of a push is past a limit.
+-- The step is that of a batch, whatever list the tree stands for, where no epoch and no number of a push is past a limit. It says for which
+-- keys values are drawn and which leaf each joiner has, and renews no more than a path for each change, and the root.
 pub record IsStepOf (tree : Present) (batch : List Change) (limit : ℕ) (step : TreeStep) : Type 0 where
   pub ready : IsReady tree step
   pub next : IsTreeAfter tree batch limit (Some (stepped tree step))
   pub epoch : step.epoch ≡ tree.epoch + 1
   pub drawn : (batches : List (List Change)) → StandsFor tree batches → step.drawn ≡ drawn_at tree.depth (batches ++ batch ∷ []) step.epoch
+  pub joined : (batches : List (List Change)) → StandsFor tree batches
+      → map Some step.joined ≡ map (place_in tree.depth (holders_of tree.depth (batches ++ batch ∷ []))) (joiners batch)
+  pub few : length step.fresh ≤ (tree.depth + 1) * length batch + 1

@@ -1,10 +1,11 @@
 -- The encryptions that a batch sends, by key names (group-oriented rekeying of Wong, Gouda and Lam, in the form that they give for a
 -- leave; RFC 6407 section 5.6.3).
-use Rattle.std.specs.Prelude.{ℕ, zero, suc, ◌+◌, ◌-◌, ◌*◌, ◌^◌, Bool, true, false, List, [], ◌∷◌, ◌++◌, map, if◌then◌else◌}
+use Rattle.std.specs.Prelude.{ℕ, zero, suc, ◌+◌, ◌-◌, ◌*◌, ◌^◌, ◌<◌, Bool, true, false, List, [], ◌∷◌, ◌++◌, map, if◌then◌else◌}
 use Rattle.std.specs.List.{filter, flat_map}
 use Rattle.group_terms.specs.Positions.{some_leaf_below}
 use Rattle.group_terms.specs.declared.changes.Change.{Change}
-use Rattle.group_terms.specs.declared.keys.KeyName.TheVariants.{Node, Traffic}
+use Rattle.group_terms.specs.declared.keys.KeyName.{KeyName}
+use Rattle.group_terms.specs.declared.keys.KeyName.TheVariants.{Node, Traffic, Phase}
 use Rattle.group_terms.specs.declared.keys.Wrap.{Wrap}
 use Rattle.group_model.specs.Places.{holders_at}
 use Rattle.group_model.specs.Fresh.{is_fresh, node_name}
@@ -36,3 +37,13 @@ module _ (depth : ℕ) (batches : List (List Change)) (epoch : ℕ) where
 abbrev pub is_nil : List Wrap → Bool
 is_nil [] = true
 is_nil (wrap ∷ wraps) = false
+
+-- a key is that of a position below a number
+abbrev pub IsOfPosition : ℕ → KeyName → Type 0
+IsOfPosition bound (Node id made) = id < bound
+IsOfPosition bound (Traffic made) = ⊥
+IsOfPosition bound (Phase member) = ⊥
+
+-- an encryption of such a key under such a key
+abbrev pub IsBetween : ℕ → Wrap → Type 0
+IsBetween bound wrap = IsOfPosition bound wrap.by × IsOfPosition bound wrap.gives

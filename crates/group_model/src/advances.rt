@@ -26,6 +26,7 @@ impl PresentTree {
             seating,
             fresh,
             drawn: _,
+            joined: _,
         } = step;
         let Seating {
             seats,

@@ -1,4 +1,7 @@
-use crate::{KeyName, List, LkhId, MemberName, MemberNames, Octets, Wrap};
+ghost use Rattle.std.specs.Prelude.{◌≡◌};
+ghost use Rattle.group_model.specs.declared.entries.Refusal.TheVariants as refusals;
+
+use crate::{KeyName, List, LkhId, MemberName, MemberNames, NoMemory, Octets, Wrap};
 
 /// One event of a history: what was asked of the key server, what the outside did meanwhile, and what was answered.
 #[derive(Debug, Drop)]
@@ -59,17 +62,42 @@ pub enum Answer {
     },
 }
 
+/// What is counted, and may go no further than the group's limit.
+#[derive(Clone, Copy, Debug, PartialEq, Eq)]
+pub enum Counter {
+    Epoch,
+    Sequence,
+}
+
 /// Why the key server refuses a request.
 #[derive(Clone, Copy, Debug, PartialEq, Eq)]
 pub enum Refusal {
+    /// It has to be opened again first.
+    NeedsReopen,
     /// The name is not a member of the present epoch.
     NotMember,
     /// The next batch has a change of the member already.
     AlreadyPending,
     /// The members that are not leaving and the pending joins have taken all `held` leaves.
     TreeFull { held: u32 },
+    /// As many changes are pending as a batch has at the most.
+    BatchFull { pending: u32 },
+    /// The next batch would go past the group's limit: its epoch, or the number of its last push. The counter is at this number.
+    Spent { counter: Counter, at: u32 },
+    /// The disk failed.
+    DiskFault,
+    /// The disk has no journal of a group; the first place where that shows.
+    NotAJournal { at: u64 },
     /// There was no memory.
     NoMemory,
+}
+
+impl From<NoMemory> for Refusal {
+    ghost from_gives = { λ _ refusal. refusal ≡ refusals.NoMemory };
+
+    fn from(_: NoMemory) -> Self {
+        Refusal::NoMemory
+    }
 }
 
 /// What a batch puts out.

@@ -1,6 +1,6 @@
 //! What the definitions mean, said of lists of batches and of histories.
 ghost use Rattle.group_model.specs.Laws.{EachLeafHasItsPlace, HoldersStay, LastChangesStay, PlacesAreHeld, NoLeafIsShared};
-ghost use Rattle.group_model.specs.Laws.{NoNameHasTwoLeaves, PlacesStay, BatchesSayWhoIsMember, WrapsUseTwoNumbers};
+ghost use Rattle.group_model.specs.Laws.{NoNameHasTwoLeaves, PlacesStay, BatchesSayWhoIsMember, WrapsUseTwoNumbers, DrawnPositionsRise};
 ghost use Rattle.group_model.specs.Laws.{NoChangeFits, LeaversAreFew, ChangesAreFew, GrantedJoinsFit, GrantedLeavesFit};
 ghost use Rattle.group_model.specs.Laws.{SoundAtFirst, StepsKeepSound, HistoriesAreSound, Laws};
 
@@ -45,6 +45,11 @@ pub fn a_batch_that_wraps_uses_two_numbers()
     ensures { WrapsUseTwoNumbers }
 {}
 
+/// The positions for whose keys a batch draws values come by rising number, each once.
+pub fn drawn_positions_rise()
+    ensures { DrawnPositionsRise }
+{}
+
 /// A batch that fits takes out no more than there are members, and has two changes for each leaf at the most. The empty one fits.
 pub fn a_batch_that_fits_has_few_changes()
     ensures none { NoChangeFits }
@@ -77,6 +82,7 @@ pub fn laws_hold()
     places_stay_while_members_stay();
     a_batch_says_who_is_a_member();
     a_batch_that_wraps_uses_two_numbers();
+    drawn_positions_rise();
     a_batch_that_fits_has_few_changes();
     granted_changes_fit();
     a_history_leaves_a_sound_group();

@@ -3,8 +3,8 @@
 #![tactic(auto)]
 
 pub use entries::{
-    Answer, Asked, Derivation, Entry, GroupSeen, Output, Outside, PushPair, Refusal, SentReply,
-    Standing, SymReply,
+    Answer, Asked, Counter, Derivation, Entry, GroupSeen, Output, Outside, PushPair, Refusal,
+    SentReply, Standing, SymReply,
 };
 pub use group_terms::{
     Batch, Change, KeyName, List, LkhId, Log, MOST_CHANGES, MOST_MEMBERS, MemberName, MemberNames,
@@ -13,9 +13,10 @@ pub use group_terms::{
 pub use history::History;
 pub use laws::{
     a_batch_says_who_is_a_member, a_batch_that_fits_has_few_changes,
-    a_batch_that_wraps_uses_two_numbers, a_history_leaves_a_sound_group, each_leaf_has_its_place,
-    first_epochs_stay, granted_changes_fit, laws_hold, members_never_share_a_leaf,
-    no_name_has_two_leaves, places_are_held, places_stay_while_members_stay,
+    a_batch_that_wraps_uses_two_numbers, a_history_leaves_a_sound_group, drawn_positions_rise,
+    each_leaf_has_its_place, first_epochs_stay, granted_changes_fit, laws_hold,
+    members_never_share_a_leaf, no_name_has_two_leaves, places_are_held,
+    places_stay_while_members_stay,
 };
 pub use pending::PendingChanges;
 pub use plans::BatchPlan;

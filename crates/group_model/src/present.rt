@@ -1,11 +1,12 @@
 //! The tree at the present epoch, which knows no older one.
 ghost use Rattle.std.specs.Prelude.{◌≡◌, ◌+◌, ◌^◌, ◌<◌, ◌≤◌, [], length, slice_index_or, IfOk, IfSome, None};
-ghost use Rattle.group_model.specs.Places.{place_in, is_member, member_count};
+ghost use Rattle.group_model.specs.Places.{place_in, is_member, member_at, member_count};
 ghost use Rattle.group_model.specs.Present.{StandsFor};
+ghost use Rattle.group_model.specs.Steps.{IsReady, stepped};
 
 use crate::indexes::NameIndex;
 use crate::trees::Tree;
-use crate::{LkhId, MemberName, NoMemory, holders};
+use crate::{LkhId, MemberName, NoMemory, TreeStep, holders};
 use group_terms::LeafMarks;
 use std::alloc::Global;
 use std::marker::Model;
@@ -107,6 +108,14 @@ impl PresentTree {
         self.held.marked() as u32
     }
 
+    /// How many members there are once a step is taken.
+    pub fn members_after(&self, step: &TreeStep) -> u32
+        requires { IsReady self.now step.now }
+        ensures { result ≡ member_count (stepped self.now step.now).holders }
+    {
+        step.seating.held.marked() as u32
+    }
+
     /// The leaf that a member has; `None` for who is no member, and only there (RFC 2627 section 5.4).
     pub fn place(&self, member: &MemberName) -> Option<LkhId>
         ensures place { result ≡ place_in self.now.depth self.now.holders member.now }
@@ -114,6 +123,17 @@ impl PresentTree {
     {
         self.index
             .leaf(self.depth, self.tree.holders.as_slice(), member)
+    }
+
+    /// Who has a leaf; `None` where nobody has it, and at a position that is no leaf.
+    pub fn member_at(&self, leaf: LkhId) -> Option<MemberName>
+        ensures { result ≡ member_at self.now.depth self.now.holders leaf }
+    {
+        let leaf = usize::from(leaf.number());
+        if leaf < self.leaves() {
+            return None;
+        }
+        *self.tree.holders.as_slice().get(leaf - self.leaves())?
     }
 
     /// Whether somebody of this name is a member.

@@ -1,14 +1,16 @@
 //! Leaves that change hands with a batch.
-ghost use Rattle.std.specs.Prelude.{◌≡◌, ◌^◌, ◌<◌, ◌≤◌, [], ◌∷◌, ◌++◌, length, map, is_none, is_some, IfOk, OnOk};
-ghost use Rattle.std.specs.List.{fold};
+ghost use Rattle.std.specs.Prelude.{◌≡◌, ◌+◌, ◌^◌, ◌<◌, ◌≤◌, [], ◌∷◌, ◌++◌, length, map, is_none, is_some, IfOk, OnOk};
+ghost use Rattle.std.specs.List.{All, fold};
 ghost use Rattle.group_terms.specs.Changes.{leaver, leavers, joiners};
+ghost use Rattle.group_model.specs.declared.seats.Seat.{Seat};
 ghost use Rattle.group_model.specs.Places.{Holders, placed};
-ghost use Rattle.group_model.specs.Private.Seats.{IsIndexOf, vacancies};
+ghost use Rattle.group_model.specs.Private.Seats.{IsIndexOf, vacancies, placements, leaves_taken};
 ghost use Rattle.group_model.specs.Steps.{IsSeating, seated};
 
+use crate::handovers::position;
 use crate::holders::{self, Holder};
 use crate::indexes::NameIndex;
-use crate::{Change, List, MemberName, NoMemory};
+use crate::{Change, List, LkhId, MemberName, NoMemory};
 use group_terms::LeafMarks;
 use std::alloc::Global;
 
@@ -121,7 +123,8 @@ impl Seating {
     /// Those who come in with a batch get a leaf each, the lowest free one.
     pub(crate) fn place_all(&mut self, before: &[Holder], batch: &[Change]) -> Result<(), NoMemory>
         requires seating { IsSeating before.now self.old }
-        ensures seats { OnOk result (seated before.now self.new.seats ≡ fold placed (seated before.now self.old.seats) (joiners batch.now)) }
+        ensures holders { OnOk result (seated before.now self.new.seats ≡ fold placed (seated before.now self.old.seats) (joiners batch.now)) }
+        ensures seats { OnOk result (self.new.seats ≡ self.old.seats ++ placements (seated before.now self.old.seats) (joiners batch.now)) }
         ensures seating { IsSeating before.now self.new }
         ensures depth { self.new.held.depth ≡ self.old.held.depth }
     {
@@ -136,7 +139,8 @@ impl Seating {
     /// Who comes in gets the lowest free leaf.
     fn place(&mut self, before: &[Holder], member: &MemberName) -> Result<(), NoMemory>
         requires seating { IsSeating before.now self.old }
-        ensures seats { OnOk result (seated before.now self.new.seats ≡ placed (seated before.now self.old.seats) member.now) }
+        ensures holders { OnOk result (seated before.now self.new.seats ≡ placed (seated before.now self.old.seats) member.now) }
+        ensures seats { OnOk result (self.new.seats ≡ self.old.seats ++ placements (seated before.now self.old.seats) (member.now ∷ [])) }
         ensures seating { IsSeating before.now self.new }
         ensures depth { self.new.held.depth ≡ self.old.held.depth }
     {
@@ -144,5 +148,21 @@ impl Seating {
             Some(place) => self.seat(before, place, Some(*member)),
             None => Ok(()),
         }
+    }
+
+    /// The leaves that were given to somebody, in the order in which they were. The lowest leaf of the tree is the first one.
+    pub(crate) fn joined(&self, alloc: Global, first: usize) -> Result<List<LkhId>, NoMemory>
+        requires some { 0 < first }
+        requires few { first ≤ 512 }
+        requires within { All (λ (seat : Seat). seat.place < first) self.now.seats }
+        ensures { IfOk result (λ ids. ids ≡ leaves_taken first self.now.seats) }
+    {
+        let mut ids = List::with_room(alloc, self.seats.len())?;
+        for seat in self.seats.as_slice() {
+            if seat.holder.is_some() {
+                ids.push(position(first + seat.place))?;
+            }
+        }
+        Ok(ids)
     }
 }

@@ -1,12 +1,12 @@
 //! What a batch makes of the present tree, found out before it is done.
-ghost use Rattle.std.specs.Prelude.{◌≡◌, ◌+◌, ◌-◌, ◌*◌, ◌^◌, ◌<◌, ◌≤◌, ◌&&◌, ◌||◌, ◌==◌, ◌++◌, [], ◌∷◌, nat_le, drop, length, None, Some, IfSome, IfNone, IfOk, OnOk, if◌then◌else◌};
+ghost use Rattle.std.specs.Prelude.{◌≡◌, ◌+◌, ◌-◌, ◌*◌, ◌^◌, ◌<◌, ◌≤◌, ◌&&◌, ◌||◌, ◌==◌, ◌++◌, [], ◌∷◌, nat_le, drop, length, slice_index_or, None, Some, IfSome, IfNone, IfOk, OnOk, if◌then◌else◌};
 ghost use Rattle.std.specs.List.{All, filter, flat_map};
 ghost use Rattle.group_terms.specs.Positions.{some_leaf_below};
 ghost use Rattle.group_model.specs.Places.{Fits, holders_after};
 ghost use Rattle.group_model.specs.Present.{IsTreeAfter};
 ghost use Rattle.group_model.specs.Steps.{IsReady, IsSeating, IsStepOf, seated, stepped};
 ghost use Rattle.group_model.specs.Private.Draws.{renewed_from, marked_children};
-ghost use Rattle.group_model.specs.Private.Seats.{AreOnce};
+ghost use Rattle.group_model.specs.Private.Seats.{AreOnce, seats_of};
 
 use crate::handovers::position;
 use crate::seats::Seating;
@@ -23,6 +23,8 @@ pub struct TreeStep {
     /// The positions that the batch renews, rising.
     pub(crate) fresh: List<LkhId>,
     pub(crate) drawn: List<LkhId>,
+    /// The leaves of those who come in.
+    pub(crate) joined: List<LkhId>,
 }
 
 impl TreeStep {
@@ -45,6 +47,13 @@ impl TreeStep {
         ensures { result.now ≡ self.now.drawn }
     {
         self.drawn.as_slice()
+    }
+
+    /// The leaves of those who come in with the batch, in the order of the batch.
+    pub fn joined(&self) -> &[LkhId]
+        ensures { result.now ≡ self.now.joined }
+    {
+        self.joined.as_slice()
     }
 }
 
@@ -69,13 +78,28 @@ impl PresentTree {
         };
         let fresh = fresh(alloc, self.depth, &seating.changed)?;
         let drawn = drawn(alloc, fresh.as_slice(), &seating.held)?;
+        let joined = seating.joined(alloc, self.leaves())?;
         Ok(Some(TreeStep {
             epoch: self.epoch + 1,
             sequence,
             seating,
             fresh,
             drawn,
+            joined,
         }))
+    }
+
+    /// The last epoch at which a position was given a new key, once this step is taken; `None` where there was none, and only there.
+    pub fn last_after(&self, step: &TreeStep, id: LkhId) -> Option<u32>
+        requires ready { IsReady self.now step.now }
+        requires within { id < 2 ^ (self.now.depth + 1) }
+        ensures { result ≡ slice_index_or (stepped self.now step.now).changes id None }
+    {
+        if is_marked(id, &step.seating.changed) {
+            Some(step.epoch)
+        } else {
+            self.tree.last(id)
+        }
     }
 
     /// The leaves that change hands with a batch.
@@ -84,6 +108,7 @@ impl PresentTree {
         ensures depth { IfOk result (λ seating. seating.held.depth ≡ self.now.depth) }
         ensures now { IfOk result (λ seating. AreOnce self.now.holders →
             seated self.now.holders seating.seats ≡ holders_after self.now.holders batch.now) }
+        ensures seats { IfOk result (λ seating. seating.seats ≡ seats_of self.now.holders batch.now) }
     {
         let holders = self.tree.holders.as_slice();
         let mut seating = Seating::begin(alloc, self.depth, &self.held, &self.free)?;
@@ -171,18 +196,18 @@ fn drawn(alloc: Global, fresh: &[LkhId], held: &LeafMarks) -> Result<List<LkhId>
 {
     let mut ids = List::with_room(alloc, fresh.len())?;
     for id in fresh {
-        if is_kept(*id, held) {
+        if is_marked(*id, held) {
             ids.push(*id)?;
         }
     }
     Ok(ids)
 }
 
-/// Whether a position is the root, or a member stands below it.
-fn is_kept(id: LkhId, held: &LeafMarks) -> bool
-    requires { id < 2 ^ (held.now.depth + 1) }
-    ensures { result ≡ (id == 1 || some_leaf_below held.now.depth held.now.leaves id) }
+/// Whether a position is the root, or a marked leaf stands at it or below it.
+fn is_marked(id: LkhId, leaves: &LeafMarks) -> bool
+    requires { id < 2 ^ (leaves.now.depth + 1) }
+    ensures { result ≡ (id == 1 || some_leaf_below leaves.now.depth leaves.now.leaves id) }
 {
     let v = usize::from(id.number());
-    v == 1 || held.is_below(v)
+    v == 1 || leaves.is_below(v)
 }

@@ -1,13 +1,14 @@
 //! What the batch of a step encrypts.
-ghost use Rattle.std.specs.Prelude.{◌≡◌, ◌+◌, ◌*◌, ◌^◌, ◌<◌, ◌≤◌, [], ◌∷◌, ◌++◌, ℕ, List, IfOk, OnOk, if◌then◌else◌};
+ghost use Rattle.std.specs.Prelude.{◌≡◌, ◌+◌, ◌-◌, ◌*◌, ◌^◌, ◌<◌, ◌≤◌, [], ◌∷◌, ◌++◌, ℕ, List, length, IfOk, OnOk, if◌then◌else◌};
+ghost use Rattle.std.specs.List.{AllWithin};
 ghost use Rattle.group_terms.specs.Positions.{some_leaf_below};
 ghost use Rattle.group_terms.specs.declared.changes.Change.{Change};
 ghost use Rattle.group_terms.specs.declared.keys.KeyName.TheVariants.{Node};
 ghost use Rattle.group_model.specs.Present.{StandsFor};
 ghost use Rattle.group_model.specs.Private.Presents.{key_in};
-ghost use Rattle.group_model.specs.Private.Steps.{child_wrap, inner_wraps, wraps_up};
+ghost use Rattle.group_model.specs.Private.Steps.{child_wrap, inner_wraps, step_wraps, wraps_up};
 ghost use Rattle.group_model.specs.Steps.{IsReady, IsStepOf, stepped};
-ghost use Rattle.group_model.specs.Wraps.{wraps_at};
+ghost use Rattle.group_model.specs.Wraps.{IsBetween, wraps_at};
 
 use crate::handovers::position;
 use crate::trees::node;
@@ -16,12 +17,23 @@ use std::alloc::Global;
 
 impl PresentTree {
     /// The encryptions of the batch of a step: the new keys of inner positions by falling position, each under its children's keys by rising
-    /// position, and last the traffic key; none where nobody stayed. They cost the positions that the batch renews.
+    /// position, and last the traffic key; none where nobody stayed. They cost the positions that the batch renews, and are two for each and one
+    /// at the most.
     pub fn wraps(&self, alloc: Global, step: &TreeStep) -> Result<List<Wrap>, NoMemory>
         requires { IsReady self.now step.now }
-        ensures { IfOk result (λ wraps. (batch : List Change) (limit : ℕ) → IsStepOf self.now batch limit step.now →
+        ensures wraps { IfOk result (λ wraps. (batch : List Change) (limit : ℕ) → IsStepOf self.now batch limit step.now →
             (batches : List (List Change)) → StandsFor self.now batches →
             wraps ≡ wraps_at self.now.depth (batches ++ batch ∷ []) step.now.epoch) }
+        ensures few { IfOk result (λ wraps. length wraps ≤ 2 * length step.now.fresh + 1) }
+        ensures within { IfOk result (λ wraps. AllWithin (IsBetween (2 ^ (self.now.depth + 1))) wraps 0 (length wraps - 1)) }
+    {
+        Ok(self.list_wraps(alloc, step)?)
+    }
+
+    /// These encryptions.
+    fn list_wraps(&self, alloc: Global, step: &TreeStep) -> Result<List<Wrap>, NoMemory>
+        requires { IsReady self.now step.now }
+        ensures { IfOk result (λ wraps. wraps ≡ step_wraps self.now step.now) }
     {
         let mut wraps = List::new(alloc);
         if step.seating.kept.any() {
@@ -87,21 +99,16 @@ impl PresentTree {
         Ok(())
     }
 
-    /// The key that a position below the root has after a step.
+    /// The key that a position has after a step.
     fn key_after(&self, v: usize, step: &TreeStep) -> KeyName
         requires ready { IsReady self.now step.now }
-        requires below { 1 < v }
+        requires positive { 0 < v }
         requires within { v < 2 ^ (self.now.depth + 1) }
         requires small { v < 65536 }
         ensures { result ≡ key_in (stepped self.now step.now).changes v }
     {
         let id = position(v);
-        let last = self.tree.last(id);
-        let made = if step.seating.changed.is_below(v) {
-            step.epoch
-        } else {
-            last.unwrap_or(0)
-        };
+        let made = self.last_after(step, id).unwrap_or(0);
         KeyName::Node { id, made }
     }
 }

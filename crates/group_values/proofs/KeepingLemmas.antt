@@ -42,7 +42,7 @@ taken_all (node ∷ nodes) kept v now low h value is =
     taken_all nodes (set kept node.id node.value) v (after_draw v now node) (omega (arith, low, length-set kept node.id node.value))
     (taken_one kept node v now low h) value is
 
-last_value-more : (list : List Made) (made : Made) (v : ℕ) → last_value (list ++ made ∷ []) v ≡ fold (after_draw v) (last_value list v) made.values.nodes
+pub last_value-more : (list : List Made) (made : Made) (v : ℕ) → last_value (list ++ made ∷ []) v ≡ fold (after_draw v) (last_value list v) made.values.nodes
 last_value-more list made v =
     let all : all_drawn (list ++ made ∷ []) ≡ all_drawn list ++ made.values.nodes =
     flat_map-append (λ (made : Made). made.values.nodes) list (made ∷ []) ∙ ap (λ nodes. all_drawn list ++ nodes) (append-nil made.values.nodes) in

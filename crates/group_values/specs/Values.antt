@@ -1,6 +1,6 @@
 -- The values of the keys of a group.
-use Rattle.std.specs.Prelude.{◌≡◌, ◌<◌, ℕ, zero, suc, ◌==◌, List, length, Option, None, Some, map, slice_get, option_and_then, if◌then◌else◌}
-use Rattle.std.specs.List.{flat_map, fold}
+use Rattle.std.specs.Prelude.{◌≡◌, ◌<◌, ⊤, ℕ, zero, suc, ◌==◌, List, [], ◌∷◌, length, Option, None, Some, map, slice_get, option_and_then, if◌then◌else◌}
+use Rattle.std.specs.List.{All, flat_map, fold}
 use Rattle.std.specs.Option.{option_map}
 use Rattle.group_terms.specs.declared.changes.Change.{Change}
 use Rattle.group_terms.specs.declared.paths.PathKey.{PathKey}
@@ -59,3 +59,12 @@ pub record Kept : Type 0 where
 pub record KeepsLast (kept : Kept) (list : List Made) : Type 0 where
   pub nodes : (v : ℕ) → v < length kept.nodes → (value : NodeValue) → last_value list v ≡ Some value → slice_get kept.nodes v ≡ Some value
   pub traffic : kept.traffic ≡ traffic_value list (length list)
+
+-- the positions whose values a batch has
+abbrev pub ids_of : List Drawn → List ℕ
+ids_of nodes = map (λ (node : Drawn). node.id) nodes
+
+-- each number is greater than all before it
+abbrev pub Rises : List ℕ → Type 0
+Rises [] = ⊤
+Rises (v ∷ vs) = All (λ w. v < w) vs × Rises vs

@@ -1,8 +1,9 @@
-ghost use Rattle.std.specs.Prelude.{◌≡◌, ◌<◌, ◌≤◌, ◌^◌, ◌+◌, [], ◌∷◌, ◌++◌, List, length, slice_get, slice_set, Some, IfOk};
-ghost use Rattle.std.specs.List.{All, fold};
+ghost use Rattle.std.specs.Prelude.{◌≡◌, ◌≢◌, ◌<◌, ◌≤◌, ◌^◌, ◌+◌, [], ◌∷◌, ◌++◌, List, length, slice_get, slice_set, Some, IfOk, IfErr};
+ghost use Rattle.std.specs.List.{All, HoldsAt, fold};
 ghost use Rattle.group_terms.specs.declared.changes.Change.{Change};
 ghost use Rattle.group_terms.specs.declared.values.Drawn.{Drawn};
-ghost use Rattle.group_values.specs.Values.{KeepsLast, Made};
+ghost use Rattle.group_terms.specs.declared.values.NodeValue.{NodeValue};
+ghost use Rattle.group_values.specs.Values.{KeepsLast, Made, Rises, ids_of, last_value, value_of};
 
 use group_terms::{BatchValues, Drawn, List, LkhId, NoMemory, NodeValue, TrafficValue};
 use std::alloc::Global;
@@ -55,6 +56,18 @@ impl KeptValues {
         self.nodes.as_slice()[usize::from(id.number())]
     }
 
+    /// The value that a position's key has once these values of a batch are taken in.
+    pub fn node_after(&self, values: &BatchValues, id: LkhId) -> NodeValue
+        requires { id < length self.now.nodes }
+        ensures { (list : List Made) (changes : List Change) (value : NodeValue) → KeepsLast self.now list → Rises (ids_of values.now.nodes) →
+            last_value (list ++ record { changes = changes; values = values.now } ∷ []) id ≡ Some value → result ≡ value }
+    {
+        match drawn_for(values.nodes.as_slice(), id) {
+            Some(value) => value,
+            None => self.node(id),
+        }
+    }
+
     /// The value of the traffic key; `None` exactly before the first batch.
     pub fn traffic(&self) -> Option<TrafficValue>
         ensures { result ≡ self.now.traffic }
@@ -71,4 +84,23 @@ fn take_nodes(kept: &mut [NodeValue], nodes: &[Drawn])
     for node in nodes {
         kept[usize::from(node.id.number())] = node.value;
     }
+}
+
+/// The value that was drawn for a position, if one was; the positions rise.
+fn drawn_for(nodes: &[Drawn], id: LkhId) -> Option<NodeValue>
+    ensures { Rises (ids_of nodes.now) → result ≡ value_of nodes.now id }
+{
+    match search(nodes, id) {
+        Ok(place) => Some(nodes[place].value),
+        Err(_) => None,
+    }
+}
+
+/// Where a position is among those that rise, or where it would go.
+fn search(nodes: &[Drawn], id: LkhId) -> Result<usize, usize>
+    ensures range { IfOk result (λ place. place < length nodes.now) }
+    ensures found { IfOk result (HoldsAt (λ (node : Drawn). node.id ≡ id) nodes.now) }
+    ensures absent { Rises (ids_of nodes.now) → IfErr result (λ place. All (λ (node : Drawn). node.id ≢ id) nodes.now) }
+{
+    nodes.binary_search_by_key(&id.number(), |node| node.id.number())
 }

@@ -69,6 +69,21 @@ fn the_last_value_is_kept(rt: HostRuntime) -> Result<(), Fail> {
     Ok(())
 }
 
+/// Before a batch is taken in, its positions have its values, and others have those that are kept.
+#[test]
+fn a_value_of_the_batch_comes_first(rt: HostRuntime) -> Result<(), Fail> {
+    let alloc = rt.alloc();
+    let mut kept = KeptValues::new(alloc, 1)?;
+    kept.take(&made(alloc, 1, 1, 2)?);
+    let values = made(alloc, 2, 1, 3)?;
+    for (number, octet) in [(1, 2), (2, 1), (3, 2)] {
+        let id = LkhId::new(number).ok_or("a position")?;
+        assert!(rt; id.number() < 4);
+        assert_eq!(rt; kept.node_after(&values, id).key, [octet; 16], "{number}");
+    }
+    Ok(())
+}
+
 /// The values of a batch for two positions, each of which has this octet alone.
 fn made(alloc: Global, octet: u8, first: u16, second: u16) -> Result<BatchValues, Fail>
     requires first { first < 4 }

@@ -13,17 +13,29 @@ use Rattle.group_model.specs.declared.entries.Asked.TheVariants.{Create, Join, L
 use Rattle.group_model.specs.declared.entries.Answer.{Answer}
 use Rattle.group_model.specs.declared.entries.Answer.TheVariants.{Opened, Queued, Done, Nothing, Batched, Derived, Refused}
 use Rattle.group_model.specs.declared.entries.Refusal.{Refusal}
-use Rattle.group_model.specs.declared.entries.Refusal.TheVariants.{NotMember, AlreadyPending, TreeFull, NoMemory}
+use Rattle.group_model.specs.declared.entries.Refusal.TheVariants.{NeedsReopen, NotMember, AlreadyPending, TreeFull, BatchFull, Spent, DiskFault, NotAJournal, NoMemory}
+use Rattle.group_model.specs.declared.entries.Counter.{Counter}
+use Rattle.group_model.specs.declared.entries.Counter.TheVariants.{Epoch, Sequence}
 
 -- a line of these words: a space between each two, and octet 10 at the end
 abbrev pub line_with : List (List ℕ) → List ℕ
 line_with words = join_with_byte 32 words ++ 10 ∷ []
 
+-- what is counted
+abbrev pub counter_text : Counter → List ℕ
+counter_text Epoch = codes "epoch "
+counter_text Sequence = codes "sequence "
+
 -- the reason for which a request is refused
 abbrev pub why_text : Refusal → List ℕ
+why_text NeedsReopen = codes "needs-reopen"
 why_text NotMember = codes "not-member"
 why_text AlreadyPending = codes "already-pending"
 why_text (TreeFull held) = codes "tree-full " ++ decimal held
+why_text (BatchFull pending) = codes "batch-full " ++ decimal pending
+why_text (Spent counter at) = codes "spent " ++ (counter_text counter ++ decimal at)
+why_text DiskFault = codes "disk-fault"
+why_text (NotAJournal at) = codes "not-a-journal " ++ decimal at
 why_text NoMemory = codes "no-memory"
 
 -- whose request is refused, and why

@@ -22,6 +22,15 @@ pub fn append_number(alloc: Global, number: u32, out: &mut Octets) -> Result<(),
     Ok(())
 }
 
+/// Puts a place in a file at the end of a text, in decimal.
+pub fn append_place(alloc: Global, place: u64, out: &mut Octets) -> Result<(), NoMemory>
+    ensures { OnOk result (out.new ≡ out.old ++ decimal place) }
+{
+    let digits = place.to_string(alloc)?;
+    out.extend(digits.as_bytes())?;
+    Ok(())
+}
+
 /// The number that a text is, of 1 to 10 decimal digits and below 2^32; `None` where it is none.
 pub fn read_number(text: &[u8]) -> Option<u32>
     ensures { result ≡ number_in text.now }

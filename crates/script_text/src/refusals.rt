@@ -1,8 +1,9 @@
 ghost use Rattle.std.specs.Prelude.{◌≡◌, ◌++◌, OnOk};
-ghost use Rattle.script_text.specs.Report.{refusal_line, why_text};
+ghost use Rattle.std.specs.Fmt.{decimal};
+ghost use Rattle.script_text.specs.Report.{counter_text, refusal_line, why_text};
 
-use crate::numbers::append_number;
-use group_model::{NoMemory, Octets, Refusal};
+use crate::numbers::{append_number, append_place};
+use group_model::{Counter, NoMemory, Octets, Refusal};
 use std::alloc::Global;
 
 /// Puts the line that reports a refusal at the end of a text; `subject` is whose request it was.
@@ -25,13 +26,41 @@ fn append_why(alloc: Global, why: &Refusal, out: &mut Octets) -> Result<(), NoMe
     ensures { OnOk result (out.new ≡ out.old ++ why_text why.now) }
 {
     match why {
+        Refusal::NeedsReopen => out.extend(b"needs-reopen"),
         Refusal::NotMember => out.extend(b"not-member"),
         Refusal::AlreadyPending => out.extend(b"already-pending"),
-        Refusal::TreeFull { held } => {
-            out.extend(b"tree-full ")?;
-            append_number(alloc, *held, out)?;
+        Refusal::TreeFull { held } => append_count(alloc, b"tree-full ", *held, out),
+        Refusal::BatchFull { pending } => append_count(alloc, b"batch-full ", *pending, out),
+        Refusal::Spent { counter, at } => {
+            out.extend(b"spent ")?;
+            append_spent(alloc, *counter, *at, out)?;
+            Ok(())
+        }
+        Refusal::DiskFault => out.extend(b"disk-fault"),
+        Refusal::NotAJournal { at } => {
+            out.extend(b"not-a-journal ")?;
+            append_place(alloc, *at, out)?;
             Ok(())
         }
         Refusal::NoMemory => out.extend(b"no-memory"),
     }
+}
+
+/// What is counted, and its number.
+fn append_spent(alloc: Global, counter: Counter, at: u32, out: &mut Octets) -> Result<(), NoMemory>
+    ensures { OnOk result (out.new ≡ out.old ++ (counter_text counter ++ decimal at)) }
+{
+    match counter {
+        Counter::Epoch => append_count(alloc, b"epoch ", at, out),
+        Counter::Sequence => append_count(alloc, b"sequence ", at, out),
+    }
+}
+
+/// A word, with the space after it, and a number.
+fn append_count(alloc: Global, word: &[u8], number: u32, out: &mut Octets) -> Result<(), NoMemory>
+    ensures { OnOk result (out.new ≡ out.old ++ (word.now ++ decimal number)) }
+{
+    out.extend(word)?;
+    append_number(alloc, number, out)?;
+    Ok(())
 }

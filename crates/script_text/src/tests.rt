@@ -1,7 +1,8 @@
+use crate::refusals::append_refusal;
 use crate::{Line, end_line, read_decimal, read_line, report_entry};
 use group_model::{
-    Answer, Asked, Entry, GroupSeen, KeyName, List, LkhId, MOST_MEMBERS, MemberName, MemberNames,
-    Output, Outside, Refusal, Wrap,
+    Answer, Asked, Counter, Entry, GroupSeen, KeyName, List, LkhId, MOST_MEMBERS, MemberName,
+    MemberNames, Output, Outside, Refusal, Wrap,
 };
 use std::alloc::Global;
 use std::test::Fail;
@@ -174,6 +175,32 @@ fn entries_are_reported_in_lines(rt: HostRuntime) -> Result<(), Fail> {
         wrap 1.2 traffic.2\nbatch refused no-memory\nderive 7 b_1 b_1 yes\nderive 0 b_1 none\nend 0\nend 2 line 7\n";
     assert_eq!(rt; out.as_slice(), lines.as_slice());
     Ok(())
+}
+
+#[test]
+fn each_refusal_has_its_reason(rt: HostRuntime) -> Result<(), Fail> {
+    let table = [
+        (Refusal::NeedsReopen, "needs-reopen"),
+        (Refusal::BatchFull { pending: 32 }, "batch-full 32"),
+        (spent(Counter::Epoch, 1), "spent epoch 1"),
+        (spent(Counter::Sequence, 4), "spent sequence 4"),
+        (Refusal::DiskFault, "disk-fault"),
+        (
+            Refusal::NotAJournal { at: 5_000_000_000 },
+            "not-a-journal 5000000000",
+        ),
+    ];
+    for (why, reason) in table {
+        let mut out = List::new(rt.alloc());
+        append_refusal(rt.alloc(), b"batch", &why, &mut out)?;
+        let line = format!(in rt.alloc(); "batch refused {reason}\n")?;
+        assert_eq!(rt; out.as_slice(), line.as_bytes());
+    }
+    Ok(())
+}
+
+fn spent(counter: Counter, at: u32) -> Refusal {
+    Refusal::Spent { counter, at }
 }
 
 #[test]

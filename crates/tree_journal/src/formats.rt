@@ -1,5 +1,5 @@
 //! Making and opening a journal.
-ghost use Rattle.std.specs.Prelude.{◌≡◌, ◌⊎◌, ◌≤◌, [], ◌∷◌, ◌++◌, ℕ, List, length, false, None, Some, Ok, Err, IfOk, IfErr, OnOk, OnErr};
+ghost use Rattle.std.specs.Prelude.{◌≡◌, ◌⊎◌, ◌≤◌, [], ◌∷◌, ◌++◌, ℕ, List, length, false, true, None, Some, Ok, Err, IfOk, IfErr, OnOk, OnErr};
 ghost use Rattle.gd_disk.specs.Disks.{Knows, Only};
 ghost use Rattle.group_terms.specs.Faults.{Rose};
 ghost use Rattle.gd_disk.specs.Moments.{shown, Keeps, LeavesOnly};
@@ -76,29 +76,58 @@ impl<D: Disk> Journal<D> {
             Knows (shown D.Disk disk) (λ file. Only file (D.may_leave refused.disk))) }
         ensures keeps { Keeps D.Disk disk (disk_in result) }
     {
-        let mut disk = disk;
-        let Ok(mut piece) = room(alloc) else {
+        let Ok(piece) = room(alloc) else {
             return Err(FormatRefusal {
                 why: JournalRefusal::NoMemory,
                 disk,
             });
         };
-        match read_name(&mut disk, piece.as_mut_slice()) {
-            Ok(true) => Ok(Journal {
-                disk,
-                closed: false,
-                at: FIRST,
-                end: None,
-                piece,
+        let mut journal = Journal {
+            disk,
+            closed: true,
+            at: FIRST,
+            end: None,
+            piece,
+        };
+        match journal.reopen() {
+            Ok(()) => Ok(journal),
+            Err(why) => Err(FormatRefusal {
+                why,
+                disk: journal.into_disk(),
             }),
-            Ok(false) => Err(FormatRefusal {
-                why: JournalRefusal::NotAJournal { at: 0 },
-                disk,
-            }),
-            Err(Failed) => Err(FormatRefusal {
-                why: JournalRefusal::DiskFault,
-                disk,
-            }),
+        }
+    }
+
+    /// Opens the journal on the disk again, closed or not, to be read from its first record. It takes no memory.
+    ///
+    /// `DiskFault`, and `NotAJournal` at 0 where the file does not begin as a journal. After a refusal the journal is closed, until it is opened
+    /// again.
+    pub fn reopen(&mut self) -> Result<(), JournalRefusal>
+        ensures named { OnOk result (Knows (shown D.Disk self.old.disk) (λ file. records file ≡ bodies_from file 9)) }
+        ensures other { IfErr result (λ why. (at : ℕ) → why ≡ NotAJournal at →
+            (at ≡ 0) × Knows (shown D.Disk self.old.disk) (λ file. records file ≡ Err 0)) }
+        ensures same { shown D.Disk self.new.disk ≡ shown D.Disk self.old.disk }
+        ensures any_moment { Knows (shown D.Disk self.old.disk)
+            (λ _. LeavesOnly D.Disk self.old.disk self.new.disk (D.may_leave self.old.disk)) }
+        ensures began { OnOk result (self.new ≡ record { disk = self.new.disk; closed = false; at = 9; end = None }) }
+        ensures closes { OnErr result (self.new ≡ record self.old { disk = self.new.disk; closed = true }) }
+        ensures cause { result ≡ Err DiskFault → Rose (D.faults self.old.disk) (D.faults self.new.disk) }
+        ensures no_other { IfErr result (λ why. (why ≡ DiskFault) ⊎ (why ≡ NotAJournal 0)) }
+        ensures stands { (result ≡ Err DiskFault → ⊥) → D.faults self.new.disk ≡ D.faults self.old.disk }
+        ensures durable { (result ≡ Err DiskFault → ⊥) →
+            Knows (shown D.Disk self.new.disk) (λ file. Only file (D.may_leave self.new.disk)) }
+        ensures keeps { Keeps D.Disk self.old.disk self.new.disk }
+    {
+        self.closed = true;
+        match read_name(&mut self.disk, self.piece.as_mut_slice()) {
+            Ok(true) => {
+                self.closed = false;
+                self.at = FIRST;
+                self.end = None;
+                Ok(())
+            }
+            Ok(false) => Err(JournalRefusal::NotAJournal { at: 0 }),
+            Err(Failed) => Err(JournalRefusal::DiskFault),
         }
     }
 }

@@ -53,6 +53,13 @@ impl<D: Disk> Journal<D> {
         self.disk
     }
 
+    /// Closes the journal: from now on each call answers `Closed`, until it is opened again.
+    pub fn close(&mut self)
+        ensures { self.new ≡ record self.old { closed = true } }
+    {
+        self.closed = true;
+    }
+
     /// Reads from the first record again.
     pub fn rewind(&mut self)
         ensures { self.new ≡ record { disk = self.old.disk; closed = self.old.closed; at = 9; end = self.old.end } }

@@ -9,8 +9,8 @@ use thiserror::Error;
 /// Why a journal refuses.
 #[derive(Clone, Copy, Debug, PartialEq, Eq, Error)]
 pub enum JournalRefusal {
-    /// An earlier call of this journal met a fault of the disk: open it again.
-    #[error("closed after a fault of the disk")]
+    /// The journal is closed: an earlier call met a fault of the disk, could not open it again, or closed it.
+    #[error("closed")]
     Closed,
     /// The disk failed.
     #[error("the disk failed")]

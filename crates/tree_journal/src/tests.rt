@@ -6,6 +6,8 @@ use group_terms::{List, Octets};
 use std::alloc::Global;
 use std::test::Fail;
 
+mod reopened;
+
 /// Why a call refused, if it did.
 type Why = Option<JournalRefusal>;
 
@@ -38,11 +40,15 @@ fn ran(alloc: Global, call: u64) -> Result<(MemDisk, List<Why>), Fail> {
 
 /// The sizes of the bodies that are read from a disk, and why no more are, if there was a reason.
 fn opened(alloc: Global, disk: MemDisk) -> Result<(List<usize>, Why), Fail> {
+    match Journal::open(alloc, disk) {
+        Ok(mut journal) => rest_of(alloc, &mut journal),
+        Err(refused) => Ok((List::new(alloc), Some(refused.why))),
+    }
+}
+
+/// The sizes of the bodies that are read from where reading goes on, and why no more are, if there was a reason.
+fn rest_of(alloc: Global, journal: &mut Journal<MemDisk>) -> Result<(List<usize>, Why), Fail> {
     let mut sizes = List::new(alloc);
-    let mut journal = match Journal::open(alloc, disk) {
-        Ok(journal) => journal,
-        Err(refused) => return Ok((sizes, Some(refused.why))),
-    };
     let mut body = Octets::new(alloc);
     for _ in 0..u64::MAX {
         match journal.read_next(alloc, &mut body) {

@@ -4,8 +4,8 @@ use Rattle.group_model.specs.Present.{Present}
 use Rattle.group_records.specs.declared.heads.Head.{Head}
 use Rattle.tree_journal.specs.declared.refusals.FormatRefusal.{FormatRefusal}
 
--- its disk; whether a call met a fault of it, after which the store is closed; the place of the record after the batches that were read, and that
--- of the closed gate, once it was found; the head; and the tree after the batches that were read
+-- its disk; whether it is closed, as after a fault of the disk; the place of the record after the batches that were read, and that of the closed
+-- gate, once it was found; the head; and the tree after the batches that were read
 pub record View (D : Type 0) : Type 0 where
   pub disk : D
   pub closed : Bool

@@ -1,5 +1,5 @@
 //! Making and opening a store.
-ghost use Rattle.std.specs.Prelude.{◌≡◌, ◌⊎◌, ◌≤◌, [], ℕ, List, length, false, None, Some, Err, IfSome, IfNone, IfOk, IfErr, OnOk};
+ghost use Rattle.std.specs.Prelude.{◌≡◌, ◌⊎◌, ◌≤◌, [], ℕ, List, length, false, true, None, Some, Err, IfSome, IfNone, IfOk, IfErr, OnOk, OnErr};
 ghost use Rattle.gd_disk.specs.Disks.{Knows};
 ghost use Rattle.gd_disk.specs.Moments.{shown, Keeps, LeavesOnly};
 ghost use Rattle.group_model.specs.Present.{StandsFor};
@@ -82,20 +82,52 @@ impl<D: Disk> TreeStore<D> {
     {
         let mut journal = Journal::open(alloc, disk)?;
         let mut body = Octets::new(alloc);
-        match read_first(alloc, &mut journal, &mut body) {
-            Ok(head) => match PresentTree::new(alloc, head.depth) {
-                Ok(tree) => Ok(TreeStore {
-                    journal,
-                    head,
-                    tree,
-                    body,
-                }),
-                Err(NoMemory) => Err(no_memory(journal.into_disk())),
-            },
+        match read_beginning(alloc, &mut journal, &mut body) {
+            Ok((head, tree)) => Ok(TreeStore {
+                journal,
+                head,
+                tree,
+                body,
+            }),
             Err(why) => Err(FormatRefusal {
                 why,
                 disk: journal.into_disk(),
             }),
+        }
+    }
+
+    /// Opens the store on the disk again, closed or not, to be read from its first batch.
+    ///
+    /// `DiskFault`, `NoMemory`, and `NotAJournal` at 0 or 9 where the file has no head of a group. After a refusal the store is closed, until it
+    /// is opened again.
+    pub fn reopen(&mut self, alloc: Global) -> Result<(), JournalRefusal>
+        ensures read { OnOk result (Knows (shown D.Disk self.old.disk) (λ file. IsGroupTo file self.new.head [] self.new.at)) }
+        ensures tree { OnOk result (StandsFor self.new.tree []) }
+        ensures began { OnOk result ((self.new.closed ≡ false) × (self.new.end ≡ None)) }
+        ensures broken { IfErr result (λ why. (at : ℕ) → why ≡ NotAJournal at →
+            ((at ≡ 0) × Knows (shown D.Disk self.old.disk) (λ file. records file ≡ Err 0))
+            ⊎ ((at ≡ 9) × Knows (shown D.Disk self.old.disk) (λ file. HasNoHead file))) }
+        ensures closes { OnErr result (self.new.closed ≡ true) }
+        ensures kept { OnErr result ((self.new.head ≡ self.old.head) × (self.new.tree ≡ self.old.tree)) }
+        ensures same { shown D.Disk self.new.disk ≡ shown D.Disk self.old.disk }
+        ensures any_moment { Knows (shown D.Disk self.old.disk)
+            (λ _. LeavesOnly D.Disk self.old.disk self.new.disk (D.may_leave self.old.disk)) }
+        ensures cause { result ≡ Err DiskFault → Rose (D.faults self.old.disk) (D.faults self.new.disk) }
+        ensures no_other { result ≡ Err Closed → ⊥ }
+        ensures stands { (result ≡ Err DiskFault → ⊥) → D.faults self.new.disk ≡ D.faults self.old.disk }
+        ensures keeps { Keeps D.Disk self.old.disk self.new.disk }
+    {
+        self.journal.reopen()?;
+        match read_beginning(alloc, &mut self.journal, &mut self.body) {
+            Ok((head, tree)) => {
+                self.head = head;
+                self.tree = tree;
+                Ok(())
+            }
+            Err(why) => {
+                self.journal.close();
+                Err(why)
+            }
         }
     }
 }
@@ -115,6 +147,32 @@ fn begun(alloc: Global, head: &Head) -> Result<(Octets, PresentTree), NoMemory>
     let made = write_head(alloc, head)?;
     let tree = PresentTree::new(alloc, head.depth)?;
     Ok((made, tree))
+}
+
+/// Reads the head, and makes the tree of the group before its first batch.
+fn read_beginning<D: Disk>(
+    alloc: Global,
+    journal: &mut Journal<D>,
+    body: &mut Octets,
+) -> Result<(Head, PresentTree), JournalRefusal>
+    requires began { journal.old ≡ record { disk = journal.old.disk; closed = false; at = 9; end = None } }
+    ensures read { IfOk result (λ both. Knows (shown D.Disk journal.old.disk) (λ file. IsGroupTo file both.0 [] journal.new.at)) }
+    ensures depth { IfOk result (λ both. both.1.depth ≡ both.0.depth) }
+    ensures limited { IfOk result (λ both. 1 ≤ both.0.limit) }
+    ensures tree { IfOk result (λ both. StandsFor both.1 []) }
+    ensures goes_on { IfOk result (λ _. (journal.new.closed ≡ false) × (journal.new.end ≡ None)) }
+    ensures broken { IfErr result (λ why. (at : ℕ) → why ≡ NotAJournal at →
+        (at ≡ 9) × Knows (shown D.Disk journal.old.disk) (λ file. HasNoHead file)) }
+    ensures same { shown D.Disk journal.new.disk ≡ shown D.Disk journal.old.disk }
+    ensures any_moment { Knows (shown D.Disk journal.old.disk) (λ file. LeavesOnly D.Disk journal.old.disk journal.new.disk (λ c. c ≡ file)) }
+    ensures no_other { IfErr result (λ why. why ≡ Closed → ⊥) }
+    ensures cause { result ≡ Err DiskFault → Rose (D.faults journal.old.disk) (D.faults journal.new.disk) }
+    ensures stands { (result ≡ Err DiskFault → ⊥) → D.faults journal.new.disk ≡ D.faults journal.old.disk }
+    ensures keeps { Keeps D.Disk journal.old.disk journal.new.disk }
+{
+    let head = read_first(alloc, journal, body)?;
+    let tree = PresentTree::new(alloc, head.depth)?;
+    Ok((head, tree))
 }
 
 /// Reads the head, which is the first record.

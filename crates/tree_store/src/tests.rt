@@ -5,4 +5,5 @@ mod images;
 mod lists;
 mod numbers;
 mod refusals;
+mod reopened;
 mod unseen;

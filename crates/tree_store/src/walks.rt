@@ -1,5 +1,5 @@
 //! Reading the batches.
-ghost use Rattle.std.specs.Prelude.{◌≡◌, ◌⊎◌, ◌<◌, ◌≤◌, ◌^◌, ◌++◌, [], ◌∷◌, ℕ, List, false, true, None, Some, Ok, Err, IfSome, IfOk, IfErr};
+ghost use Rattle.std.specs.Prelude.{◌≡◌, ◌⊎◌, ◌<◌, ◌≤◌, ◌^◌, ◌++◌, [], ◌∷◌, ℕ, List, false, true, None, Some, Ok, Err, IfSome, IfOk, IfErr, OnOk};
 ghost use Rattle.gd_disk.specs.Disks.{Knows};
 ghost use Rattle.gd_disk.specs.Moments.{shown, Keeps, LeavesOnly};
 ghost use Rattle.gd_wire.specs.Readings.{octet_at};
@@ -47,6 +47,7 @@ impl<D: Disk> TreeStore<D> {
         ensures cause { result ≡ Err DiskFault → Rose (D.faults self.old.disk) (D.faults self.new.disk) }
         ensures closes { result ≡ Err DiskFault → self.new.closed ≡ true }
         ensures goes_on { (result ≡ Err DiskFault → ⊥) → self.new.closed ≡ self.old.closed }
+        ensures is_open { OnOk result (self.new.closed ≡ false) }
         ensures stands { (result ≡ Err DiskFault → ⊥) → D.faults self.new.disk ≡ D.faults self.old.disk }
         ensures keeps { Keeps D.Disk self.old.disk self.new.disk }
     {

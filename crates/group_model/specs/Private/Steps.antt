@@ -1,7 +1,8 @@
 -- What the batch of a step encrypts, by the marks of the leaves.
 use Rattle.std.specs.Prelude.{ℕ, ◌+◌, ◌*◌, ◌^◌, nat_lt, List, [], ◌∷◌, ◌++◌, if◌then◌else◌}
+use Rattle.std.specs.List.{list_any}
 use Rattle.group_terms.specs.Positions.{some_leaf_below}
-use Rattle.group_terms.specs.declared.keys.KeyName.TheVariants.{Node}
+use Rattle.group_terms.specs.declared.keys.KeyName.TheVariants.{Node, Traffic}
 use Rattle.group_terms.specs.declared.keys.Wrap.{Wrap}
 use Rattle.group_model.specs.declared.steps.TreeStep.{TreeStep}
 use Rattle.group_model.specs.Present.{Present}
@@ -25,3 +26,10 @@ module _ (tree : Present) (step : TreeStep) where
   abbrev pub wraps_up : List ℕ → List Wrap
   wraps_up [] = []
   wraps_up (v ∷ vs) = wraps_up vs ++ inner_wraps v
+
+  -- and last the traffic key under the root; none where nobody stayed
+  abbrev pub step_wraps : List Wrap
+  step_wraps =
+      if list_any (λ mark. mark) step.seating.kept.leaves
+      then wraps_up step.fresh ++ record { by = Node 1 step.epoch; gives = Traffic step.epoch } ∷ []
+      else []

@@ -1,5 +1,5 @@
 -- What is found out of a batch that was stored.
-use Rattle.std.specs.Prelude.{◌≡◌, ℕ, List, [], ◌∷◌, ◌++◌, Option, None, Some}
+use Rattle.std.specs.Prelude.{ℕ, List, [], ◌∷◌, ◌++◌, Option, None, Some}
 use Rattle.group_terms.specs.declared.changes.Change.{Change}
 use Rattle.group_model.specs.Present.{Present, StandsFor}
 use Rattle.group_model.specs.Steps.{IsReady, stepped}

@@ -4,7 +4,7 @@ ghost use Rattle.std.specs.Prelude.{◌≡◌, ◌≤◌, length, IsSome, IfOk};
 use crate::tests::numbers::Numbers;
 use crate::tests::unseen::UnseenDisk;
 use crate::{Head, JournalRefusal, Stored, TreeStore};
-use gd_disk::MemDisk;
+use gd_disk::{Disk, MemDisk};
 use group_model::{LkhId, PresentTree};
 use group_terms::{
     Batch, BatchValues, Change, Drawn, GroupName, List, MOST_CHANGES, MemberName, Octets,
@@ -24,35 +24,34 @@ pub(crate) struct Found {
 }
 
 pub(crate) fn read_all(alloc: Global, disk: MemDisk) -> Result<Found, Fail> {
-    let mut list = List::new(alloc);
-    let mut store = match TreeStore::open(alloc, disk) {
-        Ok(store) => store,
-        Err(refused) => {
-            return Ok(Found {
-                head: None,
+    match TreeStore::open(alloc, disk) {
+        Ok(mut store) => {
+            let (list, why) = rest_of(alloc, &mut store)?;
+            Ok(Found {
+                head: Some(store.head()),
                 list,
-                why: Some(refused.why),
-            });
+                why,
+            })
         }
-    };
-    let head = Some(store.head());
+        Err(refused) => Ok(Found {
+            head: None,
+            list: List::new(alloc),
+            why: Some(refused.why),
+        }),
+    }
+}
+
+/// The batches that are read from where reading goes on, and why no more are, if there was a reason.
+pub(crate) fn rest_of<D: Disk>(
+    alloc: Global,
+    store: &mut TreeStore<D>,
+) -> Result<(List<Stored>, Why), Fail> {
+    let mut list = List::new(alloc);
     for _ in 0..u64::MAX {
         match store.next_batch(alloc) {
             Ok(Some(stored)) => list.push(stored)?,
-            Ok(None) => {
-                return Ok(Found {
-                    head,
-                    list,
-                    why: None,
-                });
-            }
-            Err(why) => {
-                return Ok(Found {
-                    head,
-                    list,
-                    why: Some(why),
-                });
-            }
+            Ok(None) => return Ok((list, None)),
+            Err(why) => return Ok((list, Some(why))),
         }
     }
     Err(Fail::new("it does not end"))

@@ -11,6 +11,7 @@ returns c = record {
   places_stay = c.places_stay_while_members_stay.ensures;
   who_is_member = c.a_batch_says_who_is_a_member.ensures;
   two_numbers = c.a_batch_that_wraps_uses_two_numbers.ensures;
+  drawn_rise = c.drawn_positions_rise.ensures;
   no_change_fits = c.a_batch_that_fits_has_few_changes.ensures.none;
   leavers_few = c.a_batch_that_fits_has_few_changes.ensures.leavers;
   changes_few = c.a_batch_that_fits_has_few_changes.ensures.changes;

@@ -11,4 +11,4 @@ returns-clause-now c =
     let same = c.as_slice-holders.ensures ∙ ap (λ (tree : Present). tree.holders) c.self.view_is in
     subst (λ (holders : Holders). AreOnce holders → seated holders c.place_all.new.self.seats ≡ holders_after holders c.args.batch.now) same
     (λ once. seated_after c.as_slice-holders.result.now c.args.batch.now c.in_ok-seating.seating.seats c.vacate_all.new.self.seats c.place_all.new.self.seats once
-    c.in_ok-seating.ensures.seats c.in_ok-vacate_all.ensures.seats c.in_ok-place_all.ensures.seats)
+    c.in_ok-seating.ensures.seats c.in_ok-vacate_all.ensures.seats c.in_ok-place_all.ensures.holders)

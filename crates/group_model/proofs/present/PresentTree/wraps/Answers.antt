@@ -1,24 +1,20 @@
-use Rattle.std.proofs.Common.{◌≡◌, cond, List, [], ◌∷◌, ◌++◌, ap, sym, ◌∙◌}
-use Rattle.std.specs.List.{list_any}
-use Rattle.group_terms.specs.declared.keys.KeyName.TheVariants.{Node, Traffic}
+use Rattle.std.proofs.Common.{◌≤◌, ◌+◌, ◌*◌, ◌-◌, ◌^◌, length, List, ◌∙◌, subst, sym}
+use Rattle.std.specs.List.{AllWithin}
 use Rattle.group_terms.specs.declared.keys.Wrap.{Wrap}
-use Rattle.group_model.specs.Private.Steps.{wraps_up}
+use Rattle.group_model.specs.Wraps.{IsBetween}
+use Rattle.group_model.proofs.BoundLemmas.{few_wraps, within_wraps}
 use Rattle.group_model.proofs.StepLemmas.{wraps_at-step}
 use Rattle.group_model.proofs.present.PresentTree.wraps.Goals as goal
-use Rattle.group_model.proofs.present.PresentTree.wraps.Goals.{then-any+in_ok-push_node_wraps+in_ok-push, else-any}
 
-pub returns : goal.returns
-returns c batch limit h batches stands =
-    let tree = c.args.self.now in
-    let step = c.args.step.now in
-    let all : List Wrap = wraps_up tree step step.fresh ++ record { by = Node 1 step.epoch; gives = Traffic step.epoch } ∷ [] in
-    let any : c.any.result ≡ list_any (λ mark. mark) step.seating.kept.leaves = c.any.ensures in
-    let chosen : c.if-any.wraps ≡ cond (list_any (λ mark. mark) step.seating.kept.leaves) all [] =
-    elim c.if-any.branch [
-      | then-any+in_ok-push_node_wraps+in_ok-push w ↦ w.wraps-is ∙ w.in_ok-push.ensures.ok
-          ∙ (λ i. w.in_ok-push_node_wraps.ensures i ++ record { by = w.node.ensures i; gives = Traffic step.epoch } ∷ [])
-          ∙ ap (λ wraps. (wraps ++ wraps_up tree step step.fresh) ++ record { by = Node 1 step.epoch; gives = Traffic step.epoch } ∷ []) c.new-wraps.ensures
-          ∙ sym (ap (λ b. cond b all []) (sym any ∙ w.if-any.true))
-      | else-any w ↦ w.wraps-is ∙ c.new-wraps.ensures ∙ sym (ap (λ b. cond b all []) (sym any ∙ w.if-any.false))
-    ] in
-    chosen ∙ wraps_at-step tree step batch limit batches h stands
+pub returns-clause-wraps : goal.returns-clause-wraps
+returns-clause-wraps c batch limit h batches stands =
+    c.in_ok-list_wraps.ensures ∙ wraps_at-step c.args.self.now c.args.step.now batch limit batches h stands
+
+pub returns-clause-few : goal.returns-clause-few
+returns-clause-few c =
+    subst (λ (wraps : List Wrap). length wraps ≤ 2 * length c.args.step.now.fresh + 1) (sym c.in_ok-list_wraps.ensures) (few_wraps c.args.self.now c.args.step.now)
+
+pub returns-clause-within : goal.returns-clause-within
+returns-clause-within c =
+    subst (λ (wraps : List Wrap). AllWithin (IsBetween (2 ^ (c.args.self.now.depth + 1))) wraps 0 (length wraps - 1)) (sym c.in_ok-list_wraps.ensures)
+    (within_wraps c.args.self.now c.args.step.now)
