@@ -1,0 +1,13 @@
+mod CommitLemmas
+mod GroupLemmas
+mod ListLemmas
+mod MakeLemmas
+mod OpenLemmas
+mod PrepareLemmas
+mod ReadyLemmas
+mod ReopenLemmas
+mod ReplyLemmas
+mod StandLemmas
+mod StoreLemmas
+mod WaitLemmas
+mod WalkLemmas

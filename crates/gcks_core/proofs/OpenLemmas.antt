@@ -1,0 +1,169 @@
+-- What reading a journal to its end comes to.
+use Rattle.std.proofs.Common.{◌≡◌, ◌∙◌, ◌⊎◌, inl, inr, ℕ, false, List, [], ◌∷◌, ◌++◌, Option, None, Some, refl, sym, ap, subst, arith}
+use Rattle.std.specs.Prelude.{Result, Ok, Err, IfErr, IfSome, IsErrAnd, IsSome}
+use Rattle.gd_disk.specs.Disks.{Knows}
+use Rattle.gd_disk.specs.MomentLaws.{joined, keeps-joined, weaker}
+use Rattle.gd_disk.specs.Moments.{shown, Keeps, LeavesOnly}
+use Rattle.gd_disk.specs.declared.disks.Disk.{Ghosts}
+use Rattle.group_terms.specs.Faults.{Rose}
+use Rattle.group_terms.specs.declared.changes.Change.{Change}
+use Rattle.group_values.specs.Values.{Kept, batches_made}
+use Rattle.group_model.specs.Present.{Present, StandsFor}
+use Rattle.group_model.specs.declared.entries.Refusal.{Refusal}
+use Rattle.group_model.specs.declared.entries.Refusal.TheVariants as refusals
+use Rattle.group_records.specs.declared.batches.Stored.{Stored}
+use Rattle.group_records.specs.declared.heads.Head.{Head}
+use Rattle.tree_journal.specs.Records.{records}
+use Rattle.tree_journal.specs.declared.refusals.JournalRefusal.{JournalRefusal}
+use Rattle.tree_journal.specs.declared.refusals.JournalRefusal.TheVariants.{Closed, DiskFault, NotAJournal, NoMemory}
+use Rattle.tree_store.specs.Groups.{HasNoHead, HasNoneAt, IsDue, IsGroup, IsGroupTo, IsNoGroup, batches_of}
+use Rattle.tree_store.specs.Views.{View}
+use Rattle.gcks_core.specs.Private.Cores.{IsAtEnd}
+use Rattle.gcks_core.specs.Private.Reads.{IsReadTo, IsWalk}
+use Rattle.gcks_core.specs.Stored.{made_of, stored_list}
+use Rattle.gcks_core.proofs.ListLemmas.{stored_batches}
+use Rattle.gcks_core.proofs.WalkLemmas.{IsReading, read_file, read_next, read_stands}
+
+module _ {D : Type 0} (g : Ghosts D) where
+  -- a disk keeps what it is where nothing is done
+  pub keeps_none : (disk : D) → Keeps g disk disk
+  keeps_none disk = record { honest = refl; exposed = (λ some. some, λ some. some); counted = omega arith }
+
+module _ {D : Type 0} (g : Ghosts D) (first : View D) (head : Head) where
+  -- before the first batch
+  pub reading_begun : (present : Present) (kept : Kept) (last : Option Stored) → IsReadTo g first.disk first [] → IsWalk head present kept last []
+      → first.closed ≡ false → first.head ≡ head → Knows (shown g first.disk) (λ file. LeavesOnly g first.disk first.disk (λ c. c ≡ file))
+      → IsReading g first first head present kept last
+  reading_begun present kept last read walk is_open same still = record {
+    list = [];
+    read = read;
+    walk = walk;
+    open_still = is_open;
+    same_head = same;
+    shows = refl;
+    moments = still;
+    unfaulted = refl;
+    keeps = keeps_none g first.disk;
+  }
+
+  module _ (present : Present) (kept : Kept) (last : Option Stored) (now : View D) (reading : IsReading g first now head present kept last) where
+    -- what was read is the file that is shown now, as far as it goes
+    read_now : (file : List ℕ) → shown g now.disk ≡ Some file → IsGroupTo file now.head (stored_list now.head.depth reading.list) now.at
+    read_now file is = read_file g first.disk now reading.list reading.read file (sym reading.shows ∙ is)
+
+    stands_now : StandsFor now.tree (batches_made reading.list)
+    stands_now = read_stands g first.disk now reading.list reading.read
+
+    -- one call more
+    module _ (next : View D) where
+      pub still_shows : shown g next.disk ≡ shown g now.disk → shown g next.disk ≡ shown g first.disk
+      still_shows same = same ∙ reading.shows
+
+      pub still_moments : (now.closed ≡ false → Knows (shown g now.disk) (λ file. LeavesOnly g now.disk next.disk (λ c. c ≡ file)))
+          → Knows (shown g first.disk) (λ file. LeavesOnly g first.disk next.disk (λ c. c ≡ file))
+      still_moments goes file is =
+          joined g first.disk now.disk next.disk (λ c. c ≡ file) (reading.moments file is) (goes reading.open_still file (reading.shows ∙ is))
+
+      pub still_keeps : Keeps g now.disk next.disk → Keeps g first.disk next.disk
+      still_keeps keeps = keeps-joined g first.disk now.disk next.disk reading.keeps keeps
+
+      pub still_rose : Rose (g.faults now.disk) (g.faults next.disk) → Rose (g.faults first.disk) (g.faults next.disk)
+      still_rose rose = subst (λ n. Rose n (g.faults next.disk)) reading.unfaulted rose
+
+      pub still_stands : g.faults next.disk ≡ g.faults now.disk → g.faults next.disk ≡ g.faults first.disk
+      still_stands same = same ∙ reading.unfaulted
+
+      -- with the next batch
+      module _ (stored : Stored) (same_head : next.head ≡ now.head)
+          (goes : (batches : List (List Change)) → StandsFor now.tree batches
+          → IsDue now.head.depth now.head.limit batches stored × StandsFor next.tree (batches ++ stored.batch ∷ []))
+          (further : (before : List Stored) → StandsFor now.tree (batches_of before)
+          → Knows (shown g now.disk)
+          (λ file. IsGroupTo file now.head before now.at → IsGroupTo file now.head (before ++ stored ∷ []) next.at)) where
+        pub due_now : IsDue head.depth head.limit (batches_made reading.list) stored
+        due_now =
+            subst (λ (h : Head). IsDue h.depth h.limit (batches_made reading.list) stored) reading.same_head
+            (goes (batches_made reading.list) stands_now).0
+
+        pub reading_next : (tree : Present) (values : Kept) (after : Option Stored)
+            → IsWalk head tree values after (reading.list ++ made_of stored ∷ []) → next.closed ≡ false → shown g next.disk ≡ shown g now.disk
+            → (now.closed ≡ false → Knows (shown g now.disk) (λ file. LeavesOnly g now.disk next.disk (λ c. c ≡ file)))
+            → g.faults next.disk ≡ g.faults now.disk → Keeps g now.disk next.disk → IsReading g first next head tree values after
+        reading_next tree values after walk is_open shows moments faults keeps = record {
+          list = reading.list ++ made_of stored ∷ [];
+          read =
+              let due = goes (batches_made reading.list) stands_now in
+              read_next g first.disk now next reading.list stored reading.read reading.shows same_head due.0 due.1 further;
+          walk = walk;
+          open_still = is_open;
+          same_head = same_head ∙ reading.same_head;
+          shows = still_shows shows;
+          moments = still_moments moments;
+          unfaulted = still_stands faults;
+          keeps = still_keeps keeps;
+        }
+
+      -- after the last batch
+      pub reading_ends : next.closed ≡ false → IsSome next.end → shown g next.disk ≡ shown g now.disk
+          → ((list : List Stored) → Knows (shown g now.disk) (λ file. IsGroupTo file now.head list now.at → IsGroup file now.head list))
+          → IsAtEnd g next head reading.list
+      reading_ends is_open walked shows ends = record {
+        open_still = is_open;
+        walked = walked;
+        file = λ file is.
+            let here = sym shows ∙ is in
+            subst (λ (h : Head). IsGroup file h (stored_list h.depth reading.list)) reading.same_head
+            (ends (stored_list now.head.depth reading.list) file here (read_now file here));
+      }
+
+    -- at a place at which there is no batch that is due
+    pub breaks_off : (at : ℕ) → at ≡ now.at
+        → ((batches : List (List Change)) → StandsFor now.tree batches → Knows (shown g now.disk) (λ file. HasNoneAt file now.head batches at))
+        → Knows (shown g first.disk) (λ file. IsNoGroup file at)
+    breaks_off at same none file is =
+        let here = reading.shows ∙ is in
+        let list = stored_list now.head.depth reading.list in
+        inr (inr (
+          now.head,
+          list,
+          subst (IsGroupTo file now.head list) (sym same) (read_now file here),
+          subst (λ b. HasNoneAt file now.head b at) (sym (stored_batches now.head.depth reading.list))
+              (none (batches_made reading.list) stands_now file here),
+        ))
+
+-- what holds of an error holds of an answer that is it
+pub if_error : {T E : Type 0} (P : E → Type 0) (result : Result T E) (error : E) → IsErrAnd result (λ e. e ≡ error) → P error → IfErr result P
+if_error P (Ok value) error is holds = absurd is
+if_error P (Err why) error is holds = subst P (sym is) holds
+
+-- what holds of all that is there holds of it
+pub if_some : {A : Type 0} (P : A → Type 0) (found : Option A) (a : A) → found ≡ Some a → IfSome found P → P a
+if_some {A = A} P found a is holds = subst (λ (there : Option A). IfSome there P) is holds
+
+pub none_there : {A : Type 0} (found : Option A) → ((a : A) → found ≡ Some a → ⊥) → found ≡ None
+none_there None not = refl
+none_there (Some a) not = absurd (not a refl)
+
+-- a disk on which a store was opened, and was then read
+pub then_read : {D : Type 0} (g : Ghosts D) (old mid new : D) (file : List ℕ) → ((f : List ℕ) → shown g old ≡ Some f → g.may_leave old f)
+    → shown g mid ≡ shown g old → shown g old ≡ Some file → LeavesOnly g old mid (g.may_leave old)
+    → Knows (shown g mid) (λ file. LeavesOnly g mid new (λ c. c ≡ file)) → LeavesOnly g old new (g.may_leave old)
+then_read g old mid new file stay same is first second =
+    joined g old mid new (g.may_leave old) first
+    (weaker g mid new (λ c. c ≡ file) (g.may_leave old) (λ c here. subst (g.may_leave old) (sym here) (stay file is)) (second file (same ∙ is)))
+
+-- a core says that there is no journal where its store says it, at the same place
+pub said_none : (why : JournalRefusal) (result : Refusal) → (why ≡ Closed → ⊥) → (why ≡ DiskFault → result ≡ refusals.DiskFault)
+    → ((at : ℕ) → why ≡ NotAJournal at → result ≡ refusals.NotAJournal at) → (why ≡ NoMemory → result ≡ refusals.NoMemory) → (at : ℕ)
+    → result ≡ refusals.NotAJournal at → why ≡ NotAJournal at
+said_none Closed result not fault none memory at said = absurd (not refl)
+said_none DiskFault result not fault none memory at said = absurd (cc (fault refl, said))
+said_none (NotAJournal place) result not fault none memory at said = ap NotAJournal (cc (none place refl, said))
+said_none NoMemory result not fault none memory at said = absurd (cc (memory refl, said))
+
+-- a file that has no head is no group's
+pub no_head : (shows : Option (List ℕ)) (at : ℕ)
+    → ((at ≡ 0) × Knows shows (λ file. records file ≡ Err 0)) ⊎ ((at ≡ 9) × Knows shows (λ file. HasNoHead file))
+    → Knows shows (λ file. IsNoGroup file at)
+no_head shows at (inl (zero, none)) file is = inl (zero, none file is)
+no_head shows at (inr (nine, none)) file is = inr (inl (nine, none file is))

@@ -1,0 +1,62 @@
+-- Which servers a core is.
+use Rattle.std.proofs.Common.{◌≡◌, ◌∙◌, ◌+◌, ◌^◌, List, None, refl, sym, ap, subst}
+use Rattle.gd_edges.specs.declared.draws.Draws.{Ghosts as DrawGhosts}
+use Rattle.group_terms.specs.Names.{Name}
+use Rattle.group_values.specs.Values.{Made, batches_made}
+use Rattle.group_model.specs.Places.{holders_of}
+use Rattle.group_model.specs.Servers.{Server, members_now, refusal_to_join, refusal_to_leave, why_no_join, why_no_leave}
+use Rattle.gcks_core.specs.Private.Cores.{IsGroupOf}
+use Rattle.gcks_core.specs.Stands.{Stands}
+use Rattle.gcks_core.specs.Stored.{AreDue}
+use Rattle.gcks_core.specs.Views.{View}
+
+module _ {D G R : Type 0} (draws : DrawGhosts R) (core : View D G R) where
+  -- the server that is sure of its batches
+  abbrev pub sure_server : List Made → Server
+  sure_server list = record {
+    depth = core.head.depth;
+    limit = core.head.limit;
+    list = list;
+    doubt = None;
+    need = core.need;
+    queue = core.queue;
+    place = draws.place_of core.draws;
+  }
+
+  pub stands_as : (list : List Made) → IsGroupOf core.head core.tree core.kept list → Stands draws core (sure_server list)
+  stands_as list group = record {
+    depth = refl;
+    limit = refl;
+    tree_depth = group.depth;
+    tree = group.tree;
+    room = group.room ∙ ap (λ depth. 2 ^ (depth + 1)) group.depth;
+    kept = group.keeps;
+    due = group.due;
+    queue = refl;
+    need = refl;
+    sure = λ _. refl;
+    place = refl;
+  }
+
+  pub some_server : (list : List Made) → IsGroupOf core.head core.tree core.kept list → (server : Server) × Stands draws core server
+  some_server list group = (sure_server list, stands_as list group)
+
+  module _ (server : Server) (stands : Stands draws core server) where
+    pub group_of : IsGroupOf core.head core.tree core.kept server.list
+    group_of = record {
+      depth = stands.tree_depth ∙ sym stands.depth;
+      tree = stands.tree;
+      room = stands.room ∙ ap (λ depth. 2 ^ (depth + 1)) (sym stands.tree_depth);
+      keeps = stands.kept;
+      due = subst (λ depth. AreDue depth core.head.limit server.list) (sym stands.depth)
+          (subst (λ limit. AreDue server.depth limit server.list) (sym stands.limit) stands.due);
+    }
+
+    pub same_holders : core.tree.holders ≡ members_now server
+    same_holders = stands.tree.holders ∙ ap (λ depth. holders_of depth (batches_made server.list)) stands.tree_depth
+
+    pub same_no_join : (m : Name) → why_no_join core.need core.tree.depth core.tree.holders core.queue m ≡ refusal_to_join server m
+    same_no_join m i = why_no_join (stands.need i) (stands.tree_depth i) (same_holders i) (stands.queue i) m
+
+    pub same_no_leave : (m : Name) → why_no_leave core.need core.tree.depth core.tree.holders core.queue m ≡ refusal_to_leave server m
+    same_no_leave m i = why_no_leave (stands.need i) (stands.tree_depth i) (same_holders i) (stands.queue i) m

@@ -1,0 +1,47 @@
+use Rattle.std.proofs.Common.{◌∙◌, refl, sym, subst}
+use Rattle.gd_disk.specs.Moments.{LeavesOnly}
+use Rattle.gcks_core.proofs.MakeLemmas.{stands_opened}
+use Rattle.gcks_core.proofs.OpenLemmas.{no_head, said_none, then_read}
+use Rattle.gcks_core.proofs.WalkLemmas.{read_begun}
+use Rattle.gcks_core.proofs.cores.Core.open.Goals as goal
+
+pub returns-in-Err-clause-broken : goal.returns-in-Err-clause-broken
+returns-in-Err-clause-broken g c at said =
+    let refused = c.in-Err.ensures in
+    let says = c.refusal_of.ensures in
+    no_head _ at
+    (refused.broken at (said_none c.in-Err.field-0.why c.refusal_of.result refused.no_other says.fault says.none says.memory at said))
+
+pub read_all-requires-clause-begun : goal.read_all-requires-clause-begun
+read_all-requires-clause-begun g c =
+    let opened = c.in-Ok.ensures in
+    read_begun g.D.Disk c.in-Ok.store.disk c.in-Ok.store opened.tree (λ file is. opened.read file (sym opened.same ∙ is))
+
+pub returns-in-Ok-read_all-clause-read : goal.returns-in-Ok-read_all-clause-read
+returns-in-Ok-read_all-clause-read g c =
+    let read = c.in-Ok-read_all.ensures in
+    let found = read.found in
+    let same = read.same ∙ c.in-Ok.ensures.same in
+    (found.0, stands_opened g.R.Draws _ found.0 found.1 refl c.new.ensures _ refl, (λ file is. found.2.file file (same ∙ is)), found.3)
+
+pub returns-in-Ok-read_all-clause-any_moment : goal.returns-in-Ok-read_all-clause-any_moment
+returns-in-Ok-read_all-clause-any_moment g c file is =
+    let opened = c.in-Ok.ensures in
+    then_read g.D.Disk c.args.parts.disk c.in-Ok.store.disk c.read_all.new.store.disk file (g.met.D.Disk.reads_stay c.args.parts.disk) opened.same is
+    (opened.any_moment file is) c.in-Ok-read_all.ensures.any_moment
+
+pub returns-in-Err-read_all-clause-any_moment : goal.returns-in-Err-read_all-clause-any_moment
+returns-in-Err-read_all-clause-any_moment g c file is =
+    let opened = c.in-Ok.ensures in
+    let old = c.args.parts.disk in
+    subst (λ disk. LeavesOnly g.D.Disk old disk (g.D.Disk.may_leave old)) (sym c.into_disk.ensures)
+    (then_read g.D.Disk old c.in-Ok.store.disk c.read_all.new.store.disk file (g.met.D.Disk.reads_stay old) opened.same is
+    (opened.any_moment file is) c.in-Err-read_all.ensures.any_moment)
+
+pub returns-in-Err-read_all-clause-broken : goal.returns-in-Err-read_all-clause-broken
+returns-in-Err-read_all-clause-broken g c at said file is =
+    let refused = c.in-Err-read_all.ensures in
+    let says = c.refusal_of-in-Err-read_all.ensures in
+    refused.broken at
+    (said_none c.in-Err-read_all.why c.refusal_of-in-Err-read_all.result refused.no_other says.fault says.none says.memory at said)
+    file (c.in-Ok.ensures.same ∙ is)

@@ -1,0 +1,42 @@
+use Rattle.std.proofs.Common.{ap, arith}
+use Rattle.group_values.specs.Values.{batches_made}
+use Rattle.gcks_core.proofs.PrepareLemmas.{allowed_there, high_there, ids_are, moved_there, on_err, place_there, positions_there, values_there}
+use Rattle.gcks_core.proofs.preparing.prepare_batch.Goals as goal
+
+pub make_ready-requires-clause-drawn : goal.make_ready-requires-clause-drawn
+make_ready-requires-clause-drawn g c =
+    ids_are (g.R.Draws.block_at c.args.draws.now) (g.R.Draws.place_of c.args.draws.now) c.in_ok-values.values c.drawn.result.now c.in_ok-step.step.drawn
+    c.in_ok-values.ensures.values c.drawn.ensures
+
+pub make_ready-requires-clause-high : goal.make_ready-requires-clause-high
+make_ready-requires-clause-high g c =
+    high_there (g.R.Draws.block_at c.args.draws.now) (g.R.Draws.place_of c.args.draws.now) c.in_ok-values.values c.drawn.result.now c.in_ok-step.step.drawn
+    c.in_ok-values.ensures.values c.drawn.ensures c.traffic_fits.ensures.spi
+
+pub returns-in_err-values-clause-moved : goal.returns-in_err-values-clause-moved
+returns-in_err-values-clause-moved g c list group =
+    on_err c.from_residual-in_err-values.result (0, omega arith, ap g.R.Draws.place_of c.in_err-values.ensures.err)
+
+pub returns-in_err-make_ready-clause-moved : goal.returns-in_err-make_ready-clause-moved
+returns-in_err-make_ready-clause-moved g c list group =
+    on_err c.from_residual-in_err-make_ready.result
+    (moved_there (g.R.Draws.place_of c.args.draws.now) (g.R.Draws.place_of c.draw_values.new.draws) c.drawn.result.now _ c.in_ok-values.ensures.place
+    (positions_there c.args.head.now c.args.tree.now c.args.kept.now list group c.args.batch.now c.args.head.now.limit c.in_ok-step.step c.in_ok-step.ensures.ok
+    c.drawn.result.now c.drawn.ensures))
+
+pub returns-clause-allowed : goal.returns-clause-allowed
+returns-clause-allowed g c list group =
+    allowed_there c.args.head.now c.args.tree.now c.args.kept.now list group c.args.batch.now (c.in_ok-step.ensures.allowed (batches_made list) group.tree)
+
+pub returns-clause-values : goal.returns-clause-values
+returns-clause-values g c list group =
+    values_there (g.R.Draws.block_at c.args.draws.now) (g.R.Draws.place_of c.args.draws.now) c.drawn.result.now _ c.in_ok-values.values
+    c.in_ok-make_ready.field-0.values c.in_ok-make_ready.ensures.values c.in_ok-values.ensures.values
+    (positions_there c.args.head.now c.args.tree.now c.args.kept.now list group c.args.batch.now c.args.head.now.limit c.in_ok-step.step c.in_ok-step.ensures.ok
+    c.drawn.result.now c.drawn.ensures)
+
+pub returns-clause-place : goal.returns-clause-place
+returns-clause-place g c list group =
+    place_there (g.R.Draws.place_of c.args.draws.now) (g.R.Draws.place_of c.draw_values.new.draws) c.drawn.result.now _ c.in_ok-values.ensures.place
+    (positions_there c.args.head.now c.args.tree.now c.args.kept.now list group c.args.batch.now c.args.head.now.limit c.in_ok-step.step c.in_ok-step.ensures.ok
+    c.drawn.result.now c.drawn.ensures)

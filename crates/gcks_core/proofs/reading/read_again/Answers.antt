@@ -1,0 +1,17 @@
+use Rattle.std.proofs.Common.{◌≡◌, ◌∙◌, ℕ, List, Option, sym, subst}
+use Rattle.std.specs.Prelude.{IfErr}
+use Rattle.gd_disk.specs.Disks.{Knows}
+use Rattle.tree_journal.specs.declared.refusals.JournalRefusal.TheVariants.{NotAJournal}
+use Rattle.tree_store.specs.Groups.{IsNoGroup}
+use Rattle.gcks_core.proofs.WalkLemmas.{read_begun}
+use Rattle.gcks_core.proofs.reading.read_again.Goals as goal
+
+pub read_all-requires-clause-begun : goal.read_all-requires-clause-begun
+read_all-requires-clause-begun g c =
+    let said = c.in_ok-reopen.ensures in
+    read_begun g.D.Disk c.reopen.new.self.disk c.reopen.new.self said.tree (λ file is. said.read file (sym said.same ∙ is))
+
+pub returns-clause-broken : goal.returns-clause-broken
+returns-clause-broken g c =
+    subst (λ (shows : Option (List ℕ)). IfErr c.read_all.result (λ why. (at : ℕ) → why ≡ NotAJournal at → Knows shows (λ file. IsNoGroup file at)))
+    c.in_ok-reopen.ensures.same c.read_all.ensures.broken

@@ -1,0 +1,20 @@
+-- What making and opening a core answer.
+use Rattle.std.specs.Prelude.{ℕ, List, Result, Ok, Err}
+use Rattle.group_records.specs.declared.heads.Head.{Head}
+use Rattle.gcks_core.specs.declared.outputs.CoreOpened.{CoreOpened}
+use Rattle.gcks_core.specs.declared.outputs.NewGroup.{NewGroup}
+use Rattle.gcks_core.specs.declared.outputs.Opening.{Opening}
+use Rattle.gcks_core.specs.Views.{View}
+
+-- the head of a group that is made with this SPI
+abbrev pub head_of : NewGroup → List ℕ → Head
+head_of group spi = record { depth = group.depth; name = group.name; spi = spi; limit = group.limit }
+
+-- the disk that an answer has, or gives back
+abbrev pub core_disk : {D G R : Type 0} → Result (View D G R) (Opening D G R) → D
+core_disk (Ok core) = core.disk
+core_disk (Err opening) = opening.parts.disk
+
+abbrev pub opened_disk : {D G R : Type 0} → Result (CoreOpened D G R) (Opening D G R) → D
+opened_disk (Ok opened) = opened.core.disk
+opened_disk (Err opening) = opening.parts.disk

@@ -1,0 +1,4 @@
+-- Definitions that only private contracts and the invariant cite.
+pub mod Cores
+pub mod Reads
+pub mod Stores

@@ -1,0 +1,21 @@
+//! The core of a key server: one group in its journal, its present tree with the values of its keys, the changes that wait, and the batches that are
+//! made of them, with their pushes.
+#![tactic(auto)]
+
+pub use batch_queue::Queue;
+pub use cores::Core;
+pub use group_model::{Counter, PushPair, Refusal};
+pub use group_terms::{GroupName, Keyed, LkhId, MemberName, SignKind, TrafficValue};
+pub use outputs::{CoreOpened, CoreOutput, NewGroup, Opening, Parts};
+pub use prepared::Prepared;
+
+mod bounds;
+mod committing;
+mod cores;
+mod looks;
+mod makings;
+mod outputs;
+mod prepared;
+mod preparing;
+mod reading;
+mod waiting;

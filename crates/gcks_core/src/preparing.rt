@@ -1,0 +1,189 @@
+//! Making all that a batch makes, before it is stored.
+ghost use Rattle.std.specs.Prelude.{◌≡◌, ◌⊎◌, ◌<◌, ◌≤◌, ◌^◌, ◌+◌, ◌++◌, [], ◌∷◌, ℕ, List, length, map, false, None, Some, IfOk, IfErr, OnOk, OnErr};
+ghost use Rattle.std.specs.List.{All};
+ghost use Rattle.gd_wire.specs.Readings.{octet_at};
+ghost use Rattle.group_terms.specs.Changes.{joiners};
+ghost use Rattle.group_terms.specs.Names.{Name};
+ghost use Rattle.group_terms.specs.declared.paths.Keyed.{Keyed as KeyedOf};
+ghost use Rattle.group_terms.specs.declared.changes.Change.{Change};
+ghost use Rattle.group_values.specs.Drawing.{blocks_for, place_after, values_drawn};
+ghost use Rattle.group_values.specs.Values.{KeepsLast, Made, batches_made, ids_of};
+ghost use Rattle.group_model.specs.Drawn.{drawn_at};
+ghost use Rattle.group_model.specs.Places.{Fits};
+ghost use Rattle.group_model.specs.Present.{StandsFor};
+ghost use Rattle.group_model.specs.Servers.{why_no_batch};
+ghost use Rattle.group_model.specs.Stayed.{sequence_at};
+ghost use Rattle.group_model.specs.Steps.{IsStepOf};
+ghost use Rattle.group_model.specs.declared.entries.Refusal.TheVariants.{NoMemory as OutOfMemory};
+ghost use Rattle.group_keys.specs.Drawn.{AreDrawn};
+ghost use Rattle.group_keys.specs.Replies.{IsKeyedOf};
+ghost use Rattle.gcks_core.specs.Prepares.{IsReadyFor};
+ghost use Rattle.gcks_core.specs.Private.Cores.{IsGroupOf};
+
+use crate::bounds::{draws_few, renews_few};
+use crate::{CoreOutput, Keyed, MemberName, Prepared, Refusal};
+use gd_disk::Disk;
+use gd_edges::{Draws, Signer};
+use group_keys::keyed_after;
+use group_model::{Counter, PresentTree, PushPair, TreeStep, each_leaf_has_its_place};
+use group_pushes::write_pair;
+use group_terms::{Batch, BatchValues, Change, List, NoMemory, Wrap};
+use group_values::{KeptValues, draw_values};
+use kd_wire::traffic_fits;
+use std::alloc::Global;
+use tree_store::{Head, TreeStore};
+
+/// Makes all that a batch makes; only the draws move, and these not where it is refused for another reason than want of memory.
+pub(crate) fn prepare_batch<D: Disk, G: Signer, R: Draws>(
+    alloc: Global,
+    tree: &PresentTree,
+    kept: &KeptValues,
+    batch: &Batch,
+    head: &Head,
+    signer: &G,
+    draws: &mut R,
+) -> Result<Prepared, Refusal>
+    requires fits { Fits tree.now.holders batch.now }
+    requires group { (list : List Made) × IsGroupOf head.now tree.now kept.now list }
+    ensures answer { (list : List Made) → IsGroupOf head.now tree.now kept.now list → IfErr result (λ why. (why ≡ OutOfMemory)
+        ⊎ (why_no_batch false head.now.limit (length list) (sequence_at tree.now.depth (batches_made list) (length list))
+        (sequence_at tree.now.depth (batches_made list ++ batch.now ∷ []) (length list + 1)) ≡ Some why)) }
+    ensures allowed { (list : List Made) → IsGroupOf head.now tree.now kept.now list → OnOk result
+        (why_no_batch false head.now.limit (length list) (sequence_at tree.now.depth (batches_made list) (length list))
+        (sequence_at tree.now.depth (batches_made list ++ batch.now ∷ []) (length list + 1)) ≡ None) }
+    ensures ready { (list : List Made) → IsGroupOf head.now tree.now kept.now list →
+        IfOk result (IsReadyFor G.Signer signer.now head.now tree.now batch.now list) }
+    ensures values { (list : List Made) → IsGroupOf head.now tree.now kept.now list → IfOk result (λ prepared. prepared.values
+        ≡ values_drawn (R.block_at draws.old) (R.place_of draws.old) (drawn_at tree.now.depth (batches_made list ++ batch.now ∷ []) (length list + 1))) }
+    ensures place { (list : List Made) → IsGroupOf head.now tree.now kept.now list → OnOk result (R.place_of draws.new
+        ≡ place_after (blocks_for (drawn_at tree.now.depth (batches_made list ++ batch.now ∷ []) (length list + 1))) (R.place_of draws.old)) }
+    ensures moved { (list : List Made) → IsGroupOf head.now tree.now kept.now list → OnErr result ((n : ℕ)
+        × (n ≤ blocks_for (drawn_at tree.now.depth (batches_made list ++ batch.now ∷ []) (length list + 1))) × (R.place_of draws.new ≡ place_after n (R.place_of draws.old))) }
+    ensures blocks { (k : ℕ) → R.block_at draws.new k ≡ R.block_at draws.old k }
+    ensures refused { IfErr result (λ why. (why ≡ OutOfMemory → ⊥) → draws.new ≡ draws.old) }
+{
+    let step = next_step(alloc, tree, batch, head.limit)?;
+    let values = draw_values(alloc, draws, step.drawn())?;
+    traffic_fits(&values.traffic);
+    Ok(make_ready::<D, G>(alloc, tree, kept, batch, head, signer, step, values)?)
+}
+
+/// What the next batch makes of the tree. `Spent` where a limit forbids it.
+fn next_step(
+    alloc: Global,
+    tree: &PresentTree,
+    batch: &Batch,
+    limit: u32,
+) -> Result<TreeStep, Refusal>
+    requires fits { Fits tree.now.holders batch.now }
+    ensures ok { IfOk result (IsStepOf tree.now batch.now limit) }
+    ensures answer { (batches : List (List Change)) → StandsFor tree.now batches → IfErr result (λ why. (why ≡ OutOfMemory)
+        ⊎ (why_no_batch false limit (length batches) (sequence_at tree.now.depth batches (length batches))
+        (sequence_at tree.now.depth (batches ++ batch.now ∷ []) (length batches + 1)) ≡ Some why)) }
+    ensures allowed { (batches : List (List Change)) → StandsFor tree.now batches → OnOk result
+        (why_no_batch false limit (length batches) (sequence_at tree.now.depth batches (length batches))
+        (sequence_at tree.now.depth (batches ++ batch.now ∷ []) (length batches + 1)) ≡ None) }
+{
+    match tree.step(alloc, batch, limit)? {
+        Some(step) => Ok(step),
+        None => Err(spent(tree, limit)),
+    }
+}
+
+/// Which counter is at the limit, where the next batch would go past it.
+fn spent(tree: &PresentTree, limit: u32) -> Refusal
+    ensures epoch { limit ≤ tree.now.epoch → result ≡ Refusal.Spent Counter.Epoch tree.now.epoch }
+    ensures sequence { tree.now.epoch < limit → result ≡ Refusal.Spent Counter.Sequence tree.now.sequence }
+{
+    if tree.epoch() >= limit {
+        return Refusal::Spent {
+            counter: Counter::Epoch,
+            at: tree.epoch(),
+        };
+    }
+    Refusal::Spent {
+        counter: Counter::Sequence,
+        at: tree.sequence(),
+    }
+}
+
+/// The record, what is put out and the replies of a batch whose values were drawn.
+fn make_ready<D: Disk, G: Signer>(
+    alloc: Global,
+    tree: &PresentTree,
+    kept: &KeptValues,
+    batch: &Batch,
+    head: &Head,
+    signer: &G,
+    step: TreeStep,
+    values: BatchValues,
+) -> Result<Prepared, NoMemory>
+    requires fits { Fits tree.now.holders batch.now }
+    requires group { (list : List Made) × IsGroupOf head.now tree.now kept.now list }
+    requires step { IsStepOf tree.now batch.now head.now.limit step }
+    requires drawn { ids_of values.nodes ≡ step.drawn }
+    requires high { 128 ≤ octet_at values.traffic.spi 0 }
+    ensures ready { (list : List Made) → IsGroupOf head.now tree.now kept.now list →
+        IfOk result (IsReadyFor G.Signer signer.now head.now tree.now batch.now list) }
+    ensures values { IfOk result (λ prepared. prepared.values ≡ values) }
+{
+    draws_few(tree);
+    renews_few(tree, batch);
+    let text = TreeStore::<D>::make_record(alloc, batch, step.epoch(), step.sequence(), &values)?;
+    let pushes = write_pair(alloc, tree, &step, kept, &values, &head.spi, signer)?;
+    let replies = replies(alloc, tree, &step, kept, &values, &head.spi, batch)?;
+    let output = CoreOutput {
+        epoch: step.epoch(),
+        sequence: step.sequence(),
+        members: tree.members_after(&step),
+        wraps: wraps_of(alloc, &pushes)?,
+        pushes,
+    };
+    Ok(Prepared {
+        values,
+        text,
+        output,
+        step,
+        replies,
+    })
+}
+
+/// What a pair encrypts; nothing where there is none.
+fn wraps_of(alloc: Global, pushes: &Option<PushPair>) -> Result<List<Wrap>, NoMemory>
+    ensures some { (pair : PushPair) → pushes.now ≡ Some pair → IfOk result (λ wraps. wraps ≡ pair.wraps) }
+    ensures none { pushes.now ≡ None → IfOk result (λ wraps. wraps ≡ []) }
+{
+    match pushes {
+        Some(pair) => List::copy_of(alloc, pair.wraps.as_slice()),
+        None => Ok(List::new(alloc)),
+    }
+}
+
+/// What those are told who come in with a batch.
+fn replies(
+    alloc: Global,
+    tree: &PresentTree,
+    step: &TreeStep,
+    kept: &KeptValues,
+    values: &BatchValues,
+    spi: &[u8; 16],
+    batch: &Batch,
+) -> Result<List<(MemberName, Keyed)>, NoMemory>
+    requires room { length kept.now.nodes ≡ 2 ^ (tree.now.depth + 1) }
+    requires stands { (batches : List (List Change)) × StandsFor tree.now batches }
+    requires step { (limit : ℕ) × IsStepOf tree.now batch.now limit step.now }
+    ensures members { IfOk result (λ replies. map (λ (reply : Name × KeyedOf). reply.0) replies ≡ joiners batch.now) }
+    ensures replies { (list : List Made) → StandsFor tree.now (batches_made list) → KeepsLast kept.now list →
+        AreDrawn tree.now.depth (list ++ record { changes = batch.now; values = values.now } ∷ []) →
+        IfOk result (All (λ (reply : Name × KeyedOf). IsKeyedOf tree.now.depth spi.now (list ++ record { changes = batch.now; values = values.now } ∷ []) reply.0 reply.1)) }
+{
+    each_leaf_has_its_place();
+    let mut replies = List::with_room(alloc, step.joined().len())?;
+    for change in batch.changes() {
+        if let Change::In { member } = change {
+            let leaf = step.joined()[replies.len()];
+            replies.push((*member, keyed_after(tree, step, kept, values, spi, leaf)))?;
+        }
+    }
+    Ok(replies)
+}
