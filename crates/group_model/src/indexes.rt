@@ -18,11 +18,11 @@ pub(crate) struct NameIndex {
 }
 
 impl NameIndex {
-    /// The index of a tree where nobody has a leaf, with room for so many names.
+    /// The index of a tree with so many leaves, where nobody has one. It has room for twice as many names, so that it need not grow where names go and others come.
     pub(crate) fn new(alloc: Global, leaves: usize) -> Result<Self, NoMemory>
         ensures { IfOk result (λ index. (n : ℕ) → IsIndexOf (replicate n None) index) }
     {
-        let places = HashMap::with_capacity(alloc, leaves)?;
+        let places = HashMap::with_capacity(alloc, leaves.saturating_mul(2))?;
         Ok(NameIndex {
             places: Some(places),
         })
