@@ -11,6 +11,7 @@ use Rattle.group_model.specs.declared.entries.Asked.TheVariants.{Derive}
 use Rattle.group_model.specs.declared.entries.Answer.{Answer}
 use Rattle.group_model.specs.declared.entries.Answer.TheVariants.{Derived}
 use Rattle.group_model.specs.Laws.{Laws}
+use Rattle.key_ways.specs.Laws.{Laws as Ways}
 use Rattle.sym_closure.specs.Worlds.{world, holdings}
 use Rattle.sym_closure.specs.Secrecy.{HasMember, NoOthersDeriveFrom, YesIsOfMembers}
 use Rattle.sym_closure.proofs.DerivationLemmas.{CanDerive-among}
@@ -29,7 +30,7 @@ AreSteps-parts group front (entry ∷ before) rest h =
     ((h.0, parts.0), subst (λ all. AreSteps (group_after group (entry ∷ before)) all rest) (append_assoc front (entry ∷ []) before) parts.1)
 
 -- what the openings read
-module _ (laws : Laws) (readings : List Reading) where
+module _ (laws : Laws) (ways : Ways) (readings : List Reading) where
   -- what can be derived after a history can be from all that may ever be sent and given
   ever : (entries : List Entry) (coalition : List Name) (epoch : ℕ) → IsLegalHistory readings entries → CanDerive (held_names entries coalition) (pairs_sent entries) (Traffic epoch) → CanDerive (holdings (depth_after readings entries) (batches_after readings entries) coalition) (world (depth_after readings entries) (batches_after readings entries)) (Traffic epoch)
   ever entries coalition epoch legal h =
@@ -37,7 +38,8 @@ module _ (laws : Laws) (readings : List Reading) where
       CanDerive-among (held_names entries coalition) (holdings (depth_after readings entries) (batches_after readings entries) coalition) (pairs_sent entries) (world (depth_after readings entries) (batches_after readings entries)) (Traffic epoch) (part.held coalition) part.sent h
 
   pub no_others_from : (entries : List Entry) → IsLegalHistory readings entries → NoOthersDeriveFrom readings entries
-  no_others_from entries legal epoch coalition none h = no_others laws (depth_after readings entries) (batches_after readings entries) epoch coalition none (ever entries coalition epoch legal h)
+  no_others_from entries legal epoch coalition none h =
+      no_others laws ways (depth_after readings entries) (batches_after readings entries) epoch coalition none (ever entries coalition epoch legal h)
 
   -- a history up to a place is one
   legal_before : (before rest : List Entry) → IsLegalHistory readings (before ++ rest) → IsLegalHistory readings before
@@ -49,7 +51,7 @@ module _ (laws : Laws) (readings : List Reading) where
     | inr short ↦ absurd short
     | inl due ↦ (
         let yes : due.0 ≡ true = ap is_yes (sym due.1 ∙ answer) in
-        all_in_reach laws (depth_after readings before) (batches_after readings before) names (Traffic epoch) (ever before names epoch legal (due.2.0 yes))
+        all_in_reach laws ways (depth_after readings before) (batches_after readings before) names (Traffic epoch) (ever before names epoch legal (due.2.0 yes))
         )
   ]
 

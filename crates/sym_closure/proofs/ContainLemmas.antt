@@ -5,7 +5,6 @@ use Rattle.std.specs.List.{filter, filter_map, flat_map, list_any, range_with_le
 use Rattle.std.proofs.lemmas.Bool.{cases_Bool, cases_eq, or_cases, or_left, or_right, false≢true}
 use Rattle.std.proofs.lemmas.List.Elements.{Contains-append_left, Contains-append_right, Contains-append_cases}
 use Rattle.std.proofs.lemmas.Option.{none-some, same_Some}
-use Rattle.group_model.specs.Wraps.{falling}
 use Rattle.sym_closure.proofs.FirstLemmas.{no_item, only_item, Contains-first}
 
 pub Contains-later : {X : Type 0} (y x : X) (xs : List X) → Contains xs x → Contains (y ∷ xs) x
@@ -121,19 +120,4 @@ Contains-from_range a zero k c = absurd (no_item k c)
 Contains-from_range a (suc n) k c = elim (Contains-cases a k (range_with_len (a + 1) n) c) [
   | inl here ↦ (omega (arith, here), omega (arith, here))
   | inr later ↦ (let within = Contains-from_range (a + 1) n k later in (omega (arith, within.0), omega (arith, within.1)))
-]
-
--- the numbers from one down to 1
-pub Contains-falling : (n k : ℕ) → 1 ≤ k → k ≤ n → Contains (falling n) k
-Contains-falling zero k low high = absurd (omega (arith, low, high))
-Contains-falling (suc n) k low high = elim (cases_eq (suc n) k) [
-  | inl here ↦ subst (Contains (suc n ∷ falling n)) here (Contains-first (suc n) (falling n))
-  | inr other ↦ Contains-later (suc n) k (falling n) (Contains-falling n k low (omega (arith, high, other)))
-]
-
-pub Contains-from_falling : (n k : ℕ) → Contains (falling n) k → (1 ≤ k) × (k ≤ n)
-Contains-from_falling zero k c = absurd (no_item k c)
-Contains-from_falling (suc n) k c = elim (Contains-cases (suc n) k (falling n) c) [
-  | inl here ↦ (omega (arith, here), omega (arith, here))
-  | inr later ↦ (let within = Contains-from_falling n k later in (within.0, omega (arith, within.1)))
 ]

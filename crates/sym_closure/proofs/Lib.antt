@@ -12,4 +12,3 @@ pub mod PlaceLemmas
 pub mod PrefixLemmas
 pub mod SecrecyLemmas
 pub mod SentLemmas
-pub mod WayLemmas

@@ -1,13 +1,13 @@
 -- A coalition derives no key but those that it reaches.
-use Rattle.std.proofs.Common.{◌≡◌, ℕ, zero, suc, ◌+◌, ◌-◌, ◌*◌, ◌^◌, ◌<◌, ◌≤◌, Bool, true, false, cond, eqb, List, [], ◌∷◌, ◌++◌, Option, Some, None, length, map, take, get_or, sym, refl, ap, ◌∙◌, subst, arith, inl, inr}
+use Rattle.std.proofs.Common.{◌≡◌, ℕ, zero, suc, ◌+◌, ◌/◌, ◌^◌, ◌<◌, ◌≤◌, Bool, true, false, cond, eqb, List, [], ◌∷◌, ◌++◌, Option, Some, None, length, map, take, get_or}
+use Rattle.std.proofs.Common.{sym, refl, ap, ◌∙◌, subst, arith, inl, inr, add-one}
 use Rattle.std.specs.Prelude.{Contains}
 use Rattle.std.specs.List.{list_any, filter}
 use Rattle.std.specs.Option.{option_map, unwrap_or}
-use Rattle.std.proofs.lemmas.Bool.{cases_lt, or_left, or_right, eq-eqb, false≢true}
+use Rattle.std.proofs.lemmas.Bool.{or_left, eq-eqb, false≢true}
 use Rattle.std.proofs.lemmas.Grind.{pow_more}
-use Rattle.std.proofs.lemmas.List.{get_or_past}
 use Rattle.std.proofs.lemmas.List.Folds.{list_any_at}
-use Rattle.std.proofs.lemmas.List.Elements.{Contains-append_cases, Contains-push_cases}
+use Rattle.std.proofs.lemmas.List.Elements.{All-contains, Contains-append_cases, Contains-push_cases}
 use Rattle.std.proofs.lemmas.Option.{same_Some}
 use Rattle.std.proofs.lemmas.Slice.Eq.{bytes_eq-Decides}
 use Rattle.group_terms.specs.Names.{Name}
@@ -16,17 +16,18 @@ use Rattle.group_terms.specs.declared.changes.Change.{Change}
 use Rattle.group_terms.specs.declared.keys.KeyName.{KeyName}
 use Rattle.group_terms.specs.declared.keys.KeyName.TheVariants.{Node, Traffic, Phase}
 use Rattle.group_terms.specs.declared.keys.Wrap.{Wrap}
-use Rattle.group_terms.proofs.BelowLemmas.{below_children}
 use Rattle.group_model.specs.Places.{is_held_by, is_member, holders_at, place_in}
 use Rattle.group_model.specs.Fresh.{changed_leaves, is_fresh, last_change, node_name, upwards}
-use Rattle.group_model.specs.Stayed.{kept_leaves, stayed_at}
-use Rattle.group_model.specs.Wraps.{falling, kept_children, wraps_of, node_wraps, wraps_at}
+use Rattle.group_model.specs.Stayed.{stayed_at}
+use Rattle.group_model.specs.Wraps.{node_wraps, wraps_at}
 use Rattle.group_model.specs.Derivations.{AreAtHand, CanDerive, told_pairs}
 use Rattle.group_model.specs.Laws.{Laws}
+use Rattle.key_ways.specs.Laws.{IsStepUp, Laws as Ways}
 use Rattle.sym_closure.specs.Worlds.{epochs_of, members_at, keys_told, pairs_at, world, told_at, holdings}
 use Rattle.sym_closure.specs.Secrecy.{HadLeafBelow, HasMember, IsWithinReach}
-use Rattle.sym_closure.proofs.FirstLemmas.{no_item, only_item}
-use Rattle.sym_closure.proofs.ContainLemmas.{Contains-cases, Contains-from_map, Contains-from_filter, Contains-from_flat_map, Contains-from_some, Contains-from_range, Contains-from_falling, passes_in}
+use Rattle.sym_closure.proofs.FirstLemmas.{no_item}
+use Rattle.sym_closure.proofs.ContainLemmas.{Contains-cases, Contains-from_map, Contains-from_filter, Contains-from_flat_map}
+use Rattle.sym_closure.proofs.ContainLemmas.{Contains-from_some, Contains-from_range, passes_in}
 use Rattle.sym_closure.proofs.LeafLemmas.{last_fresh, same_below, has_key, upwards-below}
 
 -- what holds of all that is held, and passes from a pair's one key to the other, holds of all that can be derived
@@ -49,7 +50,7 @@ module _ (have : List KeyName) (pairs : List Wrap) (P : KeyName → Type 0) (hel
   pub each_derived : (goal : KeyName) → CanDerive have pairs goal → P goal
   each_derived goal h = at_hand [] h.0 (λ name c. absurd (no_item name c)) h.1 goal h.2
 
-module _ (laws : Laws) (depth : ℕ) (batches : List (List Change)) (coalition : List Name) where
+module _ (laws : Laws) (ways : Ways) (depth : ℕ) (batches : List (List Change)) (coalition : List Name) where
   abbrev WithinReach : KeyName → Type 0
   WithinReach = IsWithinReach depth batches coalition
 
@@ -59,10 +60,8 @@ module _ (laws : Laws) (depth : ℕ) (batches : List (List Change)) (coalition :
   path_in_reach m epoch name ours begun within (Some leaf) at c =
       let found = Contains-from_map (node_name depth batches epoch) (upwards depth leaf) name c in
       let place = laws.places_held depth leaf (holders_at depth batches epoch) m at in
-      let low : place.0 < 2 ^ depth = elim (cases_lt place.0 (length (holders_at depth batches epoch))) [
-        | inl low ↦ omega (arith, low, laws.each_leaf depth (take epoch batches))
-        | inr past ↦ absurd (false≢true (sym (ap (is_held_by m) (get_or_past (holders_at depth batches epoch) place.0 None past)) ∙ place.2))
-      ] in
+      let bounds = ways.leaves depth epoch leaf batches m at in
+      let low : place.0 < 2 ^ depth = omega (arith, place.1, bounds.1, pow_more 2 depth) in
       let below : is_below depth found.0 (2 ^ depth + place.0) ≡ true = subst (λ x. is_below depth found.0 x ≡ true) place.1 (upwards-below depth leaf found.0 found.1) in
       subst WithinReach found.2 (record {
         m = m;
@@ -74,7 +73,7 @@ module _ (laws : Laws) (depth : ℕ) (batches : List (List Change)) (coalition :
         low = low;
         held = place.2;
         below = below;
-        key = has_key laws depth batches found.0 place.0 epoch m low below place.2;
+        key = has_key ways depth batches found.0 place.0 epoch m low below place.2;
       })
 
   told_in_reach : (m : Name) (epoch : ℕ) (name : KeyName) → Contains coalition m → Contains (epochs_of batches) epoch → is_member (holders_at depth batches epoch) m ≡ true → Contains (keys_told depth batches epoch m) name → WithinReach name
@@ -105,19 +104,13 @@ module _ (laws : Laws) (depth : ℕ) (batches : List (List Change)) (coalition :
       let there : is_member (holders_at depth batches epoch) m ≡ true = passes_in (is_held_by m) (holders_at depth batches epoch) (Some m) (Contains-from_some (holders_at depth batches epoch) m member) ((bytes_eq-Decides m m).1 refl) in
       subst (λ (pair : Wrap). WithinReach pair.gives) found.2 (told_in_reach m epoch found.0 ours within there found.1)
 
-  -- what is below a child is below its parent
-  below_parent : (v child x : ℕ) → 1 ≤ v → v ≤ 2 ^ depth - 1 → Contains (2 * v ∷ (2 * v + 1) ∷ []) child → 2 ^ depth ≤ x → x < 2 ^ (depth + 1) → is_below depth child x ≡ true → is_below depth v x ≡ true
-  below_parent v child x positive inner c from to below =
-      below_children depth v x positive (omega (arith, positive, inner)) from to
-      ∙ elim (Contains-cases (2 * v) child ((2 * v + 1) ∷ []) c) [
-        | inl left ↦ or_left (is_below depth (2 * v) x) (is_below depth (2 * v + 1) x) (subst (λ id. is_below depth id x ≡ true) (sym left) below)
-        | inr right ↦ or_right (is_below depth (2 * v) x) (is_below depth (2 * v + 1) x) (subst (λ id. is_below depth id x ≡ true) (sym (only_item (2 * v + 1) child right)) below)
-      ]
-
   -- the new key of a position under the key of a child
-  child_in_reach : (epoch v child : ℕ) → suc epoch ≤ length batches → is_fresh depth (holders_at depth batches epoch) (holders_at depth batches (suc epoch)) v ≡ true → 1 ≤ v → v ≤ 2 ^ depth - 1 → Contains (2 * v ∷ (2 * v + 1) ∷ []) child → HadLeafBelow depth batches coalition child (unwrap_or (last_change depth batches (suc epoch) child) 0) → HadLeafBelow depth batches coalition v (suc epoch)
-  child_in_reach epoch v child within fresh positive inner c stood =
-      let same = same_below laws depth batches child stood.leaf stood.low stood.below (suc epoch) stood.epoch (sym (ap (λ last. unwrap_or last 0) stood.key)) in
+  child_in_reach : (epoch child : ℕ) → suc epoch ≤ length batches
+      → is_fresh depth (holders_at depth batches epoch) (holders_at depth batches (suc epoch)) (child / 2) ≡ true → 0 < child / 2
+      → HadLeafBelow depth batches coalition child (unwrap_or (last_change depth batches (suc epoch) child) 0)
+      → HadLeafBelow depth batches coalition (child / 2) (suc epoch)
+  child_in_reach epoch child within fresh some stood =
+      let same = same_below ways depth batches child stood.leaf stood.low stood.below (suc epoch) stood.epoch (sym (ap (λ last. unwrap_or last 0) stood.key)) in
       record {
         m = stood.m;
         ours = stood.ours;
@@ -127,21 +120,20 @@ module _ (laws : Laws) (depth : ℕ) (batches : List (List Change)) (coalition :
         leaf = stood.leaf;
         low = stood.low;
         held = ap (is_held_by stood.m) same ∙ stood.held;
-        below = below_parent v child (2 ^ depth + stood.leaf) positive inner c (omega arith) (omega (arith, stood.low, pow_more 2 depth)) stood.below;
-        key = last_fresh depth batches epoch v fresh;
+        below = ways.parent_above depth child (2 ^ depth + stood.leaf) some (omega (arith, stood.low, pow_more 2 depth)) stood.below;
+        key = last_fresh depth batches epoch (child / 2) fresh;
       }
 
   -- an encryption between two keys of the tree
   node_in_reach : (epoch : ℕ) (pair : Wrap) → suc epoch ≤ length batches → Contains (node_wraps depth batches (suc epoch)) pair → WithinReach pair.by → WithinReach pair.gives
   node_in_reach epoch pair within c by =
-      let above = Contains-from_flat_map (wraps_of depth batches (suc epoch)) (filter (is_fresh depth (holders_at depth batches (suc epoch - 1)) (holders_at depth batches (suc epoch))) (falling (2 ^ depth - 1))) pair c in
-      let fresh = Contains-from_filter (is_fresh depth (holders_at depth batches (suc epoch - 1)) (holders_at depth batches (suc epoch))) (falling (2 ^ depth - 1)) above.0 above.1 in
-      let inner = Contains-from_falling (2 ^ depth - 1) above.0 fresh.0 in
-      let child = Contains-from_map (λ child. record { by = node_name depth batches (suc epoch) child; gives = Node above.0 (suc epoch) }) (kept_children depth batches (suc epoch) above.0) pair above.2 in
-      let kept = Contains-from_filter (some_leaf_below depth (kept_leaves (holders_at depth batches (suc epoch - 1)) (holders_at depth batches (suc epoch)))) (2 * above.0 ∷ (2 * above.0 + 1) ∷ []) child.0 child.1 in
-      subst (λ (pair : Wrap). WithinReach pair.gives) child.2
-      (child_in_reach epoch above.0 child.0 within (subst (λ before. is_fresh depth (holders_at depth batches before) (holders_at depth batches (suc epoch)) above.0 ≡ true) (omega arith) fresh.1) inner.0 inner.1 kept.0
-      (subst (λ (pair : Wrap). WithinReach pair.by) (sym child.2) by))
+      let next = add-one epoch in
+      let step = All-contains (IsStepUp depth batches epoch) (node_wraps depth batches (epoch + 1)) pair (ways.go_up depth epoch batches)
+      (subst (λ at. Contains (node_wraps depth batches at) pair) (sym next) c) in
+      subst WithinReach (sym (step.gives ∙ ap (Node (step.child / 2)) next))
+      (child_in_reach epoch step.child within
+      (subst (λ at. is_fresh depth (holders_at depth batches epoch) (holders_at depth batches at) (step.child / 2) ≡ true) next step.renewed)
+      step.some (subst WithinReach (step.by ∙ ap (λ at. node_name depth batches at step.child) next) by))
 
   -- the traffic key under the key of the root
   root_in_reach : (epoch : ℕ) → suc epoch ≤ length batches → HadLeafBelow depth batches coalition 1 (suc epoch) → HasMember depth batches coalition (suc epoch)
@@ -187,12 +179,15 @@ module _ (laws : Laws) (depth : ℕ) (batches : List (List Change)) (coalition :
   pub all_in_reach : (goal : KeyName) → CanDerive (holdings depth batches coalition) (world depth batches) goal → IsWithinReach depth batches coalition goal
   all_in_reach goal h = each_derived (holdings depth batches coalition) (world depth batches) WithinReach held_in_reach pair_in_reach goal h
 
-pub no_others : (laws : Laws) (depth : ℕ) (batches : List (List Change)) (epoch : ℕ) (others : List Name) → list_any (is_member (holders_at depth batches epoch)) others ≡ false → CanDerive (holdings depth batches others) (world depth batches) (Traffic epoch) → ⊥
-no_others laws depth batches epoch others none h =
-    let was = all_in_reach laws depth batches others (Traffic epoch) h in
+pub no_others : (laws : Laws) (ways : Ways) (depth : ℕ) (batches : List (List Change)) (epoch : ℕ) (others : List Name)
+    → list_any (is_member (holders_at depth batches epoch)) others ≡ false
+    → CanDerive (holdings depth batches others) (world depth batches) (Traffic epoch) → ⊥
+no_others laws ways depth batches epoch others none h =
+    let was = all_in_reach laws ways depth batches others (Traffic epoch) h in
     false≢true (sym none ∙ passes_in (is_member (holders_at depth batches epoch)) others was.m was.ours was.member)
 
-pub nobody_yet : (laws : Laws) (depth : ℕ) (batches : List (List Change)) (epoch : ℕ) (anybody : List Name) → length batches < epoch → CanDerive (holdings depth batches anybody) (world depth batches) (Traffic epoch) → ⊥
-nobody_yet laws depth batches epoch anybody later h =
-    let was = all_in_reach laws depth batches anybody (Traffic epoch) h in
+pub nobody_yet : (laws : Laws) (ways : Ways) (depth : ℕ) (batches : List (List Change)) (epoch : ℕ) (anybody : List Name) → length batches < epoch
+    → CanDerive (holdings depth batches anybody) (world depth batches) (Traffic epoch) → ⊥
+nobody_yet laws ways depth batches epoch anybody later h =
+    let was = all_in_reach laws ways depth batches anybody (Traffic epoch) h in
     omega (arith, later, was.within)

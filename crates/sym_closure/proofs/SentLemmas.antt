@@ -28,6 +28,7 @@ use Rattle.group_model.specs.declared.entries.Answer.{Answer}
 use Rattle.group_model.specs.declared.entries.Answer.TheVariants.{Done, Queued, Batched, Nothing, Derived, Refused}
 use Rattle.group_model.specs.declared.entries.Refusal.TheVariants.{NotMember, AlreadyPending, TreeFull, NoMemory}
 use Rattle.group_model.specs.Laws.{Laws}
+use Rattle.key_ways.specs.Laws.{Laws as Ways}
 use Rattle.sym_closure.specs.Worlds.{epochs_of, members_at, keys_told, pairs_at, world, told_at, holdings, wraps_since}
 use Rattle.sym_closure.specs.Firsts.{AreAmong}
 use Rattle.sym_closure.specs.Secrecy.{SendsItsWraps, IsPartOfWorld, RepliedMembersDerive}
@@ -321,10 +322,11 @@ module _ (laws : Laws) (readings : List Reading) where
   pub part_of_world : (entries : List Entry) → IsLegalHistory readings entries → IsPartOfWorld readings entries
   part_of_world entries legal = (let tells = Tells-legal entries legal in record { sent = tells.sent; held = tells.held })
 
-  pub replied_members : (entries : List Entry) → IsLegalHistory readings entries → RepliedMembersDerive readings entries
-  replied_members [] legal reply epoch c begun within through = absurd (no_item reply c)
-  replied_members (entry ∷ entries) legal reply epoch c begun within through =
+  pub replied_members : (ways : Ways) (entries : List Entry) → IsLegalHistory readings entries → RepliedMembersDerive readings entries
+  replied_members ways [] legal reply epoch c begun within through = absurd (no_item reply c)
+  replied_members ways (entry ∷ entries) legal reply epoch c begun within through =
       let tells = Tells-history entry entries legal in
       let told = tells.1.told reply c in
       subst (λ names. CanDerive names (wraps_since (depth_after readings (entry ∷ entries)) (batches_after readings (entry ∷ entries)) reply.keyed_epoch epoch) (Traffic epoch)) (sym told.1)
-      (members_follow laws (depth_after readings (entry ∷ entries)) (batches_after readings (entry ∷ entries)) tells.0 (laws.sound_histories readings (entry ∷ entries) legal).valid reply.keyed_epoch epoch reply.member begun within through)
+      (members_follow ways (depth_after readings (entry ∷ entries)) (batches_after readings (entry ∷ entries)) tells.0
+      (laws.sound_histories readings (entry ∷ entries) legal).valid reply.keyed_epoch epoch reply.member begun within through)

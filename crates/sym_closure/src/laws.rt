@@ -12,6 +12,7 @@ ghost use Rattle.sym_closure.specs.Worlds.{world, holdings};
 ghost use Rattle.sym_closure.specs.Secrecy.{NoOthersDerive, NobodyDerivesYet, DerivesOnlyWithinReach, MembersDerive, SendsItsWraps, IsPartOfWorld, NoOthersDeriveFrom, RepliedMembersDerive, YesIsOfMembers};
 
 use group_model::laws_hold;
+use key_ways::each_law_holds;
 
 /// No coalition derives the traffic key of an epoch at which none of them is a member, nor that of an epoch to come; nor any key of the
 /// tree but those that the positions from their leaves up had while they had these leaves.
@@ -21,6 +22,7 @@ pub fn no_others_derive()
     ensures within_reach { (depth : ℕ) (batches : List (List Change)) → DerivesOnlyWithinReach depth batches }
 {
     laws_hold();
+    each_law_holds();
 }
 
 /// A member at each epoch from one to another derives the traffic key of the second from what it may be told at the first, by the
@@ -28,7 +30,7 @@ pub fn no_others_derive()
 pub fn members_derive()
     ensures { (depth : ℕ) (batches : List (List Change)) → 1 ≤ depth → IsValid depth batches → MembersDerive depth batches }
 {
-    laws_hold();
+    each_law_holds();
 }
 
 /// What can be sent and given over the first epochs of a list is among what can be over all of them.
@@ -56,6 +58,7 @@ pub fn a_history_serves_its_members_alone()
     ensures yes { (readings : List Reading) (entries : List Entry) → IsLegalHistory readings entries → YesIsOfMembers readings entries }
 {
     laws_hold();
+    each_law_holds();
 }
 
 /// What is known of a history stays known as it goes on.
