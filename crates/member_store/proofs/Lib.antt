@@ -1,0 +1,10 @@
+pub mod AcceptLemmas
+pub mod AnswerLemmas
+pub mod CauseLemmas
+pub mod FindLemmas
+pub mod LeftLemmas
+pub mod OneLemmas
+pub mod OpeningLemmas
+pub mod PathLemmas
+pub mod StepLemmas
+pub mod TakingLemmas

@@ -1,0 +1,4 @@
+pub mod Private
+pub mod Steps
+pub mod Stores
+pub mod Takings
