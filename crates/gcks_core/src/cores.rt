@@ -178,7 +178,7 @@ impl<D: Disk, G: Signer, R: Draws> Core<D, G, R> {
             × Knows (shown D.Disk self.old.disk) (λ file. IsGroup file self.new.head (stored_list self.new.head.depth list))
             × IsPairIfStayed G.Signer self.old.signer self.new.head.depth self.new.head.spi list resent) }
         ensures refused { (server : Server) → Stands R.Draws self.old server → OnErr result (Stands R.Draws self.new (halted server)) }
-        ensures durable { OnOk result (Knows (shown D.Disk self.new.disk) (λ file. Only file (D.may_leave self.new.disk))) }
+        ensures durable { (result ≡ Err DiskFault → ⊥) → Knows (shown D.Disk self.new.disk) (λ file. Only file (D.may_leave self.new.disk)) }
         ensures any_moment { Knows (shown D.Disk self.old.disk) (λ _. LeavesOnly D.Disk self.old.disk self.new.disk (D.may_leave self.old.disk)) }
         ensures err { OnErr result (self.new ≡ record self.old { disk = self.new.disk; need = true }) }
         ensures no_other { IfErr result (λ why. (why ≡ DiskFault) ⊎ ((why ≡ NoMemory) ⊎ ((at : ℕ) × (why ≡ NotAJournal at)))) }

@@ -115,6 +115,8 @@ impl<D: Disk, G: Signer, R: Draws> Core<D, G, R> {
         ensures parts { IfErr result (λ opening. (opening.parts.signer ≡ parts.signer) × (opening.parts.draws ≡ parts.draws)) }
         ensures cause { IfErr result (λ opening. opening.refusal ≡ DiskFault → Rose (D.faults parts.disk) (D.faults opening.parts.disk)) }
         ensures broken { IfErr result (λ opening. (at : ℕ) → opening.refusal ≡ NotAJournal at → Knows (shown D.Disk parts.disk) (λ file. IsNoGroup file at)) }
+        ensures only { IfErr result (λ opening. (at : ℕ) → opening.refusal ≡ NotAJournal at →
+            Knows (shown D.Disk parts.disk) (λ file. Only file (D.may_leave opening.parts.disk))) }
         ensures no_other { IfErr result (λ opening. (opening.refusal ≡ DiskFault) ⊎ ((opening.refusal ≡ OutOfMemory)
             ⊎ ((at : ℕ) × (opening.refusal ≡ NotAJournal at)))) }
         ensures faultless { IfErr result (λ opening. (opening.refusal ≡ DiskFault → ⊥) → D.faults opening.parts.disk ≡ D.faults parts.disk) }

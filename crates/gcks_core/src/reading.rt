@@ -81,7 +81,7 @@ pub(crate) fn read_again<D: Disk, G: Signer>(
 ) -> Result<Found, JournalRefusal>
     ensures found { IfOk result (λ found. (list : List Made) × IsGroupOf found.head found.tree found.kept list × IsAtEnd D.Disk store.new found.head list
         × IsPairIfStayed G.Signer signer.now found.head.depth found.head.spi list found.resent) }
-    ensures durable { OnOk result (Knows (shown D.Disk store.new.disk) (λ file. Only file (D.may_leave store.new.disk))) }
+    ensures durable { (result ≡ Err DiskFault → ⊥) → Knows (shown D.Disk store.new.disk) (λ file. Only file (D.may_leave store.new.disk)) }
     ensures same { shown D.Disk store.new.disk ≡ shown D.Disk store.old.disk }
     ensures any_moment { Knows (shown D.Disk store.old.disk) (λ _. LeavesOnly D.Disk store.old.disk store.new.disk (D.may_leave store.old.disk)) }
     ensures broken { IfErr result (λ why. (at : ℕ) → why ≡ NotAJournal at → Knows (shown D.Disk store.old.disk) (λ file. IsNoGroup file at)) }

@@ -1,6 +1,6 @@
 //! Making and opening a store.
 ghost use Rattle.std.specs.Prelude.{◌≡◌, ◌⊎◌, ◌≤◌, [], ℕ, List, length, false, true, None, Some, Err, IfSome, IfNone, IfOk, IfErr, OnOk, OnErr};
-ghost use Rattle.gd_disk.specs.Disks.{Knows};
+ghost use Rattle.gd_disk.specs.Disks.{Knows, Only};
 ghost use Rattle.gd_disk.specs.Moments.{shown, Keeps, LeavesOnly};
 ghost use Rattle.group_model.specs.Present.{StandsFor};
 ghost use Rattle.group_records.specs.declared.heads.Head.{Head};
@@ -75,6 +75,8 @@ impl<D: Disk> TreeStore<D> {
         ensures same { shown D.Disk (store_disk result) ≡ shown D.Disk disk }
         ensures any_moment { Knows (shown D.Disk disk) (λ _. LeavesOnly D.Disk disk (store_disk result) (D.may_leave disk)) }
         ensures cause { IfErr result (λ refused. refused.why ≡ DiskFault → Rose (D.faults disk) (D.faults refused.disk)) }
+        ensures only { IfErr result (λ refused. (at : ℕ) → refused.why ≡ NotAJournal at →
+            Knows (shown D.Disk disk) (λ file. Only file (D.may_leave refused.disk))) }
         ensures no_other { IfErr result (λ refused. refused.why ≡ Closed → ⊥) }
         ensures stands { OnOk result (D.faults (store_disk result) ≡ D.faults disk) }
         ensures faultless { IfErr result (λ refused. (refused.why ≡ DiskFault → ⊥) → D.faults refused.disk ≡ D.faults disk) }
@@ -112,6 +114,8 @@ impl<D: Disk> TreeStore<D> {
         ensures same { shown D.Disk self.new.disk ≡ shown D.Disk self.old.disk }
         ensures any_moment { Knows (shown D.Disk self.old.disk)
             (λ _. LeavesOnly D.Disk self.old.disk self.new.disk (D.may_leave self.old.disk)) }
+        ensures durable { (result ≡ Err DiskFault → ⊥) →
+            Knows (shown D.Disk self.new.disk) (λ file. Only file (D.may_leave self.new.disk)) }
         ensures cause { result ≡ Err DiskFault → Rose (D.faults self.old.disk) (D.faults self.new.disk) }
         ensures no_other { result ≡ Err Closed → ⊥ }
         ensures stands { (result ≡ Err DiskFault → ⊥) → D.faults self.new.disk ≡ D.faults self.old.disk }
@@ -165,6 +169,7 @@ fn read_beginning<D: Disk>(
         (at ≡ 9) × Knows (shown D.Disk journal.old.disk) (λ file. HasNoHead file)) }
     ensures same { shown D.Disk journal.new.disk ≡ shown D.Disk journal.old.disk }
     ensures any_moment { Knows (shown D.Disk journal.old.disk) (λ file. LeavesOnly D.Disk journal.old.disk journal.new.disk (λ c. c ≡ file)) }
+    ensures only { Knows (shown D.Disk journal.old.disk) (λ file. Only file (D.may_leave journal.new.disk)) }
     ensures no_other { IfErr result (λ why. why ≡ Closed → ⊥) }
     ensures cause { result ≡ Err DiskFault → Rose (D.faults journal.old.disk) (D.faults journal.new.disk) }
     ensures stands { (result ≡ Err DiskFault → ⊥) → D.faults journal.new.disk ≡ D.faults journal.old.disk }

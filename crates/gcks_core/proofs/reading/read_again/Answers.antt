@@ -1,6 +1,7 @@
 use Rattle.std.proofs.Common.{◌≡◌, ◌∙◌, ℕ, List, Option, sym, subst}
 use Rattle.std.specs.Prelude.{IfErr}
 use Rattle.gd_disk.specs.Disks.{Knows}
+use Rattle.gd_disk.specs.MomentLaws.{leaves_now}
 use Rattle.tree_journal.specs.declared.refusals.JournalRefusal.TheVariants.{NotAJournal}
 use Rattle.tree_store.specs.Groups.{IsNoGroup}
 use Rattle.gcks_core.proofs.WalkLemmas.{read_begun}
@@ -15,3 +16,9 @@ pub returns-clause-broken : goal.returns-clause-broken
 returns-clause-broken g c =
     subst (λ (shows : Option (List ℕ)). IfErr c.read_all.result (λ why. (at : ℕ) → why ≡ NotAJournal at → Knows shows (λ file. IsNoGroup file at)))
     c.in_ok-reopen.ensures.same c.read_all.ensures.broken
+
+pub returns-clause-durable : goal.returns-clause-durable
+returns-clause-durable g c not file is =
+    let read = c.read_all.ensures in
+    let left = c.read_all.new.store.disk in
+    leaves_now g.D.Disk c.reopen.new.self.disk left (λ k. k ≡ file) (g.met.D.Disk.counts_now left) (read.any_moment file (sym read.same ∙ is))

@@ -1,4 +1,6 @@
-use Rattle.std.proofs.Common.{◌∙◌, refl, sym, subst}
+use Rattle.std.proofs.Common.{◌≡◌, ◌∙◌, refl, sym, subst}
+use Rattle.gd_disk.specs.Disks.{Only}
+use Rattle.gd_disk.specs.MomentLaws.{leaves_now}
 use Rattle.gd_disk.specs.Moments.{LeavesOnly}
 use Rattle.gcks_core.proofs.MakeLemmas.{stands_opened}
 use Rattle.gcks_core.proofs.OpenLemmas.{no_head, said_none, then_read}
@@ -11,6 +13,12 @@ returns-in-Err-clause-broken g c at said =
     let says = c.refusal_of.ensures in
     no_head _ at
     (refused.broken at (said_none c.in-Err.field-0.why c.refusal_of.result refused.no_other says.fault says.none says.memory at said))
+
+pub returns-in-Err-clause-only : goal.returns-in-Err-clause-only
+returns-in-Err-clause-only g c at said =
+    let refused = c.in-Err.ensures in
+    let says = c.refusal_of.ensures in
+    refused.only at (said_none c.in-Err.field-0.why c.refusal_of.result refused.no_other says.fault says.none says.memory at said)
 
 pub read_all-requires-clause-begun : goal.read_all-requires-clause-begun
 read_all-requires-clause-begun g c =
@@ -45,3 +53,10 @@ returns-in-Err-read_all-clause-broken g c at said file is =
     refused.broken at
     (said_none c.in-Err-read_all.why c.refusal_of-in-Err-read_all.result refused.no_other says.fault says.none says.memory at said)
     file (c.in-Ok.ensures.same ∙ is)
+
+pub returns-in-Err-read_all-clause-only : goal.returns-in-Err-read_all-clause-only
+returns-in-Err-read_all-clause-only g c at said file is =
+    let left = c.read_all.new.store.disk in
+    subst (λ disk. Only file (g.D.Disk.may_leave disk)) (sym c.into_disk.ensures)
+    (leaves_now g.D.Disk c.in-Ok.store.disk left (λ k. k ≡ file) (g.met.D.Disk.counts_now left)
+    (c.in-Err-read_all.ensures.any_moment file (c.in-Ok.ensures.same ∙ is)))
