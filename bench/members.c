@@ -79,9 +79,15 @@ struct rule {
     int is_due, least, most, is_long;
 };
 
-static const struct rule kek_rules[] = {{0},           {1, 1, 1, 0}, {1, 3, 3, 0},     {1, 128, 128, 0}, {1, 0, 65535, 1},
-                                        {1, 3, 3, 0}, {1, 0, 65535, 0}, {1, 0, 65535, 0}};
-static const struct rule tek_rules[] = {{0}, {1, 1, 1, 0}, {1, 0, 65535, 1}, {0}, {1, 1, 2, 0}, {1, 5, 5, 0}, {1, 128, 128, 0}, {0}};
+/* for the attributes of the KEK and of the TEK, by their kinds */
+#define KINDS 8
+static const struct rule kek_rules[KINDS] = {
+    [1] = {1, 1, 1, 0}, [2] = {1, 3, 3, 0},     [3] = {1, 128, 128, 0}, [4] = {1, 0, 65535, 1},
+    [5] = {1, 3, 3, 0}, [6] = {1, 0, 65535, 0}, [7] = {1, 0, 65535, 0},
+};
+static const struct rule tek_rules[KINDS] = {
+    [1] = {1, 1, 1, 0}, [2] = {1, 0, 65535, 1}, [4] = {1, 1, 2, 0}, [5] = {1, 5, 5, 0}, [6] = {1, 128, 128, 0},
+};
 static const char hash_key[] = "gdoi test signer";
 
 static struct store store[STORES];
@@ -175,7 +181,7 @@ static int attributes(struct text *text, const struct rule *rules, int due, unsi
             return 0;
         kind = get2(at) & 0x7fff;
         number = get2(at + 2);
-        if (kind > 7 || !rules[kind].is_due || seen >> kind & 1)
+        if (kind >= KINDS || !rules[kind].is_due || seen >> kind & 1)
             return 0;
         seen |= 1u << kind;
         if (at[0] & 0x80) {
@@ -191,7 +197,7 @@ static int attributes(struct text *text, const struct rule *rules, int due, unsi
 /* The policy of the KEK: its SPI, and that its pushes are signed as in tests. */
 static int kek_policy(struct text text)
 {
-    unsigned numbers[8] = {0};
+    unsigned numbers[KINDS] = {0};
     const uint8_t *reserved;
     if (take(&text, 1) == NULL || !endpoints(&text) || (push.kek_spi = take(&text, SPI)) == NULL || (reserved = take(&text, 4)) == NULL)
         return 0;
@@ -201,7 +207,7 @@ static int kek_policy(struct text text)
 /* The policy of the TEK: its SPI. */
 static int tek_policy(struct text text)
 {
-    unsigned numbers[8] = {0};
+    unsigned numbers[KINDS] = {0};
     const uint8_t *head = take(&text, 2), *transform;
     if (head == NULL || head[0] != 1 || !endpoints(&text) || (transform = take(&text, 1)) == NULL || *transform != 12)
         return 0;

@@ -35,7 +35,7 @@ GROUPS = [
 COMPARED = (4, 1, 40)
 CHANGES = 300
 # an odd number, so that one is in the middle
-RUNS = 7
+RUNS = 9
 
 
 def run(words):

@@ -1,5 +1,5 @@
 -- A key download in any of its forms leads to the root where it gives both a traffic key and the SPI of rekey datagrams.
-use Rattle.std.proofs.Common.{◌≡◌, ◌⊎◌, List, ℕ, None, Some, IsSome, Result, Ok, Err, IfOk, refl, subst, inl, inr}
+use Rattle.std.proofs.Common.{◌≡◌, ◌⊎◌, List, ℕ, IsSome, Result, Ok, Err, IfOk, refl, subst, inl, inr}
 use Rattle.group_terms.specs.declared.wires.WireFault.{WireFault}
 use Rattle.gd_wire.specs.Readings.{Cursor, from_start, value_of, mapped}
 use Rattle.kd_wire.specs.Bodies.{Kd, kd, kd_of, kd_view}

@@ -4,7 +4,7 @@ ghost use Rattle.std.specs.Prelude.{◌≤◌, IfSome};
 /// The most members who come in with a batch, and the most who go out with one.
 pub(crate) const AT_ONCE: u32 = 16;
 
-/// A tree of this depth that fills up, and of whose members so many go out with each batch from then on.
+/// A tree of this depth that fills up. From then on `going` of its members go out with each batch.
 #[derive(Clone, Copy, Debug, PartialEq, Eq)]
 pub(crate) struct Churn {
     pub(crate) depth: u8,

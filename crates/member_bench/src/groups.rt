@@ -16,7 +16,7 @@ use std::io::{ErrorKind, Write};
 /// A core that keeps nothing, with signatures of tests and draws of a seed.
 type BenchCore = Core<NoDisk, TestSigner, ChaChaDraws>;
 
-/// Makes a group, closes so many batches, and writes what it sends to the members who have stores.
+/// Makes a group, closes `count` batches, and writes what it sends to the members who have stores.
 pub(crate) fn write_group<W: Write>(
     alloc: Global,
     churn: &Churn,

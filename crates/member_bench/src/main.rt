@@ -1,9 +1,9 @@
-//! Has the stores of 16 members read the pushes of a group, so that the time of it can be taken from outside. `write FILE DEPTH GOING COUNT` makes a
-//! group, closes so many batches, and leaves its pushes in a file, with the replies to those members. `read FILE` gives all to their stores, and prints
-//! what came of it. More words like these may come after them.
+//! Has the stores of 16 members read the pushes of a group, so that the time of it can be taken from outside. `write FILE DEPTH GOING COUNT` makes the
+//! group, closes COUNT batches, and leaves in a file its pushes and the replies to these members. `read FILE` gives all of that to their stores, and
+//! prints what came of it. More words like these may come after them.
 //!
-//! Members come in until the tree of this depth is full. From then on with each batch so many go out, and those who went out with the batch before come
-//! back.
+//! Members come in until a tree of this depth is full. From then on GOING members go out with each batch, and the members who went out with the batch
+//! before it come back.
 #![tactic(auto)]
 
 ghost use Rattle.std.specs.Prelude.{◌≤◌, IfOk};
@@ -59,7 +59,7 @@ fn number(word: Option<String>) -> io::Result<u32> {
     Ok(word.parse::<u32>().map_err(|_| ErrorKind::InvalidInput)?)
 }
 
-/// The churn in a tree of this depth where so many go out with a batch.
+/// The churn in a tree of this depth where `going` members go out with a batch.
 fn churn(depth: u32, going: u32) -> io::Result<Churn>
     ensures { IfOk result (λ churn. (1 ≤ churn.depth) × (churn.depth ≤ 9)) }
 {
@@ -67,7 +67,7 @@ fn churn(depth: u32, going: u32) -> io::Result<Churn>
     Ok(Churn::new(depth, going).ok_or(ErrorKind::InvalidInput)?)
 }
 
-/// Makes a group with so many batches, and leaves what it sent in the file at a path, whatever that held.
+/// Makes a group with `count` batches, and leaves what it sent in the file at a path, whatever that held.
 fn write_to(rt: &HostRuntime, path: &str, churn: &Churn, count: u32) -> io::Result<()>
     requires shallow { 1 ≤ churn.now.depth }
     requires not_deep { churn.now.depth ≤ 9 }

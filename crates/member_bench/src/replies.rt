@@ -46,8 +46,8 @@ fn read_download(body: &[u8]) -> Result<KdView, WireFault>
     read_kd(body, 0)
 }
 
-/// What a member is told with this epoch, this last sequence number and this key download; `None` where that gives no path, or where the root's key is of
-/// another epoch.
+/// What a member is told: this epoch, this last sequence number, and this key download. `None` where that gives no path, or the root's key is of another
+/// epoch.
 fn keyed_of(epoch: u32, sequence: u32, view: KdView) -> Option<Keyed>
     requires { LeadsToRoot view }
     ensures { IfSome result IsReply }

@@ -1,4 +1,4 @@
-use Rattle.std.proofs.Common.{◌≡◌, List, ℕ, Result, IfOk, subst, sym}
+use Rattle.std.proofs.Common.{Result, IfOk, subst, sym}
 use Rattle.group_terms.specs.declared.wires.WireFault.{WireFault}
 use Rattle.kd_wire.specs.declared.bodies.KdView.{KdView}
 use Rattle.member_bench.specs.Replies.{LeadsToRoot}
