@@ -7,7 +7,7 @@ use Rattle.gd_edges.specs.Shown.{Shown}
 use Rattle.group_model.specs.declared.entries.Entry.{Entry}
 use Rattle.group_model.specs.declared.entries.Asked.{Asked}
 use Rattle.group_model.specs.Groups.{Reading, Group, no_group, after_entry, group_after, present_group}
-use Rattle.group_model.specs.Legal.{AreSteps, opens, BeginsWithOpening, IsLegalHistory}
+use Rattle.group_model.specs.Legal.{AreSteps, opens, is_open, BeginsWithOpening, IsLegalHistory}
 use Rattle.script_text.specs.declared.lines.Line.{Line}
 use Rattle.script_text.specs.declared.lines.Line.TheVariants.{Nothing, Join, Leave, Batch, Derive}
 use Rattle.console_run.specs.declared.endings.Ending.{Ending}
@@ -57,24 +57,25 @@ text_steps group before text more (inr h) = begun_steps group before h.0 more h.
 -- a request that opens a group stands first
 module _ (readings : List Reading) (request : Asked) (opening : opens request ≡ true) where
   begins : (entries : List Entry) → AnswersOrRunsOut (no_group readings) [] request entries → IsLegalHistory readings entries
-  begins entries h = subst (IsLegalHistory readings) (sym h.alone) (record { begins = ap opens h.asked ∙ opening; steps = (h.step, tt) })
+  begins entries h = subst (IsLegalHistory readings) (sym h.alone) (record { begins = (ap opens h.asked ∙ opening, inl refl); steps = (h.step, tt) })
 
   none_legal : IsLegalHistory readings []
   none_legal = record { begins = tt; steps = tt }
 
-  still_begins : (entries more : List Entry) (entry : Entry) (others : List Entry) → entries ≡ entry ∷ others → BeginsWithOpening entries → BeginsWithOpening (entries ++ more)
-  still_begins entries more entry others parts h = subst (λ entries. BeginsWithOpening (entries ++ more)) (sym parts) (subst BeginsWithOpening parts h)
+  still_begins : (entries more : List Entry) (entry : Entry) (others : List Entry) → entries ≡ entry ∷ others → is_open entry.answer ≡ true → BeginsWithOpening entries → BeginsWithOpening (entries ++ more)
+  still_begins entries more entry others parts opened h =
+      subst (λ entries. BeginsWithOpening (entries ++ more)) (sym parts) ((subst BeginsWithOpening parts h).0, inr opened)
 
   -- a history goes on
-  goes_on : (entries more : List Entry) (entry : Entry) (others : List Entry) → entries ≡ entry ∷ others → IsLegalHistory readings entries → AreSteps (present_group readings entries) entries more → IsLegalHistory readings (entries ++ more)
-  goes_on entries more entry others parts h steps = record {
-    begins = still_begins entries more entry others parts h.begins;
+  goes_on : (entries more : List Entry) (entry : Entry) (others : List Entry) → entries ≡ entry ∷ others → is_open entry.answer ≡ true → IsLegalHistory readings entries → AreSteps (present_group readings entries) entries more → IsLegalHistory readings (entries ++ more)
+  goes_on entries more entry others parts opened h steps = record {
+    begins = still_begins entries more entry others parts opened h.begins;
     steps = AreSteps-append (no_group readings) [] entries more h.steps steps;
   }
 
-  -- a history with entries, of which the first is given
+  -- a history with entries, of which the first opened the group
   abbrev Begun : List Entry → Type 0
-  Begun entries = IsLegalHistory readings entries × ((entry : Entry) × (others : List Entry) × (entries ≡ entry ∷ others))
+  Begun entries = IsLegalHistory readings entries × ((entry : Entry) × (others : List Entry) × (entries ≡ entry ∷ others) × (is_open entry.answer ≡ true))
 
   by_lines : (before : List Entry) (lines : List (List ℕ)) (after : List Entry) → Begun before → LinesGive readings before lines after → Begun after
   by_lines before [] after h same = subst Begun (sym same) h
@@ -82,14 +83,14 @@ module _ (readings : List Reading) (request : Asked) (opening : opens request �
       let first = h.1 in
       let more = gives.0 in
       by_lines (before ++ more) lines after (
-        goes_on before more first.0 first.1 first.2 h.0 (line_steps (present_group readings before) before gives.1.0 more gives.1.2),
-        (first.0, first.1 ++ more, ap (λ entries. entries ++ more) first.2),
+        goes_on before more first.0 first.1 first.2 first.3 h.0 (line_steps (present_group readings before) before gives.1.0 more gives.1.2),
+        (first.0, first.1 ++ more, ap (λ entries. entries ++ more) first.2, first.3),
       ) gives.2
 
   pub run_legal : (lines : List (List ℕ)) (entries : List Entry) → IsRunOf readings request lines entries → Begun entries
   run_legal lines entries h =
       let first = h.opened.answer in
-      by_lines h.opening lines entries (begins h.opening first, (first.entry, [], first.alone)) h.gives
+      by_lines h.opening lines entries (begins h.opening first, (first.entry, [], first.alone, ap is_open h.opened.is_open)) h.gives
 
 -- what the words asked for was an opening
 module _ (given : Given) (request : Asked) (opening : opens request ≡ true) where
@@ -103,7 +104,7 @@ module _ (given : Given) (request : Asked) (opening : opens request ≡ true) wh
   up_to_legal entries done more parts (inr h) =
       let run = run_legal given.readings request opening _ done h.run in
       subst (IsLegalHistory given.readings) (sym parts)
-      (goes_on given.readings request opening done more run.1.0 run.1.1 run.1.2 run.0 (text_steps (present_group given.readings done) done h.text more h.begins))
+      (goes_on given.readings request opening done more run.1.0 run.1.1 run.1.2 run.1.3 run.0 (text_steps (present_group given.readings done) done h.text more h.begins))
 
   cause_legal : (due : Ending) (entries : List Entry) → CauseOf due given request entries → IsLegalHistory given.readings entries
   cause_legal Whole entries h = (run_legal given.readings request opening _ entries h.1).0

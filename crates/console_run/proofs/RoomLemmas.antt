@@ -1,6 +1,6 @@
 -- A change that is granted has room beside those that wait.
-use Rattle.std.proofs.Common.{◌≡◌, ℕ, ◌^◌, ◌≤◌, false, true, List, [], ◌∷◌, ◌++◌, length, refl, arith}
-use Rattle.std.proofs.lemmas.Bool.{ne_eqb}
+use Rattle.std.proofs.Common.{◌≡◌, ℕ, ◌^◌, ◌<◌, ◌≤◌, false, true, List, [], ◌∷◌, ◌++◌, length, refl, arith}
+use Rattle.std.proofs.lemmas.Bool.{lt-ltb, ne_eqb}
 use Rattle.std.proofs.lemmas.List.{length-append}
 use Rattle.std.proofs.Math.Pow.{pow_mono}
 use Rattle.group_terms.specs.Changes.{is_pending}
@@ -8,7 +8,8 @@ use Rattle.group_terms.specs.Names.{Name}
 use Rattle.group_terms.specs.declared.changes.Change.{Change}
 use Rattle.group_model.specs.declared.entries.Answer.TheVariants.{Queued, Done}
 use Rattle.group_model.specs.Places.{Holders, is_member, Fits}
-use Rattle.group_model.specs.Legal.{leaves_taken, answer_to_join, answer_to_leave}
+use Rattle.group_model.specs.Legal.{answer_to_join, answer_to_leave}
+use Rattle.group_model.specs.Refusals.{leaves_taken}
 use Rattle.group_model.specs.Laws.{ChangesAreFew}
 use Rattle.console_run.specs.Private.Held.{HasRoom}
 
@@ -20,9 +21,9 @@ module _ (depth : ℕ) (holders : Holders) (queue : List Change) where
     room = omega (arith, few holders (queue ++ change ∷ []) fits, length-append queue (change ∷ []), each, pow_mono shallow);
   }
 
-  module _ (m : Name) (free : is_pending queue m ≡ false) where
-    pub queued : is_member holders m ≡ false → (leaves_taken depth holders queue ≡ 2 ^ depth → ⊥) → answer_to_join depth holders queue m ≡ Queued
-    queued stranger left = rw (stranger, free, ne_eqb (leaves_taken depth holders queue) (2 ^ depth) left) refl
+  module _ (m : Name) (free : is_pending queue m ≡ false) (room : length queue < 32) where
+    pub queued : is_member holders m ≡ false → (leaves_taken depth holders queue ≡ 2 ^ depth → ⊥) → answer_to_join false depth holders queue m ≡ Queued
+    queued stranger left = rw (stranger, free, ne_eqb (leaves_taken depth holders queue) (2 ^ depth) left, lt-ltb (length queue) 32 room) refl
 
-    pub done : is_member holders m ≡ true → answer_to_leave depth holders queue m ≡ Done
-    done member = rw (member, free) refl
+    pub done : is_member holders m ≡ true → answer_to_leave false depth holders queue m ≡ Done
+    done member = rw (member, free, lt-ltb (length queue) 32 room) refl

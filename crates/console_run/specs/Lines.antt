@@ -1,16 +1,31 @@
 -- Which entries the lines of a script give.
-use Rattle.std.specs.Prelude.{◌≡◌, ◌⊎◌, ℕ, ◌≤◌, false, List, [], ◌∷◌, ◌++◌, length, Option, Some}
+use Rattle.std.specs.Prelude.{◌≡◌, ◌⊎◌, ℕ, ◌≤◌, Bool, true, false, List, [], ◌∷◌, ◌++◌, length, Option, Some}
 use Rattle.group_model.specs.declared.entries.Entry.{Entry}
 use Rattle.group_model.specs.declared.entries.Asked.{Asked}
 use Rattle.group_model.specs.declared.entries.Asked.TheVariants.{Join as AskJoin, Leave as AskLeave, Batch as AskBatch, Derive as AskDerive}
-use Rattle.group_model.specs.declared.entries.Answer.TheVariants.{Opened}
+use Rattle.group_model.specs.declared.entries.Answer.{Answer}
+use Rattle.group_model.specs.declared.entries.Answer.TheVariants.{Batched, Opened, Refused}
+use Rattle.group_model.specs.declared.entries.Refusal.{Refusal}
+use Rattle.group_model.specs.declared.entries.Refusal.TheVariants.{Spent, DiskFault}
 use Rattle.group_model.specs.declared.entries.GroupSeen.{GroupSeen}
 use Rattle.group_model.specs.declared.entries.PushPair.{PushPair}
 use Rattle.group_model.specs.Groups.{Reading, Group, no_group, present_group}
-use Rattle.group_model.specs.Legal.{IsStep, any_ran_out}
+use Rattle.group_model.specs.Legal.{HasNoDatagrams, IsStep, any_ran_out}
 use Rattle.script_text.specs.Lines.{line_of}
 use Rattle.script_text.specs.declared.lines.Line.{Line}
 use Rattle.script_text.specs.declared.lines.Line.TheVariants.{Nothing, Join, Leave, Batch, Derive}
+
+-- a reason that there may be where there is no disk and no limit
+abbrev pub is_on_paper : Refusal → Bool
+is_on_paper (Spent counter at) = false
+is_on_paper DiskFault = false
+is_on_paper why = true
+
+-- an answer of a group that has neither a disk nor keys: no disk failed, no limit was met, and no datagram was made
+abbrev pub IsPlain : Answer → Type 0
+IsPlain (Batched output) = HasNoDatagrams output
+IsPlain (Refused why) = is_on_paper why ≡ true
+IsPlain answer = Unit {0}
 
 -- one entry answers a request, after those before it, which have made this group; perhaps that memory ran out
 pub record AnswersOrRunsOut (group : Group) (before : List Entry) (request : Asked) (more : List Entry) : Type 0 where
@@ -18,6 +33,7 @@ pub record AnswersOrRunsOut (group : Group) (before : List Entry) (request : Ask
   pub alone : more ≡ entry ∷ []
   pub asked : entry.asked ≡ request
   pub step : IsStep group before entry
+  pub plain : IsPlain entry.answer
 
 -- one entry answers a request, and memory did not run out
 pub record Answers (group : Group) (before : List Entry) (request : Asked) (more : List Entry) : Type 0 where

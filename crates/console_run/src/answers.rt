@@ -1,8 +1,10 @@
 //! The answers that are due to joins and leaves.
-ghost use Rattle.std.specs.Prelude.{◌≡◌, ◌≤◌, ◌++◌, ◌∷◌, [], length};
+ghost use Rattle.std.specs.Prelude.{◌≡◌, ◌≤◌, ◌++◌, ◌∷◌, [], false, length};
 ghost use Rattle.group_terms.specs.declared.changes.Change.TheVariants.{In, Out};
 ghost use Rattle.group_model.specs.Places.{Fits};
-ghost use Rattle.group_model.specs.Legal.{answer_to_join, answer_to_leave, leaves_taken};
+ghost use Rattle.group_model.specs.Legal.{answer_to_join, answer_to_leave};
+ghost use Rattle.group_model.specs.Refusals.{leaves_taken};
+ghost use Rattle.console_run.specs.Lines.{IsPlain};
 ghost use Rattle.console_run.specs.Private.Held.{HasRoom};
 
 use group_model::{
@@ -10,7 +12,7 @@ use group_model::{
     granted_changes_fit,
 };
 
-/// A member's join does nothing; then a pending change refuses it, and then a full tree.
+/// A member's join does nothing; then a pending change refuses it, and then a full tree. A tree of depth 4 is full before 32 changes are pending.
 pub(crate) fn answer_join(
     tree: &PresentTree,
     pending: &PendingChanges,
@@ -18,7 +20,8 @@ pub(crate) fn answer_join(
 ) -> Answer
     requires shallow { tree.now.depth ≤ 4 }
     requires fits { Fits tree.now.holders pending.now }
-    ensures due { result ≡ answer_to_join tree.now.depth tree.now.holders pending.now member.now }
+    ensures due { result ≡ answer_to_join false tree.now.depth tree.now.holders pending.now member.now }
+    ensures plain { IsPlain result }
     ensures room { result ≡ Answer.Queued → HasRoom tree.now.holders pending.now (In member.now) }
 {
     granted_changes_fit();
@@ -47,7 +50,8 @@ pub(crate) fn answer_leave(
 ) -> Answer
     requires shallow { tree.now.depth ≤ 4 }
     requires fits { Fits tree.now.holders pending.now }
-    ensures due { result ≡ answer_to_leave tree.now.depth tree.now.holders pending.now member.now }
+    ensures due { result ≡ answer_to_leave false tree.now.depth tree.now.holders pending.now member.now }
+    ensures plain { IsPlain result }
     ensures room { result ≡ Answer.Done → HasRoom tree.now.holders pending.now (Out member.now) }
 {
     granted_changes_fit();

@@ -1,7 +1,8 @@
 //! A group that answers requests, with the history of all that was asked of it.
 ghost use Rattle.std.specs.Prelude.{◌≡◌, ◌+◌, ◌<◌, ◌≤◌, List, [], ◌∷◌, ◌++◌, false, MatchOption, IfOk, OnOk, OnErr, IsTrue};
 ghost use Rattle.group_model.specs.declared.entries.Entry.{Entry};
-ghost use Rattle.group_model.specs.Legal.{ran_out, found_by};
+ghost use Rattle.group_model.specs.Legal.{ran_out, found_by, disk_failed_by};
+ghost use Rattle.console_run.specs.Lines.{IsPlain};
 ghost use Rattle.console_run.specs.Private.Held.{Moves, IsOpened};
 
 use crate::answers::{answer_join, answer_leave};
@@ -175,9 +176,10 @@ impl Group {
 }
 
 fn entry(asked: Asked, answer: Answer) -> Entry
+    requires { IsPlain answer }
     ensures asked { result.asked ≡ asked }
     ensures answer { result.answer ≡ answer }
-    ensures outside { result.outside ≡ record { disk_failed = false; found = found_by answer; place = 0 } }
+    ensures outside { result.outside ≡ record { disk_failed = disk_failed_by answer; found = found_by answer; place = 0 } }
 {
     let outside = Outside {
         disk_failed: false,
@@ -197,11 +199,6 @@ fn found_by(answer: &Answer) -> Option<u32>
 {
     match answer {
         Answer::Opened { group, .. } => Some(group.epoch),
-        Answer::Done
-        | Answer::Queued
-        | Answer::Batched { .. }
-        | Answer::Nothing
-        | Answer::Derived { .. }
-        | Answer::Refused { .. } => None,
+        _ => None,
     }
 }

@@ -13,8 +13,9 @@ use Rattle.group_terms.specs.declared.changes.Change.{Change}
 use Rattle.group_terms.specs.declared.changes.Change.TheVariants.{In, Out}
 use Rattle.group_values.specs.Values.{Kept, Made, batches_made}
 use Rattle.group_model.specs.Present.{Present}
+use Rattle.group_model.specs.Refusals.{why_no_join, why_no_leave}
 use Rattle.group_model.specs.Servers.{GivesRefusal, IsJoin, IsLeave, IsStoring, MayHave, Server}
-use Rattle.group_model.specs.Servers.{coming_batch, in_doubt, why_no_join, why_no_leave, with_batch, with_change}
+use Rattle.group_model.specs.Servers.{coming_batch, in_doubt, with_batch, with_change}
 use Rattle.group_model.specs.declared.entries.Refusal.{Refusal}
 use Rattle.group_records.specs.declared.heads.Head.{Head}
 use Rattle.tree_store.specs.Groups.{HasGroup, IsBatchOf, IsGroup, IsGroupBeforeOrAfter}

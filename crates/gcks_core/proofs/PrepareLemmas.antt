@@ -11,7 +11,8 @@ use Rattle.group_values.specs.Drawing.{blocks_for, nodes_drawn, place_after, val
 use Rattle.group_values.specs.Values.{Kept, Made, batches_made, ids_of}
 use Rattle.group_model.specs.Drawn.{drawn_at}
 use Rattle.group_model.specs.Present.{Present}
-use Rattle.group_model.specs.Servers.{IsPreparation, Server, after_draws, coming_positions, refusal_to_batch, why_no_batch}
+use Rattle.group_model.specs.Refusals.{why_no_batch}
+use Rattle.group_model.specs.Servers.{IsPreparation, Server, after_draws, coming_positions, refusal_to_batch}
 use Rattle.group_model.specs.Stayed.{sequence_at}
 use Rattle.group_model.specs.Steps.{IsStepOf}
 use Rattle.group_model.specs.declared.entries.Counter.TheVariants.{Epoch, Sequence}

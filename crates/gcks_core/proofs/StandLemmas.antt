@@ -4,7 +4,8 @@ use Rattle.gd_edges.specs.declared.draws.Draws.{Ghosts as DrawGhosts}
 use Rattle.group_terms.specs.Names.{Name}
 use Rattle.group_values.specs.Values.{Made, batches_made}
 use Rattle.group_model.specs.Places.{holders_of}
-use Rattle.group_model.specs.Servers.{Server, members_now, refusal_to_join, refusal_to_leave, why_no_join, why_no_leave}
+use Rattle.group_model.specs.Refusals.{why_no_join, why_no_leave}
+use Rattle.group_model.specs.Servers.{Server, members_now, refusal_to_join, refusal_to_leave}
 use Rattle.gcks_core.specs.Private.Cores.{IsGroupOf}
 use Rattle.gcks_core.specs.Stands.{Stands}
 use Rattle.gcks_core.specs.Stored.{AreDue}

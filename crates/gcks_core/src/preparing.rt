@@ -11,7 +11,7 @@ ghost use Rattle.group_values.specs.Values.{KeepsLast, Made, batches_made, ids_o
 ghost use Rattle.group_model.specs.Drawn.{drawn_at};
 ghost use Rattle.group_model.specs.Places.{Fits};
 ghost use Rattle.group_model.specs.Present.{StandsFor};
-ghost use Rattle.group_model.specs.Servers.{why_no_batch};
+ghost use Rattle.group_model.specs.Refusals.{why_no_batch};
 ghost use Rattle.group_model.specs.Stayed.{sequence_at};
 ghost use Rattle.group_model.specs.Steps.{IsStepOf};
 ghost use Rattle.group_model.specs.declared.entries.Refusal.TheVariants.{NoMemory as OutOfMemory};

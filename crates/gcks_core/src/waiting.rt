@@ -1,9 +1,9 @@
 //! Whether a change may wait.
 ghost use Rattle.std.specs.Prelude.{◌≡◌, ◌++◌, [], ◌∷◌, ℕ, false, OnOk, OnErr};
 ghost use Rattle.group_terms.specs.declared.changes.Change.TheVariants.{In, Out};
-ghost use Rattle.group_model.specs.Legal.{leaves_taken};
 ghost use Rattle.group_model.specs.Places.{Fits, is_member};
-ghost use Rattle.group_model.specs.Servers.{GivesRefusal, why_no_join, why_no_leave};
+ghost use Rattle.group_model.specs.Refusals.{leaves_taken, why_no_join, why_no_leave};
+ghost use Rattle.group_model.specs.Servers.{GivesRefusal};
 
 use crate::{MemberName, Queue, Refusal};
 use batch_queue::QueueRefusal;

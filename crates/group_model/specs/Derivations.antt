@@ -10,7 +10,7 @@ use Rattle.group_model.specs.declared.entries.SymReply.{SymReply}
 use Rattle.group_model.specs.declared.entries.PushPair.{PushPair}
 use Rattle.group_model.specs.Replies.{says_of}
 use Rattle.group_model.specs.declared.entries.Answer.{Answer}
-use Rattle.group_model.specs.declared.entries.Answer.TheVariants.{Done, Queued, Batched, Opened, Nothing, Derived, Refused}
+use Rattle.group_model.specs.declared.entries.Answer.TheVariants.{Batched, Opened}
 
 -- a key is at hand after those that came earlier: it is held, or a pair gives it under one of them
 abbrev pub IsAtHand : List KeyName → List Wrap → List KeyName → KeyName → Type 0
@@ -31,13 +31,8 @@ CanDerive have pairs goal = (names : List KeyName) × IsDerivation have pairs na
 
 -- what the replies that an answer sent say
 abbrev pub replies_in : Answer → List SymReply
-replies_in Done = []
-replies_in Queued = []
 replies_in (Batched output) = says_of output.replies
-replies_in (Opened seen resent) = []
-replies_in Nothing = []
-replies_in (Derived can) = []
-replies_in (Refused why) = []
+replies_in answer = []
 
 -- what the replies that a history sent say
 abbrev pub replies_sent : List Entry → List SymReply
@@ -66,13 +61,9 @@ pairs_resent (Some pair) = pair.wraps
 
 -- all that an answer sent: the wraps of a batch, and then what its replies encrypt; or the pushes that an opening sent again
 abbrev pub pairs_in : Answer → List Wrap
-pairs_in Done = []
-pairs_in Queued = []
 pairs_in (Batched output) = output.wraps ++ flat_map reply_pairs (says_of output.replies)
 pairs_in (Opened seen resent) = pairs_resent resent
-pairs_in Nothing = []
-pairs_in (Derived can) = []
-pairs_in (Refused why) = []
+pairs_in answer = []
 
 abbrev pub pairs_sent : List Entry → List Wrap
 pairs_sent entries = flat_map (λ (entry : Entry). pairs_in entry.answer) entries

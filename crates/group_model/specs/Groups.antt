@@ -1,13 +1,15 @@
 -- What the entries of a history have made of the group so far.
-use Rattle.std.specs.Prelude.{ℕ, List, [], ◌∷◌, ◌++◌}
+use Rattle.std.specs.Prelude.{◌≡◌, ◌⊎◌, ℕ, Bool, true, false, List, [], ◌∷◌, ◌++◌, Option, None, Some}
 use Rattle.std.specs.List.{fold}
 use Rattle.group_terms.specs.declared.changes.Change.{Change}
 use Rattle.group_terms.specs.declared.changes.Change.TheVariants.{Out, In}
 use Rattle.group_model.specs.declared.entries.Entry.{Entry}
 use Rattle.group_model.specs.declared.entries.Asked.{Asked}
-use Rattle.group_model.specs.declared.entries.Asked.TheVariants.{Create, Join, Leave, Batch, Derive}
+use Rattle.group_model.specs.declared.entries.Asked.TheVariants.{Create, Begin, Join, Leave, Batch, Halt, Reopen}
 use Rattle.group_model.specs.declared.entries.Answer.{Answer}
-use Rattle.group_model.specs.declared.entries.Answer.TheVariants.{Done, Queued, Batched, Opened, Nothing, Derived, Refused}
+use Rattle.group_model.specs.declared.entries.Answer.TheVariants.{Done, Queued, Batched, Opened, Refused}
+use Rattle.group_model.specs.declared.entries.Refusal.{Refusal}
+use Rattle.group_model.specs.declared.entries.Refusal.TheVariants.{DiskFault}
 use Rattle.group_model.specs.Places.{Holders, Fits, IsValid, holders_of}
 
 -- what an opening reads of a journal: how deep the tree is, and the batches that made its epochs
@@ -15,21 +17,27 @@ pub record Reading : Type 0 where
   pub depth : ℕ
   pub batches : List (List Change)
 
--- the depth of the tree, the batches that made the epochs, the changes asked for since the last of them, in order, and what the
--- openings that are still to come will read
+-- the depth of the tree, and the batches that made the epochs; one that the journal may have or not, since the disk failed; whether the group has to be
+-- opened again; the changes asked for since the last batch, in order; and what the openings that are still to come will read
 pub record Group : Type 0 where
   pub depth : ℕ
   pub batches : List (List Change)
+  pub doubt : Option (List Change)
+  pub need : Bool
   pub queue : List Change
   pub unread : List Reading
 
 -- before it is opened: no leaf but the root, and nothing asked for
 abbrev pub no_group : List Reading → Group
-no_group readings = record { depth = 0; batches = []; queue = []; unread = readings }
+no_group readings = record { depth = 0; batches = []; doubt = None; need = false; queue = []; unread = readings }
 
--- a group that was just made, with a tree of this depth
+-- a group that was just opened, with a tree of this depth and these batches
+abbrev pub opened_group : Group → ℕ → List (List Change) → Group
+opened_group group depth batches = record group { depth = depth; batches = batches; doubt = None; need = false; queue = [] }
+
+-- one that was just made
 abbrev pub new_group : Group → ℕ → Group
-new_group group depth = record group { depth = depth; batches = []; queue = [] }
+new_group group depth = opened_group group depth []
 
 -- who has which leaf at the present epoch
 abbrev pub present_holders : Group → Holders
@@ -51,23 +59,60 @@ next_batches group = group.batches ++ group.queue ∷ []
 abbrev pub with_batch : Group → Group
 with_batch group = record group { batches = next_batches group; queue = [] }
 
+-- the disk failed while they were stored: they stay pending, and their batch is in doubt
+abbrev pub in_doubt : Group → Group
+in_doubt group = record group { doubt = Some group.queue; need = true }
+
+-- it has to be opened again
+abbrev pub halted : Group → Group
+halted group = record group { need = true }
+
+-- the batches that its journal may have
+abbrev pub MayHave : Group → List (List Change) → Type 0
+MayHave group list = (list ≡ group.batches) ⊎ ((batch : List Change) × (group.doubt ≡ Some batch) × (list ≡ group.batches ++ batch ∷ []))
+
+-- it was opened with the first of these readings; without one it stays as it is
+abbrev pub read_from : Group → List Reading → Group
+read_from group [] = group
+read_from group (reading ∷ later) = record (opened_group group reading.depth reading.batches) { unread = later }
+
 -- the change that a request asks for, where it asks for one
 abbrev pub changes_asked : Asked → List Change
-changes_asked (Create depth) = []
 changes_asked (Join m) = In m ∷ []
 changes_asked (Leave m) = Out m ∷ []
-changes_asked Batch = []
-changes_asked (Derive epoch members) = []
+changes_asked asked = []
 
--- What was asked for and granted changes the group; a refusal, and an answer that says nothing, do not.
+-- a request that was granted
+abbrev pub after_grant : Group → Asked → Group
+after_grant group Halt = halted group
+after_grant group asked = with_changes group (changes_asked asked)
+
+-- an opening: a group was made, or read from its journal
+abbrev pub after_opening : Group → Asked → Group
+after_opening group (Create depth) = new_group group depth
+after_opening group Begin = read_from group group.unread
+after_opening group Reopen = read_from group group.unread
+after_opening group asked = group
+
+-- a batch that was refused is in doubt where the disk failed
+abbrev pub after_refused_batch : Group → Refusal → Group
+after_refused_batch group DiskFault = in_doubt group
+after_refused_batch group why = group
+
+-- a refusal: where it is that to open the group again, that still has to be done
+abbrev pub after_refusal : Group → Asked → Refusal → Group
+after_refusal group Batch why = after_refused_batch group why
+after_refusal group Reopen why = halted group
+after_refusal group asked why = group
+
+-- what a request and its answer make of the group; any other answer says something, and changes nothing
 abbrev pub after_answer : Group → Asked → Answer → Group
-after_answer group asked Done = with_changes group (changes_asked asked)
+after_answer group asked Done = after_grant group asked
 after_answer group asked Queued = with_changes group (changes_asked asked)
 after_answer group asked (Batched output) = with_batch group
-after_answer group asked (Opened seen resent) = new_group group seen.depth
-after_answer group asked Nothing = group
-after_answer group asked (Derived can) = group
-after_answer group asked (Refused why) = group
+after_answer group asked (Opened seen resent) = after_opening group asked
+after_answer group asked (Refused why) = after_refusal group asked why
+after_answer group asked answer = group
 
 abbrev pub after_entry : Group → Entry → Group
 after_entry group entry = after_answer group entry.asked entry.answer

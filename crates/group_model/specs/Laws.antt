@@ -1,14 +1,13 @@
 -- What follows of the definitions, said of every list of batches and of every history. The functions of `laws.rt` prove each of these.
-use Rattle.std.specs.Prelude.{◌≡◌, ℕ, ◌+◌, ◌*◌, ◌^◌, ◌<◌, ◌≤◌, ◌&&◌, ◌||◌, not, true, None, Some, if◌then◌else◌}
+use Rattle.std.specs.Prelude.{◌≡◌, ℕ, ◌+◌, ◌*◌, ◌^◌, ◌<◌, ◌≤◌, ◌&&◌, ◌||◌, not, true, false, None, Some, if◌then◌else◌}
 use Rattle.std.specs.Prelude.{List, [], ◌∷◌, ◌++◌, length, take, slice_index_or}
 use Rattle.std.specs.List.{list_any}
-use Rattle.group_terms.specs.Changes.{leavers, joiners}
+use Rattle.group_terms.specs.Changes.{is_pending, leavers, joiners}
 use Rattle.group_terms.specs.Names.{Name, same_name}
 use Rattle.group_terms.specs.declared.changes.Change.{Change}
 use Rattle.group_terms.specs.declared.changes.Change.TheVariants.{Out, In}
 use Rattle.group_values.specs.Values.{Rises}
 use Rattle.group_model.specs.declared.entries.Entry.{Entry}
-use Rattle.group_model.specs.declared.entries.Answer.TheVariants.{Done, Queued}
 use Rattle.group_model.specs.Places.{Holders, is_held_by, is_member, member_count, place_in}
 use Rattle.group_model.specs.Places.{holders_of, holders_at, Fits, IsValid}
 use Rattle.group_model.specs.Drawn.{drawn_at}
@@ -16,7 +15,8 @@ use Rattle.group_model.specs.Fresh.{last_change}
 use Rattle.group_model.specs.Stayed.{has_stayed, sequence_at}
 use Rattle.group_model.specs.Wraps.{wraps_at, is_nil}
 use Rattle.group_model.specs.Groups.{Reading, Group, no_group, after_entry, present_group, IsSound}
-use Rattle.group_model.specs.Legal.{answer_to_join, answer_to_leave, IsStep, IsLegalHistory}
+use Rattle.group_model.specs.Legal.{IsStep, IsLegalHistory}
+use Rattle.group_model.specs.Refusals.{leaves_taken}
 
 -- Each leaf of the tree has its place among the holders, after every list.
 abbrev pub EachLeafHasItsPlace : Type 0
@@ -90,17 +90,18 @@ LeaversAreFew = (holders : Holders) (batch : List Change) → Fits holders batch
 abbrev pub ChangesAreFew : Type 0
 ChangesAreFew = (holders : Holders) (batch : List Change) → Fits holders batch → length batch ≤ 2 * length holders
 
--- A join that is granted still fits with what waits.
+-- Who is no member may come in beside what waits, where no change of it waits and a leaf is left.
 abbrev pub GrantedJoinsFit : Type 0
 GrantedJoinsFit =
     (depth : ℕ) (holders : Holders) (queue : List Change) (m : Name) → length holders ≡ 2 ^ depth → Fits holders queue
-    → answer_to_join depth holders queue m ≡ Queued → Fits holders (queue ++ In m ∷ [])
+    → is_member holders m ≡ false → is_pending queue m ≡ false → (leaves_taken depth holders queue ≡ 2 ^ depth → ⊥)
+    → Fits holders (queue ++ In m ∷ [])
 
--- So does a leave.
+-- A member may go out beside what waits, where no change of it waits.
 abbrev pub GrantedLeavesFit : Type 0
 GrantedLeavesFit =
-    (depth : ℕ) (holders : Holders) (queue : List Change) (m : Name) → Fits holders queue
-    → answer_to_leave depth holders queue m ≡ Done → Fits holders (queue ++ Out m ∷ [])
+    (holders : Holders) (queue : List Change) (m : Name) → Fits holders queue → is_member holders m ≡ true → is_pending queue m ≡ false
+    → Fits holders (queue ++ Out m ∷ [])
 
 -- Before it is opened a group is sound.
 abbrev pub SoundAtFirst : Type 0

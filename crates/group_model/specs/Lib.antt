@@ -5,10 +5,13 @@ pub mod Groups
 pub mod Histories
 pub mod Laws
 pub mod Legal
+pub mod Openings
 pub mod Places
 pub mod Present
 pub mod Private
+pub mod Refusals
 pub mod Replies
+pub mod Seen
 pub mod Servers
 pub mod Stayed
 pub mod Steps

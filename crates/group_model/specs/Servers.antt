@@ -1,18 +1,16 @@
 -- The key server of a group between two requests, and the step that each request takes. What a step does not name stays as it is.
-use Rattle.std.specs.Prelude.{◌≡◌, ◌⊎◌, ℕ, ◌+◌, ◌^◌, ◌==◌, ◌≤◌, nat_le, nat_lt, Bool, true, false, List, [], ◌∷◌, ◌++◌, length, Option, None, Some, Result, Ok, Err, if◌then◌else◌}
+use Rattle.std.specs.Prelude.{◌≡◌, ◌⊎◌, ℕ, ◌+◌, ◌≤◌, Bool, true, false, List, [], ◌∷◌, ◌++◌, length, Option, None, Some, Result, Ok, Err}
 use Rattle.group_terms.specs.Names.{Name}
-use Rattle.group_terms.specs.Changes.{is_pending}
 use Rattle.group_terms.specs.declared.changes.Change.{Change}
 use Rattle.group_terms.specs.declared.changes.Change.TheVariants.{In, Out}
 use Rattle.group_terms.specs.declared.values.BatchValues.{BatchValues}
 use Rattle.group_values.specs.Drawing.{blocks_for, place_after, values_drawn}
 use Rattle.group_values.specs.Values.{Made, batches_made}
-use Rattle.group_model.specs.declared.entries.Counter.TheVariants.{Epoch, Sequence}
 use Rattle.group_model.specs.declared.entries.Refusal.{Refusal}
-use Rattle.group_model.specs.declared.entries.Refusal.TheVariants.{NeedsReopen, NotMember, AlreadyPending, TreeFull, BatchFull, Spent, DiskFault, NoMemory}
+use Rattle.group_model.specs.declared.entries.Refusal.TheVariants.{DiskFault, NoMemory}
 use Rattle.group_model.specs.Drawn.{drawn_at}
-use Rattle.group_model.specs.Legal.{leaves_taken}
-use Rattle.group_model.specs.Places.{Holders, holders_of, is_member}
+use Rattle.group_model.specs.Places.{Holders, holders_of}
+use Rattle.group_model.specs.Refusals.{why_no_join, why_no_leave, why_no_batch}
 use Rattle.group_model.specs.Stayed.{sequence_at}
 
 -- how deep its tree is, and how far epochs and sequence numbers may go; the batches that made its epochs, with the values of their keys; one that the
@@ -29,33 +27,6 @@ pub record Server : Type 0 where
 -- one that was just opened, with these batches
 abbrev pub opened_server : ℕ → ℕ → List Made → ℕ → Server
 opened_server depth limit list place = record { depth = depth; limit = limit; list = list; doubt = None; need = false; queue = []; place = place }
-
--- Why a change may not wait, of a server that has to be opened again or not, with a tree of this depth, these holders of leaves and these changes that wait: the
--- first reason that holds.
-module _ (need : Bool) (depth : ℕ) (holders : Holders) (queue : List Change) where
-  -- who comes in is no member
-  abbrev pub why_no_join : Name → Option Refusal
-  why_no_join m =
-      if need then Some NeedsReopen
-      else (if is_pending queue m then Some AlreadyPending
-      else (if leaves_taken depth holders queue == 2 ^ depth then Some (TreeFull (leaves_taken depth holders queue))
-      else (if nat_lt (length queue) 32 then None else Some (BatchFull (length queue)))))
-
-  abbrev pub why_no_leave : Name → Option Refusal
-  why_no_leave m =
-      if need then Some NeedsReopen
-      else (if is_member holders m
-      then (if is_pending queue m then Some AlreadyPending
-      else (if nat_lt (length queue) 32 then None else Some (BatchFull (length queue))))
-      else Some NotMember)
-
--- why no batch is made: the epoch is looked at before the number that the last push would have
-abbrev pub why_no_batch : Bool → ℕ → ℕ → ℕ → ℕ → Option Refusal
-why_no_batch need limit epoch sequence coming =
-    if need then Some NeedsReopen
-    else (if nat_lt epoch limit
-    then (if nat_le coming limit then None else Some (Spent Sequence sequence))
-    else Some (Spent Epoch epoch))
 
 module _ (server : Server) where
   abbrev pub present_batches : List (List Change)

@@ -1,7 +1,7 @@
 ghost use Rattle.std.specs.Prelude.{◌≡◌};
 ghost use Rattle.group_model.specs.declared.entries.Refusal.TheVariants as refusals;
 
-use crate::{KeyName, List, LkhId, MemberName, MemberNames, NoMemory, Octets, Wrap};
+use crate::{KeyName, List, LkhId, MemberName, MemberNames, NoMemory, Octets, PushRefusal, Wrap};
 
 /// One event of a history: what was asked of the key server, what the outside did meanwhile, and what was answered.
 #[derive(Debug, Drop)]
@@ -16,12 +16,28 @@ pub struct Entry {
 pub enum Asked {
     /// To make a group with a tree of this depth.
     Create { depth: u8 },
+    /// To open the group that the disk has.
+    Begin,
     /// To let a name in with the next batch.
     Join { member: MemberName },
     /// To take a member out with the next batch.
     Leave { member: MemberName },
     /// To close the batch: the pending changes make the next epoch.
     Batch,
+    /// To answer nothing until it is opened again.
+    Halt,
+    /// To open it again, from the journal that it has.
+    Reopen,
+    /// Who has which leaf.
+    Show,
+    /// Not of the server: a member is given the keys of its reply.
+    Keep { member: MemberName },
+    /// Not of the server: a member is given the last push of this number that was sent in this run.
+    Deliver { member: MemberName, sequence: u32 },
+    /// Each present member is given each push that was sent in this run and is new to it.
+    DeliverAll,
+    /// Not of the server: which traffic key a member has.
+    Key { member: MemberName },
     /// Whether these members derive the traffic key of an epoch from what they hold and what was sent.
     Derive { epoch: u32, members: MemberNames },
 }
@@ -50,6 +66,38 @@ pub enum Answer {
     Opened {
         group: GroupSeen,
         resent: Option<PushPair>,
+    },
+    /// The group as it is.
+    Shown {
+        group: GroupSeen,
+    },
+    /// The member's store has the keys of this epoch.
+    Kept {
+        epoch: u32,
+    },
+    /// The reply is older than what the member's store has.
+    Older {
+        last: u32,
+        got: u32,
+    },
+    /// The member's store is at the root of this epoch.
+    TookRoot {
+        epoch: u32,
+    },
+    /// The member's store has the traffic key of this epoch.
+    TookTraffic {
+        epoch: u32,
+    },
+    /// The member's store refuses the push.
+    PushRefused {
+        why: PushRefusal,
+    },
+    /// The traffic key of a member's store: its epoch, the number of the last push that the store accepted, and a fingerprint, the first 8 octets of the
+    /// SHA-256 of the cipher key and the integrity key.
+    KeyIs {
+        epoch: u32,
+        sequence: u32,
+        print: [u8; 8],
     },
     /// The request changes nothing.
     Nothing,

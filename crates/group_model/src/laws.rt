@@ -57,7 +57,7 @@ pub fn a_batch_that_fits_has_few_changes()
     ensures changes { ChangesAreFew }
 {}
 
-/// A change that is granted still fits with what waits.
+/// A change that may wait still fits with what waits.
 pub fn granted_changes_fit()
     ensures joins { GrantedJoinsFit }
     ensures leaves { GrantedLeavesFit }

@@ -65,3 +65,9 @@ derive_pieces out number last names =
     ∙ append_assoc out (codes "derive ") (number ++ (behind ++ end))
     ∙ ap (λ rest. out ++ (codes "derive " ++ rest)) (ap (λ rest. number ++ rest) (sym (append_assoc behind (32 ∷ last) (10 ∷ []))) ∙ sym (append_assoc number (behind ++ 32 ∷ last) (10 ∷ [])))
     ∙ ap (λ rest. out ++ (codes "derive " ++ (rest ++ 10 ∷ []))) (sym (joined number last names))
+
+-- the line of a push that is given, piece by piece
+pub delivery_pieces : (out m push number end : List ℕ) → (out ++ (m ++ (push ++ number))) ++ end ≡ out ++ (m ++ (push ++ (number ++ end)))
+delivery_pieces out m push number end =
+    append_assoc out (m ++ (push ++ number)) end
+    ∙ ap (λ rest. out ++ rest) (append_assoc m (push ++ number) end ∙ ap (λ rest. m ++ rest) (append_assoc push number end))

@@ -1,5 +1,5 @@
 -- The lines that report what the key server answered, and the line that ends a run.
-use Rattle.std.specs.Prelude.{ℕ, ◌==◌, Bool, List, [], ◌∷◌, ◌++◌, if◌then◌else◌, codes}
+use Rattle.std.specs.Prelude.{ℕ, ◌+◌, ◌==◌, Bool, List, [], ◌∷◌, ◌++◌, length, Option, None, Some, if◌then◌else◌, codes}
 use Rattle.std.specs.List.{flat_map, join_with_byte}
 use Rattle.std.specs.Fmt.{decimal}
 use Rattle.group_terms.specs.Names.{Name}
@@ -7,15 +7,21 @@ use Rattle.group_terms.specs.declared.keys.KeyName.{KeyName}
 use Rattle.group_terms.specs.declared.keys.KeyName.TheVariants.{Node, Traffic, Phase}
 use Rattle.group_terms.specs.declared.keys.Wrap.{Wrap}
 use Rattle.group_model.specs.declared.entries.Entry.{Entry}
+use Rattle.group_model.specs.declared.entries.GroupSeen.{GroupSeen}
 use Rattle.group_model.specs.declared.entries.Output.{Output}
+use Rattle.group_model.specs.declared.entries.PushPair.{PushPair}
+use Rattle.group_model.specs.declared.entries.Standing.{Standing}
 use Rattle.group_model.specs.declared.entries.Asked.{Asked}
-use Rattle.group_model.specs.declared.entries.Asked.TheVariants.{Create, Join, Leave, Batch, Derive}
+use Rattle.group_model.specs.declared.entries.Asked.TheVariants.{Create, Begin, Join, Leave, Batch, Halt, Reopen, Show, Keep, Deliver, DeliverAll, Key, Derive}
 use Rattle.group_model.specs.declared.entries.Answer.{Answer}
-use Rattle.group_model.specs.declared.entries.Answer.TheVariants.{Opened, Queued, Done, Nothing, Batched, Derived, Refused}
+use Rattle.group_model.specs.declared.entries.Answer.TheVariants.{Opened, Queued, Done, Nothing, Batched, Shown, Kept, Older, TookRoot, TookTraffic, PushRefused, KeyIs, Derived, Refused}
 use Rattle.group_model.specs.declared.entries.Refusal.{Refusal}
 use Rattle.group_model.specs.declared.entries.Refusal.TheVariants.{NeedsReopen, NotMember, AlreadyPending, TreeFull, BatchFull, Spent, DiskFault, NotAJournal, NoMemory}
 use Rattle.group_model.specs.declared.entries.Counter.{Counter}
 use Rattle.group_model.specs.declared.entries.Counter.TheVariants.{Epoch, Sequence}
+use Rattle.group_terms.specs.declared.pushes.PushRefusal.{PushRefusal}
+use Rattle.group_terms.specs.declared.pushes.PushRefusal.TheVariants.{OtherSpi, Malformed, BadSignature, Stale, NoPath}
+use Rattle.hex.specs.Hex.{encode_lower}
 
 -- a line of these words: a space between each two, and octet 10 at the end
 abbrev pub line_with : List (List ℕ) → List ℕ
@@ -52,52 +58,128 @@ key_text (Phase member) = codes "phase." ++ member
 abbrev pub wrap_line : Wrap → List ℕ
 wrap_line wrap = line_with (codes "wrap" ∷ key_text wrap.by ∷ key_text wrap.gives ∷ [])
 
--- an epoch, the number of the last push and the members there are
+-- an epoch, the number of the last push, and how many members there are
+abbrev pub counts_with : ℕ → ℕ → ℕ → List (List ℕ)
+counts_with epoch sequence members =
+    codes "epoch" ∷ decimal epoch ∷
+    codes "sequence" ∷ decimal sequence ∷
+    codes "members" ∷ decimal members ∷ []
+
+-- those of a batch
 abbrev pub epoch_line : Output → List ℕ
-epoch_line output = line_with (
-    codes "epoch" ∷ decimal output.epoch ∷
-    codes "sequence" ∷ decimal output.sequence ∷
-    codes "members" ∷ decimal output.members ∷ [])
+epoch_line output = line_with (counts_with output.epoch output.sequence output.members)
+
+-- those of a group as it is seen
+abbrev pub seen_counts : GroupSeen → List (List ℕ)
+seen_counts group = counts_with group.epoch group.sequence (length group.members)
+
+-- a push: its number, how many octets it has, and these in hex
+abbrev pub push_line : ℕ → List ℕ → List ℕ
+push_line sequence octets = line_with (codes "push" ∷ decimal sequence ∷ decimal (length octets) ∷ encode_lower octets ∷ [])
+
+-- the two pushes of a pair, where there is one
+abbrev pub pair_lines : Option PushPair → List ℕ
+pair_lines None = []
+pair_lines (Some pair) = push_line pair.first pair.membership ++ push_line (pair.first + 1) pair.traffic
+
+-- a member by its leaf
+abbrev pub leaf_line : Standing → List ℕ
+leaf_line standing = line_with (codes "leaf" ∷ decimal standing.leaf ∷ standing.member ∷ [])
+
+-- the reason for which a member takes no push
+abbrev pub push_why_text : PushRefusal → List ℕ
+push_why_text (OtherSpi got kept) = codes "other-spi"
+push_why_text (Malformed at) = codes "malformed"
+push_why_text BadSignature = codes "bad-signature"
+push_why_text (Stale last got) = codes "stale " ++ (decimal last ++ 32 ∷ decimal got)
+push_why_text (NoPath leaf) = codes "no-path " ++ decimal leaf
+
+-- ---- the lines of each request, by its answer; none where a request cannot have the answer
 
 -- the group was made
 abbrev pub create_text : ℕ → Answer → List ℕ
 create_text depth (Opened group resent) = line_with (codes "new" ∷ codes "depth" ∷ decimal depth ∷ [])
 create_text depth (Refused why) = refusal_line (codes "new") why
-create_text depth Done = []
-create_text depth Queued = []
-create_text depth (Batched output) = []
-create_text depth Nothing = []
-create_text depth (Derived can) = []
+create_text depth answer = []
+
+-- what an opening found
+abbrev pub found_line : GroupSeen → List ℕ
+found_line group = line_with (codes "open" ∷ codes "depth" ∷ decimal group.depth ∷ seen_counts group)
+
+abbrev pub found_again_line : GroupSeen → List ℕ
+found_again_line group = line_with (codes "reopened" ∷ seen_counts group)
+
+-- how a group is
+abbrev pub group_line : GroupSeen → List ℕ
+group_line group = line_with (codes "group" ∷ seen_counts group)
+
+-- it was opened, and the last pair was sent again
+abbrev pub begin_text : Answer → List ℕ
+begin_text (Opened group resent) = found_line group ++ pair_lines resent
+begin_text (Refused why) = refusal_line (codes "open") why
+begin_text answer = []
 
 -- the name waits for the next batch, or is a member already
 abbrev pub join_text : Name → Answer → List ℕ
 join_text m Queued = line_with (m ∷ codes "queued" ∷ [])
 join_text m Nothing = line_with (m ∷ codes "nothing" ∷ [])
 join_text m (Refused why) = refusal_line m why
-join_text m Done = []
-join_text m (Batched output) = []
-join_text m (Opened group resent) = []
-join_text m (Derived can) = []
+join_text m answer = []
 
 -- the member goes out with the next batch
 abbrev pub leave_text : Name → Answer → List ℕ
 leave_text m Done = line_with (m ∷ codes "leaving" ∷ [])
 leave_text m (Refused why) = refusal_line m why
-leave_text m Queued = []
-leave_text m (Batched output) = []
-leave_text m (Opened group resent) = []
-leave_text m Nothing = []
-leave_text m (Derived can) = []
+leave_text m answer = []
 
--- what the batch made, and then each of its wraps in order
+-- what the batch made, then each of its wraps in order, and the pushes that were made of them
 abbrev pub batch_text : Answer → List ℕ
-batch_text (Batched output) = epoch_line output ++ flat_map wrap_line output.wraps
+batch_text (Batched output) = epoch_line output ++ (flat_map wrap_line output.wraps ++ pair_lines output.pushes)
 batch_text (Refused why) = refusal_line (codes "batch") why
-batch_text Done = []
-batch_text Queued = []
-batch_text (Opened group resent) = []
-batch_text Nothing = []
-batch_text (Derived can) = []
+batch_text answer = []
+
+abbrev pub halt_text : Answer → List ℕ
+halt_text Done = line_with (codes "halted" ∷ [])
+halt_text answer = []
+
+-- it was opened again, and the last pair was sent again
+abbrev pub reopen_text : Answer → List ℕ
+reopen_text (Opened group resent) = found_again_line group ++ pair_lines resent
+reopen_text (Refused why) = refusal_line (codes "reopen") why
+reopen_text answer = []
+
+-- the group, and each member by rising leaf
+abbrev pub show_text : Answer → List ℕ
+show_text (Shown group) = group_line group ++ flat_map leaf_line group.members
+show_text (Refused why) = refusal_line (codes "show") why
+show_text answer = []
+
+-- the member has the keys of an epoch, or had later ones
+abbrev pub keep_text : Name → Answer → List ℕ
+keep_text m (Kept epoch) = line_with (m ∷ codes "keyed" ∷ decimal epoch ∷ [])
+keep_text m (Older last got) = line_with (m ∷ codes "older" ∷ decimal last ∷ decimal got ∷ [])
+keep_text m answer = []
+
+-- what became of the push of this number
+abbrev pub delivery_line : Name → ℕ → List (List ℕ) → List ℕ
+delivery_line m sequence words = m ++ (codes " push " ++ (decimal sequence ++ 32 ∷ line_with words))
+
+abbrev pub deliver_text : Name → ℕ → Answer → List ℕ
+deliver_text m sequence (TookRoot epoch) = delivery_line m sequence (codes "taken" ∷ codes "root" ∷ decimal epoch ∷ [])
+deliver_text m sequence (TookTraffic epoch) = delivery_line m sequence (codes "taken" ∷ codes "traffic" ∷ decimal epoch ∷ [])
+deliver_text m sequence (PushRefused why) = delivery_line m sequence (codes "refused" ∷ push_why_text why ∷ [])
+deliver_text m sequence Nothing = delivery_line m sequence (codes "nothing" ∷ [])
+deliver_text m sequence answer = []
+
+abbrev pub deliver_all_text : Answer → List ℕ
+deliver_all_text (Refused why) = refusal_line (codes "deliver-all") why
+deliver_all_text answer = []
+
+-- the traffic key that a member has, by its epoch, the number of the last push it took, and a fingerprint in hex
+abbrev pub fingerprint_text : Name → Answer → List ℕ
+fingerprint_text m (KeyIs epoch sequence print) = line_with (m ∷ codes "key" ∷ decimal epoch ∷ codes "sequence" ∷ decimal sequence ∷ encode_lower print ∷ [])
+fingerprint_text m Nothing = line_with (m ∷ codes "nothing" ∷ [])
+fingerprint_text m answer = []
 
 abbrev pub derived_word : Bool → List ℕ
 derived_word derived = if derived then codes "yes" else codes "none"
@@ -105,19 +187,22 @@ derived_word derived = if derived then codes "yes" else codes "none"
 -- of which epoch, who, and whether they derive its traffic key
 abbrev pub derive_text : ℕ → List Name → Answer → List ℕ
 derive_text epoch members (Derived derived) = line_with (codes "derive" ∷ decimal epoch ∷ (members ++ derived_word derived ∷ []))
-derive_text epoch members Done = []
-derive_text epoch members Queued = []
-derive_text epoch members (Batched output) = []
-derive_text epoch members (Opened group resent) = []
-derive_text epoch members Nothing = []
-derive_text epoch members (Refused why) = []
+derive_text epoch members answer = []
 
 -- what is reported of an answer, by what was asked
 abbrev pub answer_text : Asked → Answer → List ℕ
 answer_text (Create depth) answer = create_text depth answer
+answer_text Begin answer = begin_text answer
 answer_text (Join m) answer = join_text m answer
 answer_text (Leave m) answer = leave_text m answer
 answer_text Batch answer = batch_text answer
+answer_text Halt answer = halt_text answer
+answer_text Reopen answer = reopen_text answer
+answer_text Show answer = show_text answer
+answer_text (Keep m) answer = keep_text m answer
+answer_text (Deliver m sequence) answer = deliver_text m sequence answer
+answer_text DeliverAll answer = deliver_all_text answer
+answer_text (Key m) answer = fingerprint_text m answer
 answer_text (Derive epoch members) answer = derive_text epoch members answer
 
 -- what is reported of an entry; where its answer is none that the request can have, no line

@@ -6,12 +6,20 @@ pub use lines::{Line, MOST_LINE_OCTETS, read_line};
 pub use numbers::read_decimal;
 pub use reports::report_entry;
 
+mod changes;
+mod derivations;
 mod ends;
 mod lines;
 mod members;
 mod numbers;
+mod openings;
+mod pushes;
 mod refusals;
+#[cfg(test)]
+mod report_tests;
 mod reports;
+mod seen;
+mod stores;
 #[cfg(test)]
 mod tests;
 mod words;

@@ -1,10 +1,10 @@
 -- What a history tells of who derives which traffic key.
-use Rattle.std.proofs.Common.{◌≡◌, ℕ, Bool, true, false, List, [], ◌∷◌, ◌++◌, sym, ap, ◌∙◌, subst, append_assoc, ◌⊎◌, inl, inr}
+use Rattle.std.proofs.Common.{◌≡◌, ℕ, Bool, true, false, List, [], ◌∷◌, ◌++◌, sym, refl, ap, ◌∙◌, subst, append_assoc, inl, inr}
 use Rattle.std.proofs.lemmas.List.{append-nil}
 use Rattle.group_terms.specs.Names.{Name}
 use Rattle.group_terms.specs.declared.keys.KeyName.TheVariants.{Traffic}
 use Rattle.group_model.specs.Groups.{Reading, Group, no_group, after_entry, group_after, present_group, depth_after, batches_after}
-use Rattle.group_model.specs.Legal.{IsDue, IsOutOfMemory, IsStep, AreSteps, IsLegalHistory}
+use Rattle.group_model.specs.Legal.{IsDue, IsStep, AreSteps, IsLegalHistory, BeginsWithOpening}
 use Rattle.group_model.specs.Derivations.{CanDerive, held_names, pairs_sent}
 use Rattle.group_model.specs.declared.entries.Entry.{Entry}
 use Rattle.group_model.specs.declared.entries.Asked.TheVariants.{Derive}
@@ -41,19 +41,20 @@ module _ (laws : Laws) (ways : Ways) (readings : List Reading) where
   no_others_from entries legal epoch coalition none h =
       no_others laws ways (depth_after readings entries) (batches_after readings entries) epoch coalition none (ever entries coalition epoch legal h)
 
+  begins_before : (entry : Entry) (before rest : List Entry) → BeginsWithOpening (entry ∷ (before ++ rest)) → BeginsWithOpening (entry ∷ before)
+  begins_before entry [] rest h = (h.0, inl refl)
+  begins_before entry (next ∷ before) rest h = (h.0, elim h.1 [ inl none ↦ absurd (cc none) | inr opened ↦ inr opened ])
+
   -- a history up to a place is one
   legal_before : (before rest : List Entry) → IsLegalHistory readings (before ++ rest) → IsLegalHistory readings before
   legal_before [] rest legal = record { begins = tt; steps = tt }
-  legal_before (entry ∷ before) rest legal = record { begins = legal.begins; steps = (AreSteps-parts (no_group readings) [] (entry ∷ before) rest legal.steps).0 }
+  legal_before (entry ∷ before) rest legal = record { begins = begins_before entry before rest legal.begins; steps = (AreSteps-parts (no_group readings) [] (entry ∷ before) rest legal.steps).0 }
 
   said_yes : (before : List Entry) (entry : Entry) (epoch : ℕ) (names : List Name) → IsLegalHistory readings before → IsStep (present_group readings before) before entry → entry.asked ≡ Derive epoch names → entry.answer ≡ Derived true → HasMember (depth_after readings before) (batches_after readings before) names epoch
-  said_yes before entry epoch names legal step asked answer = elim (subst (λ asked. IsDue (present_group readings before) before asked entry.answer ⊎ IsOutOfMemory asked entry.answer) asked step.answered) [
-    | inr short ↦ absurd short
-    | inl due ↦ (
-        let yes : due.0 ≡ true = ap is_yes (sym due.1 ∙ answer) in
-        all_in_reach laws ways (depth_after readings before) (batches_after readings before) names (Traffic epoch) (ever before names epoch legal (due.2.0 yes))
-        )
-  ]
+  said_yes before entry epoch names legal step asked answer =
+      let due = subst (λ asked. IsDue (present_group readings before) before asked entry.answer) asked step.answered in
+      let yes : due.0 ≡ true = ap is_yes (sym due.1 ∙ answer) in
+      all_in_reach laws ways (depth_after readings before) (batches_after readings before) names (Traffic epoch) (ever before names epoch legal (due.2.0 yes))
 
   pub yes_is_of_members : (entries : List Entry) → IsLegalHistory readings entries → YesIsOfMembers readings entries
   yes_is_of_members entries history before later entry epoch names cut asked answer =

@@ -16,7 +16,7 @@ use Rattle.group_terms.specs.declared.keys.Wrap.{Wrap}
 use Rattle.group_model.specs.declared.entries.Entry.{Entry}
 use Rattle.group_model.specs.declared.entries.SymReply.{SymReply}
 use Rattle.group_model.specs.declared.entries.Answer.{Answer}
-use Rattle.group_model.specs.declared.entries.Answer.TheVariants.{Done, Queued, Batched, Opened, Nothing, Derived, Refused}
+use Rattle.group_model.specs.declared.entries.Answer.TheVariants.{Batched}
 use Rattle.group_model.specs.Derivations.{CanDerive, replies_in, held_names, names_to, reply_pairs, pairs_in, pairs_sent}
 use Rattle.group_model.specs.Replies.{says_of}
 use Rattle.sym_closure.specs.Firsts.{AreAmong, HasSame}
@@ -78,14 +78,9 @@ module _ (history : List Entry) (start place : ℕ) (entry : Entry) (low : place
 -- the keys of a reply were also sent, under the phase 1 key of its member
 replied_pair : (answer : Answer) (reply : SymReply) (pair : Wrap) → Contains (replies_in answer) reply → Contains (reply_pairs reply) pair
     → Contains (pairs_in answer) pair
-replied_pair Done reply pair c k = absurd (no_item reply c)
-replied_pair Queued reply pair c k = absurd (no_item reply c)
 replied_pair (Batched output) reply pair c k = Contains-append_right output.wraps (flat_map reply_pairs (says_of output.replies)) pair
     (Contains-flat_map reply_pairs (says_of output.replies) reply pair c k)
-replied_pair (Opened seen resent) reply pair c k = absurd (no_item reply c)
-replied_pair Nothing reply pair c k = absurd (no_item reply c)
-replied_pair (Derived can) reply pair c k = absurd (no_item reply c)
-replied_pair (Refused why) reply pair c k = absurd (no_item reply c)
+replied_pair answer reply pair c k = absurd (no_item reply c)
 
 -- so what members derive from all that they hold, they derive from their phase 1 keys
 module _ (entries : List Entry) (members : List Name) where

@@ -1,6 +1,5 @@
 -- What a member derives: batch after batch the keys of its path, and with them the traffic key.
-use Rattle.std.proofs.Common.{◌≡◌, ℕ, zero, suc, ◌-◌, ◌<◌, ◌≤◌, Bool, true, false, cond, ltb, leb, ◌&&◌, List, [], ◌∷◌, ◌++◌, Option, Some, None, length, map}
-use Rattle.std.proofs.Common.{sym, refl, ap, ◌∙◌, subst, arith, inl, inr, add-one}
+use Rattle.std.proofs.Common.{◌≡◌, ℕ, zero, suc, ◌-◌, ◌<◌, ◌≤◌, Bool, true, false, cond, ltb, leb, ◌&&◌, List, [], ◌∷◌, ◌++◌, Option, Some, None, length, map, sym, refl, ap, ◌∙◌, subst, arith, inl, inr, add-one}
 use Rattle.std.specs.Prelude.{Contains}
 use Rattle.std.specs.List.{filter}
 use Rattle.std.specs.Option.{option_map, unwrap_or}
@@ -155,8 +154,7 @@ module _ (ways : Ways) (depth : ℕ) (batches : List (List Change)) (m : Name) w
         path_more (suc k) up = elim (cases_Bool (fresh at (suc at) (halved (suc k) leaf))) [
           | inl is ↦ renewed (suc k) is
               (CanDerive-by have pairs (step_up (suc at) leaf k)
-              (since at (step_up (suc at) leaf k) later earlier
-              (node_wrap at member_before member_now (step_up (suc at) leaf k) (given k (omega (arith, up)) is)))
+              (since at (step_up (suc at) leaf k) later earlier (node_wrap at member_before member_now (step_up (suc at) leaf k) (given k (omega (arith, up)) is)))
               (path_more k (omega (arith, up))))
           | inr same ↦ stale (suc k) up same
         ]

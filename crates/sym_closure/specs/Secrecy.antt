@@ -1,6 +1,7 @@
 -- Who can derive which key (forward and backward access control, RFC 6407 section 7.4), and what a history has sent.
-use Rattle.std.specs.Prelude.{◌≡◌, ℕ, ◌+◌, ◌^◌, ◌<◌, ◌≤◌, true, false, List, ◌∷◌, ◌++◌, length, Contains, None, Some, slice_index_or}
+use Rattle.std.specs.Prelude.{◌≡◌, ℕ, ◌+◌, ◌^◌, ◌<◌, ◌≤◌, true, false, List, [], ◌∷◌, ◌++◌, length, Contains, None, Some, slice_index_or}
 use Rattle.std.specs.List.{list_any}
+use Rattle.std.specs.Option.{unwrap_or}
 use Rattle.group_terms.specs.Names.{Name}
 use Rattle.group_terms.specs.Positions.{is_below}
 use Rattle.group_terms.specs.declared.changes.Change.{Change}
@@ -14,6 +15,7 @@ use Rattle.group_model.specs.Places.{is_held_by, is_member, holders_at}
 use Rattle.group_model.specs.Fresh.{last_change}
 use Rattle.group_model.specs.Wraps.{wraps_at}
 use Rattle.group_model.specs.Groups.{Reading, depth_after, batches_after}
+use Rattle.group_model.specs.Legal.{found_by}
 use Rattle.group_model.specs.Derivations.{CanDerive, replies_sent, held_names, pairs_in, pairs_sent}
 use Rattle.sym_closure.specs.Firsts.{AreAmong}
 use Rattle.sym_closure.specs.Worlds.{epochs_of, keys_told, world, holdings, wraps_since}
@@ -76,12 +78,17 @@ module _ (depth : ℕ) (batches : List (List Change)) where
       (from to : ℕ) (m : Name) → from ≤ to → to ≤ length batches → IsMemberThrough from to m
       → CanDerive (keys_told depth batches from m) (wraps_since depth batches from to) (Traffic to)
 
+-- the epoch at which a history begins: 0 where the group was made, and that at which it was found where it was opened
+abbrev pub first_epoch : List Entry → ℕ
+first_epoch [] = 0
+first_epoch (entry ∷ entries) = unwrap_or (found_by entry.answer) 0
+
 -- Said of a history, what its openings read, and the batches that it leaves.
 module _ (readings : List Reading) (entries : List Entry) where
-  -- Of each epoch some entry sent all the encryptions.
+  -- Of each epoch from the first one on some entry sent all the encryptions.
   abbrev pub SendsItsWraps : Type 0
   SendsItsWraps =
-      (epoch : ℕ) → Contains (epochs_of (batches_after readings entries)) epoch
+      (epoch : ℕ) → Contains (epochs_of (batches_after readings entries)) epoch → first_epoch entries ≤ epoch
       → (entry : Entry) × Contains entries entry × AreAmong (wraps_at (depth_after readings entries) (batches_after readings entries) epoch) (pairs_in entry.answer)
 
   -- All that was sent is among what can ever be sent, and all that a coalition was given among what it can ever be given.

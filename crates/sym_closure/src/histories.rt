@@ -54,6 +54,13 @@ fn replies_of(answer: &Answer) -> &[SentReply]
         Answer::Done
         | Answer::Queued
         | Answer::Opened { .. }
+        | Answer::Shown { .. }
+        | Answer::Kept { .. }
+        | Answer::Older { .. }
+        | Answer::TookRoot { .. }
+        | Answer::TookTraffic { .. }
+        | Answer::PushRefused { .. }
+        | Answer::KeyIs { .. }
         | Answer::Nothing
         | Answer::Derived { .. }
         | Answer::Refused { .. } => &[],
@@ -101,6 +108,13 @@ pub(crate) fn pairs_in(alloc: Global, answer: &Answer) -> Result<List<Wrap>, NoM
         Answer::Opened { resent, .. } => pairs_resent(alloc, resent),
         Answer::Done
         | Answer::Queued
+        | Answer::Shown { .. }
+        | Answer::Kept { .. }
+        | Answer::Older { .. }
+        | Answer::TookRoot { .. }
+        | Answer::TookTraffic { .. }
+        | Answer::PushRefused { .. }
+        | Answer::KeyIs { .. }
         | Answer::Nothing
         | Answer::Derived { .. }
         | Answer::Refused { .. } => Ok(List::new(alloc)),

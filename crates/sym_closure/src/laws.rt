@@ -41,7 +41,8 @@ pub fn a_longer_list_has_a_larger_world()
     laws_hold();
 }
 
-/// Each batch of a history has sent its encryptions, and a history has sent and given nothing that these cannot send and give.
+/// A history has sent the encryptions of each of its epochs, from that at which it was opened on. It has sent and given nothing that its
+/// batches cannot send and give.
 pub fn a_history_is_part_of_its_world()
     ensures wraps { (readings : List Reading) (entries : List Entry) → IsLegalHistory readings entries → SendsItsWraps readings entries }
     ensures part { (readings : List Reading) (entries : List Entry) → IsLegalHistory readings entries → IsPartOfWorld readings entries }

@@ -3,7 +3,7 @@ use Rattle.std.specs.Fmt.{decimal}
 use Rattle.std.specs.List.{flat_map}
 use Rattle.script_text.specs.Report.{derive_text, derived_word}
 use Rattle.script_text.proofs.LineLemmas.{derive_pieces}
-use Rattle.script_text.proofs.reports.append_derive.Goals as goal
+use Rattle.script_text.proofs.derivations.append_derive.Goals as goal
 
 pub returns-in_ok-append_derived-in-Derived : goal.returns-in_ok-append_derived-in-Derived
 returns-in_ok-append_derived-in-Derived c =

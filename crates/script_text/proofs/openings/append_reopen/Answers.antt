@@ -1,0 +1,12 @@
+use Rattle.std.proofs.Common.{◌++◌, ap, append_assoc, sym, ◌∙◌}
+use Rattle.script_text.specs.Report.{reopen_text, found_again_line, pair_lines}
+use Rattle.script_text.proofs.openings.append_reopen.Goals as goal
+
+pub returns-in_ok-append_pair-in-Opened : goal.returns-in_ok-append_pair-in-Opened
+returns-in_ok-append_pair-in-Opened c =
+    let out = c.args.out.now in
+    let pair = pair_lines c.in-Opened.resent in
+    c.in_ok-append_pair-in-Opened.ensures
+    ∙ ap (λ front. front ++ pair) c.in_ok-append_found_again-in-Opened.ensures
+    ∙ append_assoc out (found_again_line c.in-Opened.group) pair
+    ∙ ap (λ answer. out ++ reopen_text answer) (sym c.in-Opened.is)

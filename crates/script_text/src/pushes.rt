@@ -1,0 +1,77 @@
+//! The lines of pushes.
+ghost use Rattle.std.specs.Prelude.{◌≡◌, ◌++◌, OnOk};
+ghost use Rattle.hex.specs.Hex.{encode_lower};
+ghost use Rattle.script_text.specs.Report.{push_line, pair_lines, push_why_text};
+
+use crate::numbers::{append_number, append_place};
+use group_model::{NoMemory, Octets, PushPair, PushRefusal};
+use std::alloc::Global;
+
+/// Puts a line for each push of a pair at the end of a text, where there is one.
+pub fn append_pair(alloc: Global, pair: &Option<PushPair>, out: &mut Octets) -> Result<(), NoMemory>
+    ensures { OnOk result (out.new ≡ out.old ++ pair_lines pair.now) }
+{
+    match pair {
+        Some(pair) => {
+            let first = u64::from(pair.first);
+            append_push(alloc, first, pair.membership.as_slice(), out)?;
+            append_push(alloc, first + 1, pair.traffic.as_slice(), out)?;
+            Ok(())
+        }
+        None => Ok(()),
+    }
+}
+
+fn append_push(
+    alloc: Global,
+    sequence: u64,
+    octets: &[u8],
+    out: &mut Octets,
+) -> Result<(), NoMemory>
+    ensures { OnOk result (out.new ≡ out.old ++ push_line sequence octets.now) }
+{
+    out.extend(b"push ")?;
+    append_place(alloc, sequence, out)?;
+    out.extend(b" ")?;
+    append_place(alloc, octets.len() as u64, out)?;
+    out.extend(b" ")?;
+    append_hex(alloc, octets, out)?;
+    out.extend(b"\n")?;
+    Ok(())
+}
+
+/// Puts octets at the end of a text, in hex of lower case.
+pub fn append_hex(alloc: Global, octets: &[u8], out: &mut Octets) -> Result<(), NoMemory>
+    ensures { OnOk result (out.new ≡ out.old ++ encode_lower octets.now) }
+{
+    let text = hex::encode(alloc, octets)?;
+    out.extend(text.as_bytes())?;
+    Ok(())
+}
+
+/// Puts the reason for which a member takes no push at the end of a text.
+pub fn append_push_refusal(
+    alloc: Global,
+    why: &PushRefusal,
+    out: &mut Octets,
+) -> Result<(), NoMemory>
+    ensures { OnOk result (out.new ≡ out.old ++ push_why_text why.now) }
+{
+    match why {
+        PushRefusal::OtherSpi { .. } => out.extend(b"other-spi"),
+        PushRefusal::Malformed { .. } => out.extend(b"malformed"),
+        PushRefusal::BadSignature => out.extend(b"bad-signature"),
+        PushRefusal::Stale { last, got } => {
+            out.extend(b"stale ")?;
+            append_number(alloc, *last, out)?;
+            out.extend(b" ")?;
+            append_number(alloc, *got, out)?;
+            Ok(())
+        }
+        PushRefusal::NoPath { leaf } => {
+            out.extend(b"no-path ")?;
+            append_number(alloc, u32::from(leaf.number()), out)?;
+            Ok(())
+        }
+    }
+}
