@@ -1,5 +1,6 @@
 //! Batches by letters, and texts of what tests compare.
 use crate::{Batch, Change, KeyName, List, MOST_CHANGES, MemberName, Wrap};
+use std::fmt;
 use std::process::Abort;
 use std::test::Fail;
 
@@ -50,11 +51,27 @@ pub(crate) fn push_keys(text: &mut String, names: &List<KeyName>) -> Result<(), 
     Ok(())
 }
 
-fn push_key(text: &mut String, key: KeyName) -> Result<(), Fail> {
-    match key {
-        KeyName::Node { id, made } => write!(text, " {}.{made}", id.number())?,
-        KeyName::Traffic { made } => write!(text, " traffic.{made}")?,
-        KeyName::Phase { .. } => text.push_str(" phase")?,
-    }
+fn push_key(text: &mut String, name: KeyName) -> Result<(), Fail> {
+    let key = Key { name };
+    write!(text, " {key}")?;
     Ok(())
+}
+
+/// `POSITION.EPOCH`, `traffic.EPOCH`, or `phase`.
+#[derive(Clone, Copy)]
+struct Key {
+    name: KeyName,
+}
+
+impl fmt::Display for Key {
+    fn fmt<W: fmt::Write>(&self, f: &mut fmt::Formatter<W>) -> fmt::Result {
+        match self.name {
+            KeyName::Node { id, made } => {
+                let id = id.number();
+                write!(f, "{id}.{made}")
+            }
+            KeyName::Traffic { made } => write!(f, "traffic.{made}"),
+            KeyName::Phase { .. } => write!(f, "phase"),
+        }
+    }
 }

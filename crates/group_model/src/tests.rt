@@ -1,60 +1,85 @@
+ghost use Rattle.std.specs.Prelude.{◌≤◌, length};
+
 use crate::test_texts::{batch_of, named, push_keys, push_number, push_wraps};
 use crate::{History, LkhId};
 use std::alloc::Global;
 use std::process::Abort;
 use std::test::Fail;
 
+/// Who comes in with the first batch, who goes out with the second, and what the history says of its epochs.
+const HISTORIES: [(&str, &str, &str); 3] = [
+    (
+        "abc",
+        "b",
+        "members 0 at - - - - last - - - - - - - - wraps\n\
+         members 3 at 4 5 6 - last 1 1 1 1 1 1 - - wraps\n\
+         members 2 at 4 - 6 - last 2 2 1 1 2 1 - - wraps 4.1 2.2, 2.2 1.2, 3.1 1.2, 1.2 traffic.2,\n",
+    ),
+    (
+        "abcd",
+        "a",
+        "members 0 at - - - - last - - - - - - - - wraps\n\
+         members 4 at 4 5 6 7 last 1 1 1 1 1 1 1 - wraps\n\
+         members 3 at - 5 6 7 last 2 2 1 2 1 1 1 - wraps 5.1 2.2, 2.2 1.2, 3.1 1.2, 1.2 traffic.2,\n",
+    ),
+    (
+        "abc",
+        "",
+        "members 0 at - - - - last - - - - - - - - wraps\n\
+         members 3 at 4 5 6 - last 1 1 1 1 1 1 - - wraps\n\
+         members 3 at 4 5 6 - last 2 1 1 1 1 1 - - wraps 2.1 1.2, 3.1 1.2, 1.2 traffic.2,\n",
+    ),
+];
+
 #[test]
 fn histories_are_as_key_servers_show_them(rt: HostRuntime) -> Result<(), Fail> {
-    let alloc = rt.alloc();
-    let three = [
-        "members 0 at - - - - last - - - - - - - - wraps",
-        "members 3 at 4 5 6 - last 1 1 1 1 1 1 - - wraps",
-        "members 2 at 4 - 6 - last 2 2 1 1 2 1 - - wraps 4.1 2.2, 2.2 1.2, 3.1 1.2, 1.2 traffic.2,",
-    ];
-    let four = [
-        "members 0 at - - - - last - - - - - - - - wraps",
-        "members 4 at 4 5 6 7 last 1 1 1 1 1 1 1 - wraps",
-        "members 3 at - 5 6 7 last 2 2 1 2 1 1 1 - wraps 5.1 2.2, 2.2 1.2, 3.1 1.2, 1.2 traffic.2,",
-    ];
-    let empty = [
-        "members 0 at - - - - last - - - - - - - - wraps",
-        "members 3 at 4 5 6 - last 1 1 1 1 1 1 - - wraps",
-        "members 3 at 4 5 6 - last 2 1 1 1 1 1 - - wraps 2.1 1.2, 3.1 1.2, 1.2 traffic.2,",
-    ];
-    for (joins, leaves, epochs) in [("abc", "b", three), ("abcd", "a", four), ("abc", "", empty)] {
-        let mut history = History::new(alloc, 2);
-        add(&rt, alloc, &mut history, "", joins)?;
-        add(&rt, alloc, &mut history, leaves, "")?;
-        for (epoch, want) in (0..).zip(epochs) {
-            let text = seen(&rt, alloc, &history, epoch)?;
-            assert_eq!(rt; text.as_str(), want);
-        }
+    for (joins, leaves, want) in HISTORIES {
+        let text = seen(&rt, rt.alloc(), joins, leaves)?;
+        assert_eq!(rt; text.as_str(), want);
     }
     Ok(())
 }
 
 /// The keys of a member at an epoch, from its leaf up.
+const PATHS: [(u32, u8, &str); 6] = [
+    (0, b'a', ""),
+    (1, b'a', " 4.1 2.1 1.1"),
+    (1, b'b', " 5.1 2.1 1.1"),
+    (2, b'a', " 4.1 2.2 1.2"),
+    (2, b'b', ""),
+    (2, b'c', " 6.1 3.1 1.2"),
+];
+
 #[test]
 fn paths_have_the_keys_of_their_epoch(rt: HostRuntime) -> Result<(), Fail> {
-    let alloc = rt.alloc();
-    let mut history = History::new(alloc, 2);
-    add(&rt, alloc, &mut history, "", "abc")?;
-    add(&rt, alloc, &mut history, "b", "")?;
-    for (epoch, letter, want) in [
-        (0, b'a', ""),
-        (1, b'a', " 4.1 2.1 1.1"),
-        (1, b'b', " 5.1 2.1 1.1"),
-        (2, b'a', " 4.1 2.2 1.2"),
-        (2, b'b', ""),
-        (2, b'c', " 6.1 3.1 1.2"),
-    ] {
-        assert!(rt; epoch <= history.epoch());
-        let mut text = String::new(alloc);
-        push_keys(&mut text, &history.path(alloc, epoch, &named(letter)?)?)?;
+    let history = history_of(&rt, rt.alloc(), "abc", "b")?;
+    for (epoch, letter, want) in PATHS {
+        let text = path_of(&rt, rt.alloc(), &history, epoch, letter)?;
         assert_eq!(rt; text.as_str(), want, "{letter} at {epoch}");
     }
     Ok(())
+}
+
+/// The keys of a member at an epoch, in a line.
+fn path_of(
+    rt: &impl Abort,
+    alloc: Global,
+    history: &History,
+    epoch: u32,
+    letter: u8,
+) -> Result<String, Fail> {
+    assert!(rt; epoch <= history.epoch());
+    let mut text = String::new(alloc);
+    push_keys(&mut text, &history.path(alloc, epoch, &named(letter)?)?)?;
+    Ok(text)
+}
+
+/// The history of two batches: with the first some come in, and with the second others go out.
+fn history_of(rt: &impl Abort, alloc: Global, joins: &str, leaves: &str) -> Result<History, Fail> {
+    let mut history = History::new(alloc, 2);
+    add(rt, alloc, &mut history, "", joins)?;
+    add(rt, alloc, &mut history, leaves, "")?;
+    Ok(history)
 }
 
 /// Adds a batch in which some members go out and others come in; each is called by one letter.
@@ -72,21 +97,76 @@ fn add(
     Ok(())
 }
 
-/// What a history says of an epoch: how many members there are, which leaves a to d have, when each of the positions 1 to 8
-/// was changed last, and what is encrypted under what.
-fn seen(rt: &impl Abort, alloc: Global, history: &History, epoch: u32) -> Result<String, Fail> {
-    assert!(rt; epoch <= history.epoch());
-    let mut text = format!(in alloc; "members {} at", history.members(epoch))?;
-    for letter in b"abcd" {
-        let place = history.place(epoch, &named(*letter)?);
-        push_number(&mut text, place.map(|id| u32::from(id.number())))?;
+/// What the history of two batches says of each of its epochs.
+fn seen(rt: &impl Abort, alloc: Global, joins: &str, leaves: &str) -> Result<String, Fail> {
+    let history = history_of(rt, alloc, joins, leaves)?;
+    let mut text = String::new(alloc);
+    push_epochs(rt, alloc, &history, &mut text)?;
+    Ok(text)
+}
+
+fn push_epochs(
+    rt: &impl Abort,
+    alloc: Global,
+    history: &History,
+    text: &mut String,
+) -> Result<(), Fail> {
+    for epoch in 0..3 {
+        assert!(rt; epoch <= history.epoch());
+        push_epoch(alloc, history, epoch, text)?;
     }
+    Ok(())
+}
+
+/// An epoch in a line: how many members there are, which leaves a to d have, when each of the positions 1 to 8 was changed last, and what is
+/// encrypted under what.
+fn push_epoch(alloc: Global, history: &History, epoch: u32, text: &mut String) -> Result<(), Fail>
+    requires { epoch ≤ length history.now.batches }
+{
+    write!(text, "members {}", history.members(epoch))?;
+    push_places(history, epoch, text)?;
+    push_changes(history, epoch, text)?;
+    text.push_str(" wraps")?;
+    push_wraps(text, &history.wraps(alloc, epoch)?)?;
+    text.push_str("\n")?;
+    Ok(())
+}
+
+fn push_places(history: &History, epoch: u32, text: &mut String) -> Result<(), Fail>
+    requires { epoch ≤ length history.now.batches }
+{
+    text.push_str(" at")?;
+    for letter in b"abcd" {
+        push_number(text, leaf_of(history, epoch, *letter)?)?;
+    }
+    Ok(())
+}
+
+/// The leaf that a member has at an epoch.
+fn leaf_of(history: &History, epoch: u32, letter: u8) -> Result<Option<u32>, Fail>
+    requires { epoch ≤ length history.now.batches }
+{
+    let member = named(letter)?;
+    match history.place(epoch, &member) {
+        Some(leaf) => Ok(Some(u32::from(leaf.number()))),
+        None => Ok(None),
+    }
+}
+
+fn push_changes(history: &History, epoch: u32, text: &mut String) -> Result<(), Fail>
+    requires { epoch ≤ length history.now.batches }
+{
     text.push_str(" last")?;
     for number in 1..9 {
-        let id = LkhId::new(number).ok_or("a position")?;
-        push_number(&mut text, history.last(epoch, id))?;
+        push_number(text, last_change(history, epoch, number)?)?;
     }
-    text.push_str(" wraps")?;
-    push_wraps(&mut text, &history.wraps(alloc, epoch)?)?;
-    Ok(text)
+    Ok(())
+}
+
+/// When a position was changed last, up to an epoch.
+fn last_change(history: &History, epoch: u32, number: u16) -> Result<Option<u32>, Fail>
+    requires { epoch ≤ length history.now.batches }
+{
+    let id = LkhId::new(number).ok_or("a position")?;
+    Ok(history.last(epoch, id))
 }

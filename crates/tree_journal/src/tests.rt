@@ -1,9 +1,10 @@
-ghost use Rattle.std.specs.Prelude.{◌≤◌, ◌^◌, length};
+ghost use Rattle.std.specs.Prelude.{◌≤◌, ◌^◌, length, IsSome, IfOk};
 
 use crate::{FormatRefusal, Journal, JournalRefusal};
 use gd_disk::MemDisk;
 use group_terms::{List, Octets};
 use std::alloc::Global;
+use std::process::Abort;
 use std::test::Fail;
 
 mod reopened;
@@ -22,28 +23,82 @@ const NO_GATE: Why = Some(JournalRefusal::NotAJournal { at: 9 });
 
 const NO_SECOND: Why = Some(JournalRefusal::NotAJournal { at: 16 });
 
+/// How making a journal, two appends and two reads go; nothing else is done where it is not made.
+type Answers = [Why; 5];
+
 /// A disk that fails at one call, once a journal was made on it, two records appended, and two read; and how each of that went.
-fn ran(alloc: Global, call: u64) -> Result<(MemDisk, List<Why>), Fail> {
+fn ran(alloc: Global, call: u64) -> Result<(MemDisk, Answers), Fail> {
     let disk = MemDisk::planned(alloc, List::copy_of(alloc, &[call])?);
-    let mut journal = match Journal::format(alloc, disk) {
-        Ok(journal) => journal,
-        Err(FormatRefusal { why, disk }) => return Ok((disk, List::copy_of(alloc, &[Some(why)])?)),
-    };
-    let first = journal.append(b"first").err();
-    let second = journal.append(b"").err();
+    match made(alloc, disk) {
+        Ok(mut journal) => {
+            let answers = used(alloc, &mut journal);
+            Ok((journal.into_disk(), answers))
+        }
+        Err(FormatRefusal { why, disk }) => Ok((disk, [Some(why), None, None, None, None])),
+    }
+}
+
+/// Makes a journal, of which nothing more is said than what an append requires.
+fn made(alloc: Global, disk: MemDisk) -> Result<Journal<MemDisk>, FormatRefusal<MemDisk>>
+    ensures { IfOk result (λ journal. IsSome journal.end) }
+{
+    Journal::format(alloc, disk)
+}
+
+fn used(alloc: Global, journal: &mut Journal<MemDisk>) -> Answers
+    requires { IsSome journal.old.end }
+{
+    let first = append(journal, b"first");
+    let second = append(journal, b"");
     let mut body = Octets::new(alloc);
-    let read = journal.read_next(alloc, &mut body).err();
+    let read = read(alloc, journal, &mut body).err();
     let again = journal.read_next(alloc, &mut body).err();
-    let whys = [None, first, second, read, again];
-    Ok((journal.into_disk(), List::copy_of(alloc, &whys)?))
+    [None, first, second, read, again]
+}
+
+/// Why a record is not appended, if it is not.
+fn append(journal: &mut Journal<MemDisk>, body: &[u8]) -> Why
+    requires few { length body.now ≤ 65536 }
+    requires walked { IsSome journal.old.end }
+    ensures { IsSome journal.new.end }
+{
+    journal.append(body).err()
+}
+
+/// Reads a record, of which nothing more is said.
+fn read(
+    alloc: Global,
+    journal: &mut Journal<MemDisk>,
+    body: &mut Octets,
+) -> Result<bool, JournalRefusal> {
+    journal.read_next(alloc, body)
+}
+
+/// An empty journal on a disk that fails at these calls. Making it takes seven.
+fn journal_failing_at(alloc: Global, calls: &[u64]) -> Result<Journal<MemDisk>, Fail>
+    ensures { IfOk result (λ journal. IsSome journal.end) }
+{
+    let disk = MemDisk::planned(alloc, List::copy_of(alloc, calls)?);
+    Ok(made(alloc, disk)?)
 }
 
 /// The sizes of the bodies that are read from a disk, and why no more are, if there was a reason.
 fn opened(alloc: Global, disk: MemDisk) -> Result<(List<usize>, Why), Fail> {
-    match Journal::open(alloc, disk) {
+    match open(alloc, disk) {
         Ok(mut journal) => rest_of(alloc, &mut journal),
         Err(refused) => Ok((List::new(alloc), Some(refused.why))),
     }
+}
+
+/// Opens a journal, of which nothing more is said.
+fn open(alloc: Global, disk: MemDisk) -> Result<Journal<MemDisk>, FormatRefusal<MemDisk>> {
+    Journal::open(alloc, disk)
+}
+
+/// Whether bodies of these sizes are read from a disk, and no more for this reason.
+fn reads(alloc: Global, disk: MemDisk, (sizes, why): Left) -> Result<bool, Fail> {
+    let (found, refused) = opened(alloc, disk)?;
+    Ok(found.as_slice() == sizes && refused == why)
 }
 
 /// The sizes of the bodies that are read from where reading goes on, and why no more are, if there was a reason.
@@ -51,7 +106,7 @@ fn rest_of(alloc: Global, journal: &mut Journal<MemDisk>) -> Result<(List<usize>
     let mut sizes = List::new(alloc);
     let mut body = Octets::new(alloc);
     for _ in 0..u64::MAX {
-        match journal.read_next(alloc, &mut body) {
+        match read(alloc, journal, &mut body) {
             Ok(true) => sizes.push(body.len())?,
             Ok(false) => return Ok((sizes, None)),
             Err(why) => return Ok((sizes, Some(why))),
@@ -68,24 +123,28 @@ fn holding(alloc: Global, image: &[u8]) -> Result<MemDisk, Fail>
 }
 
 /// How each goes where a call from the first number to the second fails. The reads make one call each.
-const ANSWERS: [(u64, u64, &[Why]); 6] = [
-    (1, 7, &[FAULT]),
-    (8, 11, &[None, FAULT, CLOSED, CLOSED, CLOSED]),
-    (12, 15, &[None, None, FAULT, CLOSED, CLOSED]),
-    (16, 16, &[None, None, None, FAULT, CLOSED]),
-    (17, 17, &[None, None, None, None, FAULT]),
-    (18, 18, &[None, None, None, None, None]),
+const ANSWERS: [(u64, u64, Answers); 6] = [
+    (1, 7, [FAULT, None, None, None, None]),
+    (8, 11, [None, FAULT, CLOSED, CLOSED, CLOSED]),
+    (12, 15, [None, None, FAULT, CLOSED, CLOSED]),
+    (16, 16, [None, None, None, FAULT, CLOSED]),
+    (17, 17, [None, None, None, None, FAULT]),
+    (18, 18, [None, None, None, None, None]),
 ];
 
 #[test]
 fn a_call_that_fails_closes_the_journal(rt: HostRuntime) -> Result<(), Fail> {
     for (first, last, whys) in ANSWERS {
         for call in first..=last {
-            let (_, answered) = ran(rt.alloc(), call)?;
-            assert_eq!(rt; answered.as_slice(), whys, "{call}");
+            assert_eq!(rt; answered(rt.alloc(), call)?, whys, "{call}");
         }
     }
     Ok(())
+}
+
+fn answered(alloc: Global, call: u64) -> Result<Answers, Fail> {
+    let (_, answers) = ran(alloc, call)?;
+    Ok(answers)
 }
 
 /// The sizes of the bodies read after a crash, and why no more are.
@@ -110,25 +169,39 @@ const LEFT: [(u64, u64, Left, Left); 7] = [
     (16, 18, BOTH, BOTH),
 ];
 
-/// Of an octet that was not synced, the choices 1, 2 and 5 keep the octet, and the others lose it, or leave another.
 #[test]
 fn a_crash_leaves_a_record_whole_or_not_at_all(rt: HostRuntime) -> Result<(), Fail> {
     for (first, last, lost, kept) in LEFT {
         for call in first..=last {
-            for choice in 0..8 {
-                let (disk, _) = ran(rt.alloc(), call)?;
-                let (sizes, why) = opened(rt.alloc(), disk.crashed(choice)?)?;
-                let left = if [1, 2, 5].contains(&choice) {
-                    kept
-                } else {
-                    lost
-                };
-                assert_eq!(rt; sizes.as_slice(), left.0, "{call} {choice}");
-                assert_eq!(rt; why, left.1, "{call} {choice}");
-            }
+            crash_all_ways(&rt, rt.alloc(), call, [lost, kept])?;
         }
     }
     Ok(())
+}
+
+/// Of an octet that was not synced, the choices 1, 2 and 5 keep the octet, and the others lose it, or leave another.
+fn crash_all_ways(
+    rt: &impl Abort,
+    alloc: Global,
+    call: u64,
+    [lost, kept]: [Left; 2],
+) -> Result<(), Fail> {
+    for choice in 0..8 {
+        let left = if [1, 2, 5].contains(&choice) {
+            kept
+        } else {
+            lost
+        };
+        let is_left = leaves(alloc, call, choice, left)?;
+        assert!(rt; is_left, "{call} {choice}");
+    }
+    Ok(())
+}
+
+/// Whether a crash leaves this, on a disk that fails at a call.
+fn leaves(alloc: Global, call: u64, choice: u64, left: Left) -> Result<bool, Fail> {
+    let (disk, _) = ran(alloc, call)?;
+    reads(alloc, disk.crashed(choice)?, left)
 }
 
 /// What is read of images of files.
@@ -151,9 +224,9 @@ const READ: [(&[u8], &[usize], Why); 13] = [
 #[test]
 fn records_are_read_up_to_the_closed_gate(rt: HostRuntime) -> Result<(), Fail> {
     for (image, sizes, why) in READ {
-        let (found, refused) = opened(rt.alloc(), holding(rt.alloc(), image)?)?;
-        assert_eq!(rt; found.as_slice(), sizes, "{image:?}");
-        assert_eq!(rt; refused, why, "{image:?}");
+        let disk = holding(rt.alloc(), image)?;
+        let is_read = reads(rt.alloc(), disk, (sizes, why))?;
+        assert!(rt; is_read, "{image:?}");
     }
     Ok(())
 }
@@ -175,41 +248,53 @@ const LENGTHS: [([u8; 14], &[usize], Why); 2] = [
 #[test]
 fn a_length_past_its_limit_is_not_read(rt: HostRuntime) -> Result<(), Fail> {
     for (front, sizes, why) in LENGTHS {
-        let (found, refused) = opened(rt.alloc(), holding_more(rt.alloc(), front)?)?;
-        assert_eq!(rt; found.as_slice(), sizes, "{front:?}");
-        assert_eq!(rt; refused, why, "{front:?}");
+        let disk = holding_more(rt.alloc(), front)?;
+        let is_read = reads(rt.alloc(), disk, (sizes, why))?;
+        assert!(rt; is_read, "{front:?}");
     }
     Ok(())
 }
 
 #[test]
 fn the_longest_body_is_read_as_it_was_appended(rt: HostRuntime) -> Result<(), Fail> {
-    let alloc = rt.alloc();
     let long = [7; 65_536];
-    let mut journal = Journal::format(alloc, MemDisk::new(alloc)).map_err(|_| "format")?;
-    assert_eq!(rt; journal.append(&long), Ok(()));
-    let mut body = Octets::new(alloc);
-    assert_eq!(rt; journal.read_next(alloc, &mut body), Ok(true));
+    let mut body = Octets::new(rt.alloc());
+    let place = read_back(rt.alloc(), &long, &mut body)?;
     assert!(rt; body.as_slice() == long.as_slice());
-    assert_eq!(rt; journal.place(), 65_550);
+    assert_eq!(rt; place, 65_550);
     Ok(())
 }
 
+/// Appends a record to an empty journal, and reads it; where reading goes on then.
+fn read_back(alloc: Global, long: &[u8], body: &mut Octets) -> Result<u64, Fail>
+    requires { length long.now ≤ 65536 }
+{
+    let mut journal = journal_failing_at(alloc, &[])?;
+    let why = append(&mut journal, long);
+    if why.is_some() || read(alloc, &mut journal, body) != Ok(true) {
+        return Err(Fail::new("it is not read"));
+    }
+    Ok(journal.place())
+}
+
+/// A file with one record, of the two octets `ab`.
+const ONE: &[u8] = b"\x01GDOIJRNL\x01\0\0\0\x02ab\0";
+
 #[test]
 fn rewind_begins_again_with_the_first_record(rt: HostRuntime) -> Result<(), Fail> {
-    let alloc = rt.alloc();
-    let disk = holding(alloc, b"\x01GDOIJRNL\x01\0\0\0\x02ab\0")?;
-    let mut journal = Journal::open(alloc, disk)?;
-    let mut body = Octets::new(alloc);
+    let mut journal = open(rt.alloc(), holding(rt.alloc(), ONE)?)?;
     for _ in 0..2 {
         assert_eq!(rt; journal.place(), 9);
-        assert_eq!(rt; journal.read_next(alloc, &mut body), Ok(true));
-        assert_eq!(rt; body.as_slice(), b"ab".as_slice());
-        assert_eq!(rt; journal.place(), 16);
-        assert_eq!(rt; journal.read_next(alloc, &mut body), Ok(false));
+        assert_eq!(rt; step(rt.alloc(), &mut journal), (Ok(true), true, 16));
+        assert_eq!(rt; step(rt.alloc(), &mut journal), (Ok(false), false, 16));
         journal.rewind();
     }
     Ok(())
+}
+
+/// What a read answers, whether it reads `ab`, and where reading goes on then.
+fn step(alloc: Global, journal: &mut Journal<MemDisk>) -> Answer {
+    read_into(alloc, journal, &mut Octets::new(alloc))
 }
 
 /// What a read after the one record of a file answers.
@@ -223,49 +308,74 @@ const ENDS: [(&[u8], Result<bool, JournalRefusal>); 2] = [
 
 #[test]
 fn a_read_without_a_record_leaves_the_body_and_the_place(rt: HostRuntime) -> Result<(), Fail> {
-    let alloc = rt.alloc();
     for (image, end) in ENDS {
-        let mut journal = Journal::open(alloc, holding(alloc, image)?)?;
-        let mut body = Octets::new(alloc);
-        assert_eq!(rt; journal.read_next(alloc, &mut body), Ok(true));
-        for _ in 0..2 {
-            assert_eq!(rt; journal.read_next(alloc, &mut body), end);
-            assert_eq!(rt; body.as_slice(), b"ab".as_slice());
-            assert_eq!(rt; journal.place(), 16);
-        }
+        let answers = read_three_times(rt.alloc(), holding(rt.alloc(), image)?)?;
+        assert_eq!(rt;
+            answers,
+            [(Ok(true), true, 16), (end, true, 16), (end, true, 16)]
+        );
     }
     Ok(())
+}
+
+/// What each read answers, whether the body is `ab` then, and where reading goes on.
+type Answer = (Result<bool, JournalRefusal>, bool, u64);
+
+fn read_three_times(alloc: Global, disk: MemDisk) -> Result<[Answer; 3], Fail> {
+    let mut journal = open(alloc, disk)?;
+    let mut body = Octets::new(alloc);
+    let first = read_into(alloc, &mut journal, &mut body);
+    let second = read_into(alloc, &mut journal, &mut body);
+    let third = read_into(alloc, &mut journal, &mut body);
+    Ok([first, second, third])
+}
+
+fn read_into(alloc: Global, journal: &mut Journal<MemDisk>, body: &mut Octets) -> Answer {
+    let answer = read(alloc, journal, body);
+    (answer, body.as_slice() == b"ab".as_slice(), journal.place())
 }
 
 /// The calls after the seven of `format` are a sync and a read.
 #[test]
 fn open_gives_the_disk_back_where_a_call_fails(rt: HostRuntime) -> Result<(), Fail> {
-    let alloc = rt.alloc();
     for call in [8, 9] {
-        let disk = MemDisk::planned(alloc, List::copy_of(alloc, &[call])?);
-        let disk = Journal::format(alloc, disk)?.into_disk();
-        let Err(refused) = Journal::open(alloc, disk) else {
-            return Err(Fail::new("it opened"));
-        };
-        assert_eq!(rt; refused.why, JournalRefusal::DiskFault);
-        let (sizes, why) = opened(alloc, refused.disk)?;
-        assert_eq!(rt; (sizes.len(), why), (0, None));
+        let disk = made_failing_at(rt.alloc(), call)?;
+        let opened = opened_again(rt.alloc(), disk)?;
+        assert_eq!(rt; opened, (FAULT, 0, None));
     }
     Ok(())
 }
 
+/// A disk with an empty journal, which fails at a call.
+fn made_failing_at(alloc: Global, call: u64) -> Result<MemDisk, Fail> {
+    let journal = journal_failing_at(alloc, &[call])?;
+    Ok(journal.into_disk())
+}
+
+/// Why a journal is not opened, how many records are read of the disk that is given back, and why no more are.
+fn opened_again(alloc: Global, disk: MemDisk) -> Result<(Why, usize, Why), Fail> {
+    let Err(FormatRefusal { why, disk }) = open(alloc, disk) else {
+        return Err(Fail::new("it opened"));
+    };
+    let (sizes, end) = opened(alloc, disk)?;
+    Ok((Some(why), sizes.len(), end))
+}
+
 #[test]
 fn a_file_is_made_anew_and_has_each_record_between_two_gates(rt: HostRuntime) -> Result<(), Fail> {
-    let alloc = rt.alloc();
-    let disk = holding(
-        alloc,
-        b"\x01GDOIJRNL\x01\0\0\0\x02ab\0 and what was behind it",
-    )?;
-    let mut journal = Journal::format(alloc, disk)?;
-    assert_eq!(rt; journal.append(b"first"), Ok(()));
-    assert_eq!(rt; journal.append(b""), Ok(()));
-    let disk = journal.into_disk();
+    let old = b"\x01GDOIJRNL\x01\0\0\0\x02ab\0 and what was behind it";
+    let disk = appended_twice(rt.alloc(), holding(rt.alloc(), old)?)?;
     let image = b"\x01GDOIJRNL\x01\0\0\0\x05first\x01\0\0\0\0\0";
     assert_eq!(rt; disk.image(), image.as_slice());
     Ok(())
+}
+
+/// A disk on which a journal was made, and two records appended.
+fn appended_twice(alloc: Global, disk: MemDisk) -> Result<MemDisk, Fail> {
+    let mut journal = made(alloc, disk)?;
+    let answers = [append(&mut journal, b"first"), append(&mut journal, b"")];
+    if answers != [None, None] {
+        return Err(Fail::new("a record is refused"));
+    }
+    Ok(journal.into_disk())
 }
