@@ -1,6 +1,7 @@
 pub mod AcceptLemmas
 pub mod AnswerLemmas
 pub mod CauseLemmas
+pub mod DueLemmas
 pub mod FindLemmas
 pub mod LeftLemmas
 pub mod OneLemmas

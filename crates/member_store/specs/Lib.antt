@@ -1,3 +1,4 @@
+pub mod Dues
 pub mod Private
 pub mod Steps
 pub mod Stores

@@ -8,6 +8,7 @@ pub use push_msg::Room;
 pub use stores::MemberStore;
 
 mod answers;
+mod dues;
 mod laws;
 mod openings;
 mod paths;

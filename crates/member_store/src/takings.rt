@@ -9,6 +9,7 @@ ghost use Rattle.kd_wire.specs.Texts.{IsPath, data_of};
 ghost use Rattle.member_store.specs.Private.Paths.{IsNewPath};
 ghost use Rattle.member_store.specs.Takings.{IsUnsealed, Takes, TakesNext, can_take, is_called, keys_given, sealer_of};
 
+use crate::dues::{Due, dues};
 use crate::paths::{ROOT, has_position, with_keys};
 use arrayvec::ArrayVec;
 use gd_cipher::{Key128, cbc_open};
@@ -30,9 +31,48 @@ pub(crate) fn new_path(path: &Path, span: &UpdateSpan, body: &[u8]) -> Option<Pa
     Some(with_keys(path, taken.as_slice()))
 }
 
+/// The keys that are taken of those of a span.
+fn keys_taken(path: &[PathKey], span: &UpdateSpan, body: &[u8]) -> ArrayVec<PathKey, LONGEST_PATH>
+    requires { length path.now ≤ LONGEST_PATH }
+    ensures { Takes path.now (keys_given (span_arrays span.now body.now)) result.items }
+{
+    match dues(path, span.arrays(body)) {
+        Some(due) => dues_taken(path, due.as_slice()),
+        None => all_taken(path, span, body),
+    }
+}
+
+/// The keys that are taken of these, one after the other.
+fn dues_taken(path: &[PathKey], due: &[Due]) -> ArrayVec<PathKey, LONGEST_PATH>
+    requires { length path.now ≤ LONGEST_PATH }
+    ensures { Takes path.now due.now result.items }
+{
+    let mut taken = ArrayVec::new();
+    for _ in path {
+        let Some(key) = next_due(path, taken.as_slice(), due) else {
+            return taken;
+        };
+        taken.push(key);
+    }
+    taken
+}
+
+/// The first of these keys that can be taken, opened.
+fn next_due(path: &[PathKey], taken: &[PathKey], due: &[Due]) -> Option<PathKey>
+    ensures some { IfSome result (λ key. TakesNext path.now taken.now due.now key) }
+    ensures none { IfNone result (find (can_take path.now taken.now) due.now ≡ None) }
+{
+    for given in due {
+        if let Some(key) = taken_key(path, taken, &given.given()) {
+            return Some(key);
+        }
+    }
+    None
+}
+
 /// The keys that are taken, one after the other: each time the first that can be, until none can. There are no more of them than the path
 /// has positions.
-fn keys_taken(path: &[PathKey], span: &UpdateSpan, body: &[u8]) -> ArrayVec<PathKey, LONGEST_PATH>
+fn all_taken(path: &[PathKey], span: &UpdateSpan, body: &[u8]) -> ArrayVec<PathKey, LONGEST_PATH>
     requires { length path.now ≤ LONGEST_PATH }
     ensures { Takes path.now (keys_given (span_arrays span.now body.now)) result.items }
 {
