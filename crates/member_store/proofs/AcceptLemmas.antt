@@ -20,8 +20,8 @@ use Rattle.member_store.specs.declared.answers.Taken.{Taken}
 use Rattle.member_store.specs.declared.answers.Taken.TheVariants as takes
 use Rattle.member_store.specs.Private.Openings.{HasOpening, answer_of}
 use Rattle.member_store.specs.Private.Paths.{IsNewPath}
-use Rattle.member_store.specs.Steps.{TakesRoot, IsAcceptance, IsOpening, IsRefused, TakesBody, TakesTree, TakesTraffic, room_after}
-use Rattle.member_store.specs.Stores.{Store, has_position, leaf_of, root_epoch, with_keys}
+use Rattle.member_store.specs.Steps.{TakesRoot, IsAcceptance, IsOpening, IsRefused, TakesBody, TakesTree, room_after}
+use Rattle.member_store.specs.Stores.{Store, leaf_of, root_epoch, with_keys}
 use Rattle.member_store.specs.Takings.{Takes, keys_given}
 
 -- what an answer has

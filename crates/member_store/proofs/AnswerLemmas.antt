@@ -1,7 +1,6 @@
 -- A datagram has one answer, and a refusal leaves the store.
-use Rattle.std.proofs.Common.{◌≡◌, ◌∙◌, ap, refl, subst, sym, ℕ, Bool, true, false, List, [], ◌∷◌, ◌++◌, length, take, drop, None, Some}
+use Rattle.std.proofs.Common.{◌≡◌, ◌∙◌, ap, refl, subst, sym, ℕ, Bool, true, false, List, [], ◌∷◌, ◌++◌, length, take, drop}
 use Rattle.std.specs.Prelude.{Result, Ok, Err, MatchBool}
-use Rattle.std.specs.List.{find}
 use Rattle.std.proofs.Math.Seq.{take-append_seam, drop-append_seam}
 use Rattle.std.proofs.lemmas.Option.{none-some, same_Some}
 use Rattle.gd_edges.specs.declared.verifiers.Verifier.{Ghosts as VerifierGhosts}
@@ -12,15 +11,14 @@ use Rattle.group_terms.specs.declared.pushes.PushRefusal.TheVariants.{NoPath}
 use Rattle.kd_wire.specs.Spans.{span_arrays}
 use Rattle.kd_wire.specs.Texts.{data_of}
 use Rattle.kd_wire.specs.declared.updates.SealedKey.{SealedKey}
-use Rattle.kd_wire.specs.declared.updates.UpdateArray.{UpdateArray}
 use Rattle.push_msg.specs.declared.bodies.OpenBody.{OpenBody}
 use Rattle.push_msg.specs.declared.bodies.OpenBody.TheVariants.{Membership, Traffic}
 use Rattle.push_msg.specs.Readings.{PushRead}
 use Rattle.member_store.specs.declared.answers.Taken.{Taken}
 use Rattle.member_store.specs.declared.answers.Taken.TheVariants as takes
-use Rattle.member_store.specs.Steps.{AfterOpening, TakesRoot, IsAcceptance, IsRefused, TakesBody, TakesTree}
-use Rattle.member_store.specs.Stores.{Store, has_position, leaf_of, root_epoch, with_tree_keys}
-use Rattle.member_store.specs.Takings.{IsUnsealed, Takes, TakesAfter, TakesNext, can_take, keys_given, sealer_of}
+use Rattle.member_store.specs.Steps.{AfterOpening, TakesRoot, IsAcceptance, IsRefused, TakesBody}
+use Rattle.member_store.specs.Stores.{Store, has_position, leaf_of, root_epoch}
+use Rattle.member_store.specs.Takings.{IsUnsealed, TakesAfter, TakesNext, keys_given, sealer_of}
 use Rattle.member_store.proofs.OneLemmas.{OpensOnce, ok_err, one_opening}
 
 -- ---- a refusal

@@ -1,6 +1,6 @@
 -- Where a refusal has its cause, it is the answer.
-use Rattle.std.proofs.Common.{◌≡◌, ◌≢◌, ◌∙◌, ap, inl, subst, ℕ, ◌<◌, ◌≤◌, true, false, List, []}
-use Rattle.std.specs.Prelude.{Result, Ok, Err}
+use Rattle.std.proofs.Common.{◌≡◌, ◌≢◌, ◌∙◌, ap, subst, ℕ, ◌<◌, ◌≤◌, true, false, List, []}
+use Rattle.std.specs.Prelude.{Result, Ok}
 use Rattle.std.proofs.lemmas.Bool.{MatchBool-at_false}
 use Rattle.gd_edges.specs.declared.verifiers.Verifier.{Ghosts as VerifierGhosts}
 use Rattle.gd_wire.specs.declared.headers.Header.{Header}

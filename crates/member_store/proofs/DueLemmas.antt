@@ -1,10 +1,10 @@
--- What is taken of the keys for a path is taken of all.
-use Rattle.std.proofs.Common.{◌≡◌, ◌∙◌, ap, inl, inr, subst, sym, true, false, ◌&&◌, Bool, List, [], ◌∷◌, ◌++◌, Option, None, Some, if◌then◌else◌, refl}
+-- What is taken of the keys for a path is what is taken of all.
+use Rattle.std.proofs.Common.{◌≡◌, ◌∙◌, ap, inl, inr, sym, true, false, Bool, List, [], ◌∷◌, ◌++◌, Option, Some, if◌then◌else◌, refl}
 use Rattle.std.specs.List.{filter, find}
-use Rattle.std.proofs.lemmas.Bool.{and_parts, cases_Bool}
+use Rattle.std.proofs.lemmas.Bool.{cases_Bool}
 use Rattle.group_terms.specs.declared.paths.PathKey.{PathKey}
 use Rattle.kd_wire.specs.declared.updates.SealedKey.{SealedKey}
-use Rattle.member_store.specs.Dues.{is_due}
+use Rattle.member_store.specs.Private.Dues.{is_due}
 use Rattle.member_store.specs.Takings.{Takes, TakesAfter, TakesNext, can_take}
 use Rattle.member_store.proofs.FindLemmas.{found_after}
 
@@ -18,6 +18,7 @@ module _ {A : Type 0} (p q : A → Bool) (stays : (x : A) → q x ≡ false → 
   in_front : (x : A) (xs ys : List A) → find p xs ≡ find p ys → find p (x ∷ xs) ≡ find p (x ∷ ys)
   in_front x xs ys same = ap (λ (found : Option A). if p x then Some x else found) same
 
+  -- where nothing that is left out passes, the first that passes is the same
   pub found_kept : (xs : List A) → find p (filter q xs) ≡ find p xs
   found_kept [] = refl
   found_kept (x ∷ xs) = elim (cases_Bool (q x)) [

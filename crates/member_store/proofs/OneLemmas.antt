@@ -1,5 +1,5 @@
 -- A datagram is opened in one way: where a cause holds, it is the answer.
-use Rattle.std.proofs.Common.{◌≡◌, ◌≢◌, ◌∙◌, ap, arith, inl, inr, refl, subst, sym, ℕ, ◌<◌, ◌≤◌, Bool, true, false, List, drop}
+use Rattle.std.proofs.Common.{◌≡◌, ◌≢◌, ◌∙◌, ap, arith, inl, inr, refl, sym, ℕ, ◌<◌, ◌≤◌, true, false, List}
 use Rattle.std.specs.Prelude.{Result, Ok, Err}
 use Rattle.std.proofs.lemmas.Bool.{false≢true}
 use Rattle.std.specs.Result.{is_ok}

@@ -1,12 +1,12 @@
 -- What was taken so far, while the keys of a push are taken one after the other.
-use Rattle.std.proofs.Common.{◌≡◌, ◌∙◌, ap, arith, refl, subst, sym, ℕ, ◌+◌, ◌≤◌, true, false, not, ◌&&◌, Bool, List, [], ◌∷◌, ◌++◌, length, None, Some, is_some}
+use Rattle.std.proofs.Common.{◌≡◌, ◌∙◌, ap, arith, refl, subst, sym, ℕ, ◌+◌, ◌≤◌, true, false, List, [], ◌∷◌, ◌++◌, length, None}
 use Rattle.std.specs.List.{find}
-use Rattle.std.proofs.lemmas.Bool.{and_parts, cases_Bool, not-true}
+use Rattle.std.proofs.lemmas.Bool.{and_parts, not-true}
 use Rattle.std.proofs.lemmas.List.{append-nil, append_assoc, length-append}
 use Rattle.group_terms.specs.declared.paths.PathKey.{PathKey}
 use Rattle.kd_wire.specs.declared.updates.SealedKey.{SealedKey}
 use Rattle.member_store.specs.Stores.{has_position}
-use Rattle.member_store.specs.Takings.{Takes, TakesAfter, TakesNext, can_take, sealer_of}
+use Rattle.member_store.specs.Takings.{Takes, TakesAfter, TakesNext, can_take}
 use Rattle.member_store.proofs.FindLemmas.{found_passes}
 use Rattle.member_store.proofs.LeftLemmas.{all_left, fewer_left, none_can, positions_left}
 

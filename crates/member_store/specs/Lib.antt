@@ -1,4 +1,3 @@
-pub mod Dues
 pub mod Private
 pub mod Steps
 pub mod Stores

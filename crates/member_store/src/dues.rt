@@ -1,28 +1,25 @@
 //! The keys of a push that are for a path.
 ghost use Rattle.std.specs.Prelude.{◌≡◌, ◌∷◌, ◌++◌, [], IfSome, true};
 ghost use Rattle.std.specs.List.{filter};
-ghost use Rattle.member_store.specs.Dues.{is_due};
+ghost use Rattle.member_store.specs.Private.Dues.{is_due};
 ghost use Rattle.member_store.specs.Takings.{keys_given};
 
 use crate::paths::has_position;
 use arrayvec::ArrayVec;
-use group_terms::{IV_OCTETS, KEY_OCTETS, LkhId, PathKey};
+use group_terms::{IV_OCTETS, KEY_OCTETS, LONGEST_PATH, LkhId, PathKey};
 use kd_wire::{SealedKey, SealedKeys, UpdateKey, Updates};
 use std::marker::Model;
 
-const DATA_OCTETS: usize = IV_OCTETS + KEY_OCTETS;
+/// How many octets the data of a key has: its IV and itself.
+pub(crate) const DATA_OCTETS: usize = IV_OCTETS + KEY_OCTETS;
 
-/// For how many keys there is room: at least two for each position of a path.
-pub(crate) const MOST_DUE: usize = 32;
+/// For how many keys there is room: two for each position of the longest path.
+const MOST_DUE: usize = 2 * LONGEST_PATH;
 
-/// A given key that is kept.
+/// A key of a push that is for a path. It has a type of its own for its default, which an `ArrayVec` needs.
 #[derive(Clone, Copy)]
 pub(crate) struct Due {
-    by: LkhId,
-    by_made: u32,
-    id: LkhId,
-    made: u32,
-    sealed: [u8; DATA_OCTETS],
+    given: SealedKey,
 }
 
 impl Model for Due {
@@ -30,30 +27,24 @@ impl Model for Due {
 
     ghost Value = { SealedKey };
 
-    ghost view = { λ due. record {
-      by = due.by;
-      by_made = due.by_made;
-      gives = record { id = due.id; made = due.made; sealed = due.sealed };
-    } };
+    ghost view = { λ due. due.given };
 
-    ghost inverse = { λ given. record {
-      by = given.by;
-      by_made = given.by_made;
-      id = given.gives.id;
-      made = given.gives.made;
-      sealed = given.gives.sealed;
-    } };
+    ghost inverse = { λ given. record { given = given } };
 }
 
 impl Default for Due {
     fn default() -> Self {
-        Due {
-            by: LkhId::default(),
-            by_made: 0,
+        let gives = UpdateKey {
             id: LkhId::default(),
             made: 0,
             sealed: [0; DATA_OCTETS],
-        }
+        };
+        let given = SealedKey {
+            by: LkhId::default(),
+            by_made: 0,
+            gives,
+        };
+        Due { given }
     }
 }
 
@@ -61,30 +52,13 @@ impl Due {
     fn new(given: &SealedKey) -> Self
         ensures { result ≡ given.now }
     {
-        let sealed = given.gives.sealed;
-        Due {
-            by: given.by,
-            by_made: given.by_made,
-            id: given.gives.id,
-            made: given.gives.made,
-            sealed,
-        }
+        Due { given: *given }
     }
 
-    pub(crate) fn given(&self) -> SealedKey
-        ensures { result ≡ self.now }
+    pub(crate) fn given(&self) -> &SealedKey
+        ensures { result.now ≡ self.now }
     {
-        let sealed = self.sealed;
-        let gives = UpdateKey {
-            id: self.id,
-            made: self.made,
-            sealed,
-        };
-        SealedKey {
-            by: self.by,
-            by_made: self.by_made,
-            gives,
-        }
+        &self.given
     }
 }
 

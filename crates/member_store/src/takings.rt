@@ -9,15 +9,12 @@ ghost use Rattle.kd_wire.specs.Texts.{IsPath, data_of};
 ghost use Rattle.member_store.specs.Private.Paths.{IsNewPath};
 ghost use Rattle.member_store.specs.Takings.{IsUnsealed, Takes, TakesNext, can_take, is_called, keys_given, sealer_of};
 
-use crate::dues::{Due, dues};
+use crate::dues::{DATA_OCTETS, Due, dues};
 use crate::paths::{ROOT, has_position, with_keys};
 use arrayvec::ArrayVec;
 use gd_cipher::{Key128, cbc_open};
-use group_terms::{IV_OCTETS, KEY_OCTETS, LONGEST_PATH, NodeValue, Path, PathKey};
+use group_terms::{IV_OCTETS, LONGEST_PATH, NodeValue, Path, PathKey};
 use kd_wire::{SealedKey, SealedKeys, UpdateSpan, Updates};
-
-/// How many octets the data of a key has: its IV and itself.
-const DATA_OCTETS: usize = IV_OCTETS + KEY_OCTETS;
 
 /// The path with the keys that are taken from the arrays of a span, if that of the root is among them.
 pub(crate) fn new_path(path: &Path, span: &UpdateSpan, body: &[u8]) -> Option<Path>
@@ -31,7 +28,8 @@ pub(crate) fn new_path(path: &Path, span: &UpdateSpan, body: &[u8]) -> Option<Pa
     Some(with_keys(path, taken.as_slice()))
 }
 
-/// The keys that are taken of those of a span.
+/// The keys that are taken of those of a span. Those for the path are gathered first, so that the arrays are read once; only where there is
+/// no room for them are they read anew for each key.
 fn keys_taken(path: &[PathKey], span: &UpdateSpan, body: &[u8]) -> ArrayVec<PathKey, LONGEST_PATH>
     requires { length path.now ≤ LONGEST_PATH }
     ensures { Takes path.now (keys_given (span_arrays span.now body.now)) result.items }
@@ -63,7 +61,7 @@ fn next_due(path: &[PathKey], taken: &[PathKey], due: &[Due]) -> Option<PathKey>
     ensures none { IfNone result (find (can_take path.now taken.now) due.now ≡ None) }
 {
     for given in due {
-        if let Some(key) = taken_key(path, taken, &given.given()) {
+        if let Some(key) = taken_key(path, taken, given.given()) {
             return Some(key);
         }
     }

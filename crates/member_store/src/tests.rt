@@ -7,11 +7,8 @@ use crate::{
     MemberStore, Older, PushRefusal, Room, Taken, a_datagram_has_one_answer,
     a_refusal_changes_nothing, each_cause_has_its_refusal,
 };
-use gd_edges::{TestSigner, TestVerifier};
-use group_terms::{Keyed, LkhId, NodeValue, Octets, Path, PathKey, TrafficValue};
-use kd_wire::{WrapJob, write_update};
-use push_msg::{PushHead, write_membership};
-use std::alloc::Global;
+use gd_edges::TestVerifier;
+use group_terms::{Keyed, LkhId, NodeValue, Path, PathKey, TrafficValue};
 use std::process::Abort;
 use std::test::Fail;
 
@@ -34,17 +31,21 @@ const TRAFFIC: &str =
     b0b0336a62c6958df41702a17bc19c3985624247f000880ee45ec33aa95a21c71268dcd4d3f7a6cd7fde8dd5f4ed3616cef1645d3543284f\
     115970340ef12b060c2b5518380819485bb5f25b93be290e85e702402364c51075d7561f8f5b4211aa29aee67606ad9867eeb23e";
 
-/// The keys that the member at leaf 4 is told in the first epoch, each with its IV before it: those of its leaf, of 2, and of the root.
-const LEAF_KEY: &str = "281fed3145fb0a511f0ae1ac6f4d794be6a0092de16c266308d17eae75a06819";
+/// The keys that the member at leaf 4 is told in the first epoch, each after its IV: those of its leaf, of 2, and of the root.
+const LEAF_KEY: [&str; 2] = [
+    "281fed3145fb0a511f0ae1ac6f4d794b",
+    "e6a0092de16c266308d17eae75a06819",
+];
 
-const MIDDLE_KEY: &str = "f4b8436a1ca1181569b687c38665eeb2bee7079f7a3851557c97ba980d082d73";
+const MIDDLE_KEY: [&str; 2] = [
+    "f4b8436a1ca1181569b687c38665eeb2",
+    "bee7079f7a3851557c97ba980d082d73",
+];
 
-const ROOT_KEY: &str = "b819d2bd1aed8da0ccef36a8c70d778b7c5941da8d4857513fe02477374ad8b8";
-
-/// The keys of the second epoch: that of the root, and that of 2.
-const NEW_ROOT_KEY: &str = "3be01ee52af8a91cdb3e17ca4793728b0f98be4ec9104d90472b441684e9a083";
-
-const NEW_MIDDLE_KEY: &str = "c9b60c86389cb357cf518fed4d8aa6faa32510e04645509c0614dcb91528eba7";
+const ROOT_KEY: [&str; 2] = [
+    "b819d2bd1aed8da0ccef36a8c70d778b",
+    "7c5941da8d4857513fe02477374ad8b8",
+];
 
 /// The traffic keys of both epochs: the key of the cipher, that of the integrity algorithm, and the SPI.
 const FIRST_TRAFFIC: [&str; 3] = [
@@ -63,27 +64,13 @@ const SECOND_TRAFFIC: [&str; 3] = [
 fn a_member_takes_both_pushes(rt: HostRuntime) -> Result<(), Fail> {
     let mut store = MemberStore::new(reply(0)?);
     let mut room = Room::new(rt.alloc())?;
-    expect(&rt, &store, (1, 1, 0), &traffic(&FIRST_TRAFFIC)?);
-    let taken = give(&mut store, &mut room, &octets::<396>(MEMBERSHIP)?);
+    expect(&rt, &store, (1, 1, 0), &FIRST_TRAFFIC)?;
+    let taken = accept(&mut store, &mut room, &octets::<396>(MEMBERSHIP)?);
     assert_eq!(rt; taken, Ok(Taken::Root { epoch: 2 }));
-    expect(&rt, &store, (2, 1, 1), &traffic(&FIRST_TRAFFIC)?);
-    let taken = give(&mut store, &mut room, &octets::<220>(TRAFFIC)?);
+    expect(&rt, &store, (2, 1, 1), &FIRST_TRAFFIC)?;
+    let taken = accept(&mut store, &mut room, &octets::<220>(TRAFFIC)?);
     assert_eq!(rt; taken, Ok(Taken::Traffic { epoch: 2 }));
-    expect(&rt, &store, (2, 2, 2), &traffic(&SECOND_TRAFFIC)?);
-    Ok(())
-}
-
-/// The root's new key is taken wherever it is: here before the key that seals it, which comes after one that nobody can open.
-#[test]
-fn keys_are_taken_in_any_order(rt: HostRuntime) -> Result<(), Fail> {
-    let mut store = MemberStore::new(reply(0)?);
-    let mut room = Room::new(rt.alloc())?;
-    let push = turned_push(rt.alloc())?;
-    let taken = give(&mut store, &mut room, push.as_slice());
-    assert_eq!(rt; taken, Ok(Taken::Root { epoch: 2 }));
-    let taken = give(&mut store, &mut room, &octets::<220>(TRAFFIC)?);
-    assert_eq!(rt; taken, Ok(Taken::Traffic { epoch: 2 }));
-    Ok(())
+    expect(&rt, &store, (2, 2, 2), &SECOND_TRAFFIC)
 }
 
 #[test]
@@ -92,8 +79,7 @@ fn a_store_is_renewed_by_what_is_not_older(rt: HostRuntime) -> Result<(), Fail> 
     assert_eq!(rt; store.renew(reply(4)?), Ok(()));
     let older = store.renew(reply(3)?);
     assert_eq!(rt; older, Err(Older { last: 4, got: 3 }));
-    expect(&rt, &store, (1, 1, 4), &traffic(&FIRST_TRAFFIC)?);
-    Ok(())
+    expect(&rt, &store, (1, 1, 4), &FIRST_TRAFFIC)
 }
 
 #[test]
@@ -103,56 +89,30 @@ fn laws_hold_of_a_verifier(_rt: HostRuntime) {
     each_cause_has_its_refusal::<TestVerifier>();
 }
 
-/// Its leaf is 4; the epochs of the root and of the traffic key, and its last number; and the traffic key.
+/// The store at leaf 4 has these epochs of the root's key and of the traffic key, this last number, and this traffic key.
 fn expect(
     rt: &impl Abort,
     store: &MemberStore,
     (root, epoch, last): (u32, u32, u32),
-    traffic: &TrafficValue,
-) {
+    traffic: &[&str; 3],
+) -> Result<(), Fail> {
     assert_eq!(rt; store.leaf().number(), 4);
     assert_eq!(rt; store.root_epoch(), root);
     assert_eq!(rt; store.traffic_epoch(), epoch);
     assert_eq!(rt; store.last_sequence(), last);
-    assert_eq!(rt; store.traffic_key(), *traffic);
+    assert_eq!(rt; store.traffic_key(), traffic_value(traffic)?);
+    Ok(())
 }
 
-fn give(store: &mut MemberStore, room: &mut Room, push: &[u8]) -> Result<Taken, PushRefusal> {
+fn accept(store: &mut MemberStore, room: &mut Room, push: &[u8]) -> Result<Taken, PushRefusal> {
     store.accept(push, &TestVerifier::new(), room)
-}
-
-/// A push with the two keys of the second epoch turned round, after another key of 2 under one that nobody has.
-fn turned_push(alloc: Global) -> Result<Octets, Fail> {
-    let arrays = turned_arrays(alloc)?;
-    if arrays.len() > 64_000 {
-        return Err("more than a push holds".into());
-    }
-    let head = PushHead {
-        spi: octets(SPI)?,
-        sequence: 1,
-    };
-    let kek = node_value(ROOT_KEY)?;
-    Ok(write_membership(alloc, &head, arrays.as_slice(), &kek, &TestSigner::new())?)
-}
-
-fn turned_arrays(alloc: Global) -> Result<Octets, Fail> {
-    let (root, middle) = (key(1, 2, NEW_ROOT_KEY)?, key(2, 2, NEW_MIDDLE_KEY)?);
-    let mut arrays = Octets::new(alloc);
-    give_key(key(4, 3, LEAF_KEY)?, key(2, 2, MIDDLE_KEY)?, &mut arrays)?;
-    give_key(middle, root, &mut arrays)?;
-    give_key(key(4, 1, LEAF_KEY)?, middle, &mut arrays)?;
-    Ok(arrays)
-}
-
-fn give_key(by: PathKey, gives: PathKey, arrays: &mut Octets) -> Result<(), Fail> {
-    Ok(write_update(&WrapJob { by, gives }, arrays)?)
 }
 
 /// What the member at leaf 4 is told in the first epoch, where the last push had this number.
 fn reply(sequence: u32) -> Result<Keyed, Fail>
     ensures { IfOk result IsReply }
 {
-    let (spi, path, traffic) = (octets(SPI)?, path()?, traffic(&FIRST_TRAFFIC)?);
+    let (spi, path, traffic) = (octets(SPI)?, path()?, traffic_value(&FIRST_TRAFFIC)?);
     Ok(Keyed {
         epoch: 1,
         sequence,
@@ -167,11 +127,7 @@ fn path() -> Result<Path, Fail>
     ensures path { IfOk result IsPath }
     ensures made { IfOk result (λ path. (root_of path).made ≡ 1) }
 {
-    let (leaf, middle, root) = (
-        key(4, 1, LEAF_KEY)?,
-        key(2, 1, MIDDLE_KEY)?,
-        key(1, 1, ROOT_KEY)?,
-    );
+    let (leaf, middle, root) = (key(4, &LEAF_KEY)?, key(2, &MIDDLE_KEY)?, key(1, &ROOT_KEY)?);
     let mut path = Path::new();
     path.push(leaf);
     path.push(middle);
@@ -179,25 +135,18 @@ fn path() -> Result<Path, Fail>
     Ok(path)
 }
 
-/// The key of a position, made in this epoch.
-fn key(position: u16, made: u32, octets: &str) -> Result<PathKey, Fail>
+/// A key of the first epoch.
+fn key(position: u16, texts: &[&str; 2]) -> Result<PathKey, Fail>
     ensures id { IfOk result (λ key. key.id ≡ position) }
-    ensures made { IfOk result (λ key. key.made ≡ made) }
+    ensures made { IfOk result (λ key. key.made ≡ 1) }
 {
     let id = LkhId::new(position).ok_or("a position")?;
-    let value = node_value(octets)?;
-    Ok(PathKey { id, made, value })
+    let (iv, key) = (octets(texts[0])?, octets(texts[1])?);
+    let value = NodeValue { iv, key };
+    Ok(PathKey { id, made: 1, value })
 }
 
-fn node_value(text: &str) -> Result<NodeValue, Fail> {
-    let mut value = NodeValue::default();
-    let data = octets::<32>(text)?;
-    value.iv.copy_from_slice(&data[..16]);
-    value.key.copy_from_slice(&data[16..]);
-    Ok(value)
-}
-
-fn traffic(texts: &[&str; 3]) -> Result<TrafficValue, Fail> {
+fn traffic_value(texts: &[&str; 3]) -> Result<TrafficValue, Fail> {
     Ok(TrafficValue {
         cipher_key: octets(texts[0])?,
         integrity_key: octets(texts[1])?,

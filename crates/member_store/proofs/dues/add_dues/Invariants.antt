@@ -1,6 +1,6 @@
 use Rattle.std.proofs.Common.{◌≡◌, ◌++◌}
 use Rattle.std.specs.List.{filter}
-use Rattle.member_store.specs.Dues.{is_due}
+use Rattle.member_store.specs.Private.Dues.{is_due}
 use Rattle.member_store.proofs.dues.add_dues.Given as goal
 
 abbrev pub invariant-loop-given : goal.invariant-loop-given

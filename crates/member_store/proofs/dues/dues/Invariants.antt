@@ -1,6 +1,6 @@
 use Rattle.std.proofs.Common.{◌≡◌, ◌++◌}
 use Rattle.std.specs.List.{filter}
-use Rattle.member_store.specs.Dues.{is_due}
+use Rattle.member_store.specs.Private.Dues.{is_due}
 use Rattle.member_store.specs.Takings.{keys_given}
 use Rattle.member_store.proofs.dues.dues.Given as goal
 
