@@ -3,7 +3,7 @@
 
 pub use ends::end_line;
 pub use lines::{Line, MOST_LINE_OCTETS, read_line};
-pub use numbers::read_decimal;
+pub use numbers::{read_decimal, read_decimal_to};
 pub use reports::report_entry;
 
 mod changes;

@@ -1,4 +1,4 @@
-ghost use Rattle.std.specs.Prelude.{◌≡◌, ◌≤◌, ◌^◌, ◌++◌, min, IsTrue, true, OnOk};
+ghost use Rattle.std.specs.Prelude.{◌≡◌, ◌≤◌, ◌+◌, ◌^◌, ◌++◌, min, IsTrue, true, OnOk};
 ghost use Rattle.std.specs.Fmt.{decimal};
 ghost use Rattle.std.specs.List.{list_all};
 ghost use Rattle.script_text.specs.Numbers.{is_digit, is_number, number_of, decimal_in};
@@ -41,16 +41,35 @@ pub fn read_number(text: &[u8]) -> Option<u32>
 
 /// The number that a text says, of 1 to so many decimal digits and below a limit; `None` where it says none.
 ///
-/// The limit is at most 2^32. Leading zeros are taken.
+/// Leading zeros are taken.
 pub fn read_decimal(text: &[u8], most_digits: usize, limit: u64) -> Option<u64>
-    requires { limit ≤ 2 ^ 32 }
+    ensures { result ≡ decimal_in most_digits limit text.now }
+{
+    read_below(text, most_digits, u128::from(limit))
+}
+
+/// The number that a text says, of 1 to so many decimal digits and at most the greatest; `None` where it says none.
+///
+/// Leading zeros are taken.
+pub fn read_decimal_to(text: &[u8], most_digits: usize, greatest: u64) -> Option<u64>
+    ensures { result ≡ decimal_in most_digits (greatest + 1) text.now }
+{
+    read_below(text, most_digits, u128::from(greatest) + 1)
+}
+
+fn read_below(text: &[u8], most_digits: usize, limit: u128) -> Option<u64>
+    requires { limit ≤ 2 ^ 64 }
     ensures { result ≡ decimal_in most_digits limit text.now }
 {
     if !reads_as_number(text, most_digits) {
         return None;
     }
     let number = number_of(text, limit);
-    if number < limit { Some(number) } else { None }
+    if number < limit {
+        Some(number as u64)
+    } else {
+        None
+    }
 }
 
 fn reads_as_number(text: &[u8], most_digits: usize) -> bool
@@ -67,14 +86,14 @@ fn are_digits(text: &[u8]) -> bool
 }
 
 /// The number that digits say, up to a limit.
-fn number_of(digits: &[u8], limit: u64) -> u64
+fn number_of(digits: &[u8], limit: u128) -> u128
     requires digits { list_all is_digit digits.now ≡ true }
-    requires limit { limit ≤ 2 ^ 32 }
+    requires limit { limit ≤ 2 ^ 64 }
     ensures { result ≡ min (number_of digits.now) limit }
 {
     let mut number = 0;
     for digit in digits {
-        number = (number * 10 + u64::from(digit.saturating_sub(b'0'))).min(limit);
+        number = (number * 10 + u128::from(digit.saturating_sub(b'0'))).min(limit);
     }
     number
 }

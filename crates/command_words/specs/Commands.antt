@@ -1,0 +1,45 @@
+-- The command that the words ask for: exactly one argument says how a group is opened, and each of the others is there once at most.
+use Rattle.std.specs.Prelude.{◌≤◌, ℕ, ◌-◌, ◌^◌, List, Option, None, Some}
+use Rattle.std.specs.List.{filter_map}
+use Rattle.command_words.specs.declared.commands.Opening.{Opening}
+use Rattle.command_words.specs.declared.commands.Opening.TheVariants.{New, Open}
+use Rattle.command_words.specs.declared.commands.Command.{Command}
+use Rattle.command_words.specs.declared.arguments.Argument.{Argument}
+use Rattle.command_words.specs.declared.arguments.Argument.TheVariants.{Opens, Limit, Seed}
+use Rattle.command_words.specs.Options.{◌>>=◌, one, one_or}
+use Rattle.command_words.specs.Arguments.{arguments_of}
+
+-- what an argument says, where it is of this kind
+abbrev pub opening_in : Argument → Option Opening
+opening_in (Opens opening) = Some opening
+opening_in _ = None
+
+abbrev pub limit_in : Argument → Option ℕ
+limit_in (Limit limit) = Some limit
+limit_in _ = None
+
+abbrev pub seed_in : Argument → Option ℕ
+seed_in (Seed seed) = Some seed
+seed_in _ = None
+
+-- one opening, and a limit and a seed where they are given: else the limit is the greatest one and the seed is 0
+abbrev pub command_from : List Argument → Option Command
+command_from arguments = do
+  opening ← one (filter_map opening_in arguments)
+  limit ← one_or (2 ^ 32 - 1) (filter_map limit_in arguments)
+  seed ← one_or 0 (filter_map seed_in arguments)
+  Some (record { opening = opening; limit = limit; seed = seed })
+
+-- the command that the words ask for, where they are of the grammar
+unfoldable pub command_of : List (List ℕ) → Option Command
+command_of words = arguments_of words >>= command_from
+
+-- a depth from 1 to 9
+abbrev pub HasDepth : Opening → Type 0
+HasDepth (New depth) = (1 ≤ depth) × (depth ≤ 9)
+HasDepth Open = Unit {0}
+
+-- a command has a depth from 1 to 9, where it has one, and a limit of 1 at least
+pub record IsWithin (command : Command) : Type 0 where
+  pub depth : HasDepth command.opening
+  pub limit : 1 ≤ command.limit

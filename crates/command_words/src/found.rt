@@ -1,0 +1,113 @@
+ghost use Rattle.std.specs.Prelude.{◌≡◌, [], map, string_bytes, IfSome, MatchOption, if◌then◌else◌};
+ghost use Rattle.std.specs.Option.{is_some};
+ghost use Rattle.command_words.specs.Commands.{command_of, IsWithin};
+ghost use Rattle.command_words.specs.Private.Found.{command_with, IsAdded, IsAllowed, IsRefused, AreAllowed};
+
+use crate::arguments::{Argument, next_argument};
+use crate::commands::{Command, Opening};
+
+/// The arguments that were found so far.
+#[derive(Clone, Copy)]
+pub(crate) struct Found {
+    opening: Option<Opening>,
+    limit: Option<u32>,
+    seed: Option<u64>,
+}
+
+impl Found {
+    /// The arguments that the words are; `None` where they are none, or two of them are of one kind.
+    #[tactic(auto, unfolding(crate::specs::Commands::command_of))]
+    pub(crate) fn read(words: &[String]) -> Option<Found>
+        ensures command { MatchOption result (command_of (map string_bytes words.now) ≡ None)
+            (λ found. command_of (map string_bytes words.now) ≡ command_with found []) }
+        ensures allowed { IfSome result AreAllowed }
+    {
+        let mut found = Found::new();
+        let mut rest = words;
+        while let Some((word, after)) = rest.split_first() {
+            let (argument, after) = next_argument(word.as_bytes(), after)?;
+            found = found.with(argument)?;
+            rest = after;
+        }
+        Some(found)
+    }
+
+    fn new() -> Found
+        ensures { result ≡ record { opening = None; limit = None; seed = None } }
+    {
+        Found {
+            opening: None,
+            limit: None,
+            seed: None,
+        }
+    }
+
+    /// This and one more argument; `None` where one of its kind was found.
+    fn with(self, argument: Argument) -> Option<Found>
+        requires found { AreAllowed self }
+        requires argument { IsAllowed argument }
+        ensures command { MatchOption result (IsRefused self argument) (IsAdded self argument) }
+        ensures allowed { IfSome result AreAllowed }
+    {
+        match argument {
+            Argument::Opens(opening) => self.with_opening(opening),
+            Argument::Limit(limit) => self.with_limit(limit),
+            Argument::Seed(seed) => self.with_seed(seed),
+        }
+    }
+
+    fn with_opening(self, opening: Opening) -> Option<Found>
+        ensures { result ≡ (if is_some self.opening then None else Some (record self { opening = Some opening })) }
+    {
+        if self.opening.is_some() {
+            None
+        } else {
+            Some(Found {
+                opening: Some(opening),
+                ..self
+            })
+        }
+    }
+
+    fn with_limit(self, limit: u32) -> Option<Found>
+        ensures { result ≡ (if is_some self.limit then None else Some (record self { limit = Some limit })) }
+    {
+        if self.limit.is_some() {
+            None
+        } else {
+            Some(Found {
+                limit: Some(limit),
+                ..self
+            })
+        }
+    }
+
+    fn with_seed(self, seed: u64) -> Option<Found>
+        ensures { result ≡ (if is_some self.seed then None else Some (record self { seed = Some seed })) }
+    {
+        if self.seed.is_some() {
+            None
+        } else {
+            Some(Found {
+                seed: Some(seed),
+                ..self
+            })
+        }
+    }
+
+    /// The command that the arguments say; `None` where none of them says how a group is opened.
+    pub(crate) fn command(self) -> Option<Command>
+        requires { AreAllowed self }
+        ensures command { result ≡ command_with self [] }
+        ensures within { IfSome result IsWithin }
+    {
+        let opening = self.opening?;
+        let limit = self.limit.unwrap_or(u32::MAX);
+        let seed = self.seed.unwrap_or(0);
+        Some(Command {
+            opening,
+            limit,
+            seed,
+        })
+    }
+}
