@@ -7,7 +7,7 @@ use Rattle.group_model.specs.declared.entries.Answer.TheVariants.{Opened}
 use Rattle.group_model.specs.declared.entries.GroupSeen.{GroupSeen}
 use Rattle.group_model.specs.Stayed.{sequence_at}
 use Rattle.group_model.specs.Groups.{Reading, Group, no_group, new_group, after_answer, present_group}
-use Rattle.group_model.specs.Legal.{IsDue, disk_failed_by, found_by}
+use Rattle.group_model.specs.Legal.{IsDue, IsBeside}
 use Rattle.group_model.specs.Present.{Present, StandsFor}
 use Rattle.console_run.specs.Lines.{IsPlain}
 use Rattle.console_run.specs.Private.Held.{IsOpened}
@@ -21,7 +21,7 @@ nothing_sent tree h = (h.epoch, h.sequence)
 abbrev pub seen_new : ℕ → GroupSeen
 seen_new depth = record { depth = depth; epoch = 0; sequence = 0; members = [] }
 
-module _ (depth : ℕ) (tree : Present) (queue : List Change) (entries : List Entry) (entry : Entry) (shallow : 1 ≤ depth) (not_deep : depth ≤ 4) (deep : tree.depth ≡ depth) (stands : StandsFor tree []) (idle : queue ≡ []) (only : entries ≡ entry ∷ []) (asked : entry.asked ≡ Create depth) (answer : entry.answer ≡ Opened (seen_new depth) None) (outside : entry.outside ≡ record { disk_failed = disk_failed_by (Opened (seen_new depth) None); found = found_by (Opened (seen_new depth) None); place = 0 }) where
+module _ (depth : ℕ) (tree : Present) (queue : List Change) (entries : List Entry) (entry : Entry) (shallow : 1 ≤ depth) (not_deep : depth ≤ 4) (deep : tree.depth ≡ depth) (stands : StandsFor tree []) (idle : queue ≡ []) (only : entries ≡ entry ∷ []) (asked : entry.asked ≡ Create depth) (answer : entry.answer ≡ Opened (seen_new depth) None) (beside : IsBeside entry.answer entry.outside) (nothing_drawn : entry.outside.place ≡ 0) where
   made : (readings : List Reading) → present_group readings entries ≡ new_group (no_group readings) depth
   made readings = ap (present_group readings) only ∙ (λ i. after_answer (no_group readings) (asked i) (answer i))
 
@@ -34,9 +34,10 @@ module _ (depth : ℕ) (tree : Present) (queue : List Change) (entries : List En
         asked = asked;
         step = record {
           answered = subst (λ asked. IsDue (no_group readings) [] asked entry.answer) (sym asked) (refl, shallow, omega (arith, not_deep), inl answer);
-          beside = outside ∙ ap (λ answer. record { disk_failed = disk_failed_by answer; found = found_by answer; place = 0 }) (sym answer);
+          beside = beside;
         };
         plain = subst IsPlain (sym answer) tt;
+        nothing_drawn = nothing_drawn;
       };
       seen = seen_new depth;
       resent = None;

@@ -99,7 +99,7 @@ module _ (given : Given) (request : Asked) (opening : opens request ≡ true) wh
       let all : more ≡ entries = ap (λ done. done ++ more) (sym h.nothing) ∙ sym parts in
       subst (IsLegalHistory given.readings) all (elim h.begins [
         | inl none ↦ subst (IsLegalHistory given.readings) (sym none) (none_legal given.readings request opening)
-        | inr made ↦ begins given.readings request opening more made
+        | inr made ↦ begins given.readings request opening more made.answer
       ])
   up_to_legal entries done more parts (inr h) =
       let run = run_legal given.readings request opening _ done h.run in

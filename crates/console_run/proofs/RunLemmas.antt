@@ -29,6 +29,6 @@ pub Stops-report : (begins : Giving) (request : Asked) (stop : Stop) (old new : 
 Stops-report begins request stop old new was now entry attempts moves breaks = record {
   more = entry ∷ [];
   grown = moves.added;
-  begun = λ group reflects. attempts group old.entries (entry ∷ []) (record { entry = entry; alone = refl; asked = moves.asked; step = moves.step group reflects; plain = moves.plain });
+  begun = λ group reflects. attempts group old.entries (entry ∷ []) (record { entry = entry; alone = refl; asked = moves.asked; step = moves.step group reflects; plain = moves.plain; nothing_drawn = moves.nothing_drawn });
   reports = until stop was now entry breaks;
 }

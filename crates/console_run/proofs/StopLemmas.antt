@@ -128,7 +128,7 @@ module _ (request : Asked) (readings : List Reading) (held : Held) (was now : Sh
   start = record { request = request; was = was; readings = readings }
 
   opening : IsUpTo (given_of start [] false) request [] held.entries
-  opening = inl (record { none_taken = refl; nothing = refl; begins = inr (opened.opens readings).answer })
+  opening = inl (record { none_taken = refl; nothing = refl; begins = inr (opened.opens readings) })
 
   -- the report of that broke off
   pub stopped_at_opening : (stop : Stop) → ((front : List Entry) (entry : Entry) → held.entries ≡ front ++ entry ∷ [] → EntryBreaksOff stop was now (entry_text entry))

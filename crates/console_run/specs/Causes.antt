@@ -5,11 +5,11 @@ use Rattle.std.specs.Io.KnownBytes.{Consumes}
 use Rattle.group_terms.specs.Faults.{Rose}
 use Rattle.group_model.specs.declared.entries.Entry.{Entry}
 use Rattle.group_model.specs.declared.entries.Asked.{Asked}
-use Rattle.group_model.specs.Groups.{Reading, no_group, present_group}
+use Rattle.group_model.specs.Groups.{Reading, present_group}
 use Rattle.console_run.specs.declared.endings.Ending.{Ending}
 use Rattle.console_run.specs.declared.endings.Ending.TheVariants.{Whole, NoGroup, BadLine, Source, Sink, Memory}
 use Rattle.console_run.specs.Scripts.{are_octets, ends_line, script_lines, EndsLine, is_line}
-use Rattle.console_run.specs.Lines.{AnswersOrRunsOut, LineBegins, IsRunOf}
+use Rattle.console_run.specs.Lines.{Opens, LineBegins, IsRunOf}
 
 -- What the outside gave to a run: the octets that were taken from the source, whether the source then had no more, and what each opening
 -- read of its journal.
@@ -72,7 +72,7 @@ pub record IsLost (given : Given) (request : Asked) (entries : List Entry) : Typ
 pub record IsOpening (given : Given) (request : Asked) (done more : List Entry) : Type 0 where
   pub none_taken : given.taken ≡ []
   pub nothing : done ≡ []
-  pub begins : (more ≡ []) ⊎ AnswersOrRunsOut (no_group given.readings) [] request more
+  pub begins : (more ≡ []) ⊎ Opens given.readings request more
 
 -- The lines before some place of the script gave the first entries. The others are what the next line began to give, where it was over and
 -- within the limits; or there are none.

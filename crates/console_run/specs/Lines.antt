@@ -27,13 +27,14 @@ IsPlain (Batched output) = HasNoDatagrams output
 IsPlain (Refused why) = is_on_paper why ≡ true
 IsPlain answer = Unit {0}
 
--- one entry answers a request, after those before it, which have made this group; perhaps that memory ran out
+-- one entry answers a request, after those before it, which have made this group; nothing was drawn for it, and perhaps memory ran out
 pub record AnswersOrRunsOut (group : Group) (before : List Entry) (request : Asked) (more : List Entry) : Type 0 where
   pub entry : Entry
   pub alone : more ≡ entry ∷ []
   pub asked : entry.asked ≡ request
   pub step : IsStep group before entry
   pub plain : IsPlain entry.answer
+  pub nothing_drawn : entry.outside.place ≡ 0
 
 -- one entry answers a request, and memory did not run out
 pub record Answers (group : Group) (before : List Entry) (request : Asked) (more : List Entry) : Type 0 where

@@ -1,7 +1,7 @@
 //! A group that answers requests, with the history of all that was asked of it.
 ghost use Rattle.std.specs.Prelude.{◌≡◌, ◌+◌, ◌<◌, ◌≤◌, List, [], ◌∷◌, ◌++◌, false, MatchOption, IfOk, OnOk, OnErr, IsTrue};
 ghost use Rattle.group_model.specs.declared.entries.Entry.{Entry};
-ghost use Rattle.group_model.specs.Legal.{ran_out, found_by, disk_failed_by};
+ghost use Rattle.group_model.specs.Legal.{IsBeside, ran_out, found_by};
 ghost use Rattle.console_run.specs.Lines.{IsPlain};
 ghost use Rattle.console_run.specs.Private.Held.{Moves, IsOpened};
 
@@ -179,7 +179,8 @@ fn entry(asked: Asked, answer: Answer) -> Entry
     requires { IsPlain answer }
     ensures asked { result.asked ≡ asked }
     ensures answer { result.answer ≡ answer }
-    ensures outside { result.outside ≡ record { disk_failed = disk_failed_by answer; found = found_by answer; place = 0 } }
+    ensures beside { IsBeside result.answer result.outside }
+    ensures nothing_drawn { result.outside.place ≡ 0 }
 {
     let outside = Outside {
         disk_failed: false,

@@ -123,7 +123,10 @@ module _ (group : Group) (sound : IsSound group) where
 pub IsSound-answer : (group : Group) (before : List Entry) (asked : Asked) (answer : Answer) → IsSound group → IsDue group before asked answer → IsSound (after_answer group asked answer)
 IsSound-answer group before (Create depth) answer sound due = elim due.3 [
   | inl made ↦ subst (λ given. IsSound (after_answer group (Create depth) given)) (sym made) (IsSound-new group depth)
-  | inr failed ↦ subst (λ given. IsSound (after_answer group (Create depth) given)) (sym failed) sound
+  | inr failed ↦ elim failed [
+    | inl disk ↦ subst (λ given. IsSound (after_answer group (Create depth) given)) (sym disk) sound
+    | inr memory ↦ subst (λ given. IsSound (after_answer group (Create depth) given)) (sym memory) sound
+  ]
 ]
 IsSound-answer group before Begin answer sound due = elim due.1 [
   | inl read ↦ subst (λ given. IsSound (after_answer group Begin given)) (sym read.finds.shows) (IsSound-read group sound answer read)

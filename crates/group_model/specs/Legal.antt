@@ -89,13 +89,17 @@ is_of_key (KeyIs epoch sequence print) = true
 is_of_key Nothing = true
 is_of_key answer = false
 
--- The answer is one that this group may give after these entries. The making of a group, with a tree of depth 1 to 9, or its first opening comes before all
--- else or not at all. Where all members are given pushes, each push that is given has its entry; that request has one only where it is refused. What can be
--- derived follows from what was held and sent before.
+-- no group was made: the disk failed, or there was no memory
+abbrev pub FailsToMake : Answer → Type 0
+FailsToMake answer = (answer ≡ Refused DiskFault) ⊎ (answer ≡ Refused NoMemory)
+
+-- The answer is one that this group may give after these entries. The making of a group, with a tree of depth 1 to 9, or its first opening comes
+-- before all else or not at all, and may fail. Where all members are given pushes, each push that is given has its entry; that request has one
+-- only where it is refused. What can be derived follows from what was held and sent before.
 abbrev pub IsDue : Group → List Entry → Asked → Answer → Type 0
 IsDue group before (Create depth) answer =
     (before ≡ []) × (1 ≤ depth) × (depth ≤ 9)
-    × ((answer ≡ Opened (record { depth = depth; epoch = 0; sequence = 0; members = [] }) None) ⊎ (answer ≡ Refused DiskFault))
+    × ((answer ≡ Opened (record { depth = depth; epoch = 0; sequence = 0; members = [] }) None) ⊎ FailsToMake answer)
 IsDue group before Begin answer = (before ≡ []) × (IsRead group answer ⊎ FailsToOpen answer)
 IsDue group before (Join m) answer = answer ≡ answer_to_join group.need group.depth (present_holders group) group.queue m
 IsDue group before (Leave m) answer = answer ≡ answer_to_leave group.need group.depth (present_holders group) group.queue m
@@ -123,9 +127,11 @@ abbrev pub disk_failed_by : Answer → Bool
 disk_failed_by (Refused why) = is_disk_fault why
 disk_failed_by answer = false
 
--- what the outside did during a request that was answered so: whether the disk failed, and what an opening found; and nothing was drawn
-abbrev pub IsBeside : Answer → Outside → Type 0
-IsBeside answer outside = outside ≡ record { disk_failed = disk_failed_by answer; found = found_by answer; place = 0 }
+-- What the outside did during a request that was answered so: whether the disk failed, and what an opening found. The place of the draws is
+-- said where it is known.
+pub record IsBeside (answer : Answer) (outside : Outside) : Type 0 where
+  pub disk : outside.disk_failed ≡ disk_failed_by answer
+  pub found : outside.found ≡ found_by answer
 
 -- an entry may follow on those before it, which have made this group
 pub record IsStep (group : Group) (before : List Entry) (entry : Entry) : Type 0 where

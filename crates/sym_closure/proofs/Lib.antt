@@ -4,11 +4,14 @@ pub mod ContainLemmas
 pub mod DerivationLemmas
 pub mod FirstLemmas
 pub mod GraphLemmas
+pub mod KindLemmas
 pub mod KnowledgeLemmas
 pub mod LeafLemmas
+pub mod LongerLemmas
 pub mod MarkLemmas
 pub mod MemberLemmas
 pub mod PlaceLemmas
 pub mod PrefixLemmas
 pub mod SecrecyLemmas
 pub mod SentLemmas
+pub mod TellLemmas

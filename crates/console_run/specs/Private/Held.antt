@@ -34,6 +34,7 @@ pub record Moves (old new : Held) (request : Asked) (entry : Entry) : Type 0 whe
   pub asked : entry.asked ≡ request
   pub step : (group : Group) → Reflects old group → IsStep group old.entries entry
   pub plain : IsPlain entry.answer
+  pub nothing_drawn : entry.outside.place ≡ 0
   pub reflects : (group : Group) → Reflects old group → Reflects new (after_entry group entry)
 
 -- the group was opened as requested, and nothing else has happened

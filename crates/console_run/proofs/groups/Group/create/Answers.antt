@@ -10,7 +10,7 @@ returns-clause-opened c =
     (c.add.ensures.items ∙ ap (λ items. items ++ c.entry.result ∷ []) (c.reserve.ensures.items ∙ c.of-entries.ensures ∙ c.new.ensures))
     c.entry.ensures.asked
     (c.entry.ensures.answer ∙ ap (λ members. Opened (record { depth = c.args.depth; epoch = 0; sequence = 0; members = members }) None) c.new-3.ensures)
-    c.entry.ensures.outside
+    c.entry.ensures.beside c.entry.ensures.nothing_drawn
 
 pub returns-clause-ready : goal.returns-clause-ready
 returns-clause-ready c = nothing_sent c.in_ok-tree.tree c.in_ok-tree.ensures.empty
