@@ -1,3 +1,4 @@
 pub mod IndexLemmas
+pub mod NotedLemmas
 pub mod PeerLemmas
 pub mod StepLemmas
