@@ -3,7 +3,7 @@ use Rattle.std.proofs.Common.{◌≡◌, ◌∙◌, ap, arith, refl, subst, sym,
 use Rattle.std.specs.List.{list_any, take-map}
 use Rattle.std.specs.Option.{option_map, unwrap_or}
 use Rattle.std.proofs.lemmas.Bool.{and_right, false≢true, le-ltb, or_from}
-use Rattle.std.proofs.lemmas.List.{length-take-le, take-append-drop}
+use Rattle.std.proofs.lemmas.List.{length-map, length-take-le, take-append-drop, take_all}
 use Rattle.group_terms.specs.Names.{Name}
 use Rattle.group_terms.specs.Positions.{halved}
 use Rattle.group_terms.specs.declared.changes.Change.{Change}
@@ -12,7 +12,7 @@ use Rattle.group_keys.specs.Replies.{IsKeyedOf}
 use Rattle.group_values.specs.Values.{Made, batches_made}
 use Rattle.group_model.specs.Fresh.{last_change, node_name, upwards}
 use Rattle.group_model.specs.Laws.{HoldersStay, LastChangesStay}
-use Rattle.group_model.specs.Places.{holders_at, is_held_by, is_member, place_in}
+use Rattle.group_model.specs.Places.{holders_at, holders_of, is_held_by, is_member, place_in}
 use Rattle.group_model.specs.Stayed.{sequence_at}
 use Rattle.member_roots.specs.Groups.{IsKeyedGroup}
 use Rattle.member_roots.specs.Roots.{HasKeysOf, HasTrafficOf, IsAtRoot, IsStoreOf}
@@ -86,6 +86,17 @@ nobody_first (suc n) m = nobody_first n m
 some_epoch : (depth epoch : ℕ) (batches : List (List Change)) (m : Name) → is_member (holders_at depth batches epoch) m ≡ true → 1 ≤ epoch
 some_epoch depth zero batches m member = absurd (false≢true (sym (nobody_first (2 ^ depth) m) ∙ member))
 some_epoch depth (suc epoch) batches m member = omega arith
+
+-- what a member is told at the last epoch makes a store
+pub makes_store : Ways → (depth : ℕ) (rekey : List ℕ) (list : List Made) (m : Name) (keyed : Keyed) → 1 ≤ depth → depth ≤ 9
+    → is_member (holders_of depth (batches_made list)) m ≡ true → IsKeyedOf depth rekey list m keyed → IsReply keyed
+makes_store ways depth rekey list m keyed some shallow member told =
+    let batches = batches_made list in
+    let whole : holders_at depth batches (length list) ≡ holders_of depth batches =
+    ap (holders_of depth) (take_all (length list) batches (omega (arith, length-map list (λ (made : Made). made.changes)))) in
+    let now : is_member (holders_at depth batches (length list)) m ≡ true = ap (λ holders. is_member holders m) whole ∙ member in
+    told_reply depth rekey list m keyed told (has_place ways depth (length list) batches m now) some shallow
+    (some_epoch depth (length list) batches m now)
 
 -- the number that a member is told
 pub told_number : HoldersStay → (depth epoch : ℕ) (rekey : List ℕ) (list : List Made) (m : Name) (keyed : Keyed) → epoch ≤ length list

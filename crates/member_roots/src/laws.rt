@@ -6,7 +6,7 @@ ghost use Rattle.group_terms.specs.declared.pushes.PushRefusal.{PushRefusal};
 ghost use Rattle.group_terms.specs.declared.pushes.PushRefusal.TheVariants.{Malformed, NoPath, Stale};
 ghost use Rattle.group_values.specs.Values.{Made, batches_made};
 ghost use Rattle.group_keys.specs.Replies.{IsKeyedOf};
-ghost use Rattle.group_model.specs.Places.{holders_at, is_member};
+ghost use Rattle.group_model.specs.Places.{holders_at, holders_of, is_member};
 ghost use Rattle.group_model.specs.Wraps.{node_wraps};
 ghost use Rattle.group_model.specs.declared.entries.PushPair.{PushPair};
 ghost use Rattle.push_msg.specs.Written.{KindFits};
@@ -38,6 +38,14 @@ pub fn a_reply_is_at_its_root()
         IsReply keyed × HasKeysOf depth spi list epoch m (store_of keyed) }
 {
     first_epochs_stay();
+    each_law_holds();
+}
+
+/// What a member is told at the last epoch is a reply of which a store can be made.
+pub fn a_reply_makes_a_store()
+    ensures { (depth : ℕ) (spi : List ℕ) (list : List Made) (m : Name) (keyed : Keyed) → 1 ≤ depth → depth ≤ 9 →
+        is_member (holders_of depth (batches_made list)) m ≡ true → IsKeyedOf depth spi list m keyed → IsReply keyed }
+{
     each_law_holds();
 }
 
