@@ -11,6 +11,4 @@ mod dues;
 mod laws;
 mod openings;
 mod stores;
-#[cfg(test)]
-mod tests;
 mod walks;

@@ -1,5 +1,5 @@
 use Rattle.std.proofs.Common.{IsSome}
-use Rattle.tree_store.proofs.tests.refusals.journal_of.Given as goal
+use Rattle.tree_store_cases.proofs.refusals.journal_of.Given as goal
 
 -- the place of the closed gate is known
 abbrev pub invariant-loop-record : goal.invariant-loop-record

@@ -1,9 +1,8 @@
 //! Groups whose batches are stored, and what is read of them.
 ghost use Rattle.std.specs.Prelude.{◌≡◌, ◌≤◌, length, IsSome, IfOk};
 
-use crate::tests::numbers::Numbers;
-use crate::tests::unseen::UnseenDisk;
-use crate::{Head, JournalRefusal, Stored, TreeStore};
+use crate::numbers::Numbers;
+use crate::unseen::UnseenDisk;
 use gd_disk::{Disk, MemDisk};
 use group_model::{LkhId, PresentTree};
 use group_terms::{
@@ -11,6 +10,7 @@ use group_terms::{
 };
 use std::alloc::Global;
 use std::test::Fail;
+use tree_store::{FormatRefusal, Head, JournalRefusal, Stored, TreeStore};
 
 /// Why a call refused, if it did.
 pub(crate) type Why = Option<JournalRefusal>;
@@ -24,21 +24,57 @@ pub(crate) struct Found {
 }
 
 pub(crate) fn read_all(alloc: Global, disk: MemDisk) -> Result<Found, Fail> {
-    match TreeStore::open(alloc, disk) {
-        Ok(mut store) => {
-            let (list, why) = rest_of(alloc, &mut store)?;
-            Ok(Found {
-                head: Some(store.head()),
-                list,
-                why,
-            })
-        }
+    match opened(alloc, disk) {
+        Ok(mut store) => found_in(alloc, &mut store),
         Err(refused) => Ok(Found {
             head: None,
             list: List::new(alloc),
             why: Some(refused.why),
         }),
     }
+}
+
+/// Opens a store, of which nothing more is said.
+fn opened(alloc: Global, disk: MemDisk) -> Result<TreeStore<MemDisk>, FormatRefusal<MemDisk>> {
+    TreeStore::open(alloc, disk)
+}
+
+/// The head of a store, and what is read of it from where reading goes on.
+fn found_in(alloc: Global, store: &mut TreeStore<MemDisk>) -> Result<Found, Fail> {
+    let (list, why) = rest_of(alloc, store)?;
+    Ok(Found {
+        head: Some(store.head()),
+        list,
+        why,
+    })
+}
+
+/// Makes a store of a group without a batch, of which nothing more is said than what a commit requires.
+pub(crate) fn created(
+    alloc: Global,
+    disk: UnseenDisk,
+    head: &Head,
+) -> Result<TreeStore<UnseenDisk>, FormatRefusal<UnseenDisk>>
+    requires shallow { 1 ≤ head.now.depth }
+    requires not_deep { head.now.depth ≤ 9 }
+    requires limited { 1 ≤ head.now.limit }
+    ensures { IfOk result (λ store. IsSome store.end) }
+{
+    TreeStore::create(alloc, disk, head)
+}
+
+/// A store of a group of depth 2 without a batch, on a disk that fails at these calls. Making it takes eleven.
+pub(crate) fn store_failing_at(alloc: Global, calls: &[u64]) -> Result<TreeStore<UnseenDisk>, Fail>
+    ensures { IfOk result (λ store. IsSome store.end) }
+{
+    let disk = MemDisk::planned(alloc, List::copy_of(alloc, calls)?);
+    let head = head_of(2)?;
+    Ok(created(alloc, UnseenDisk::new(disk), &head)?)
+}
+
+/// Why the next batch is not read, if it is not.
+pub(crate) fn why_not_read(alloc: Global, store: &mut TreeStore<UnseenDisk>) -> Why {
+    store.next_batch(alloc).err()
 }
 
 /// The batches that are read from where reading goes on, and why no more are, if there was a reason.

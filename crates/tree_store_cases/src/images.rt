@@ -1,13 +1,13 @@
 //! Files that another implementation made, and files of no group.
 ghost use Rattle.std.specs.Prelude.{◌≤◌, ◌^◌, length, IfOk};
 
-use crate::tests::groups::{Found, Why, read_all};
-use crate::{JournalRefusal, Stored};
+use crate::groups::{Found, Why, read_all};
 use gd_disk::MemDisk;
 use group_terms::{Change, List, Octets};
 use std::alloc::Global;
 use std::test::Fail;
 use tree_journal::Journal;
+use tree_store::{Head, JournalRefusal, Stored};
 
 /// The journal of a group of depth 2 with the name `console`, in whose two batches a, b and c come in, and b goes out.
 const IMAGE: &str =
@@ -91,19 +91,35 @@ fn octets(alloc: Global, text: &str) -> Result<Octets, Fail> {
 
 #[test]
 fn a_file_of_another_implementation_is_read(rt: HostRuntime) -> Result<(), Fail> {
-    let Found { head, list, why } = found_in_image(rt.alloc())?;
+    let found = found_in_image(rt.alloc())?;
+    let stamps = stamps_of(rt.alloc(), found.list.as_slice())?;
+    assert_eq!(rt; stamps.as_slice(), [(1, 0), (2, 2)].as_slice());
+    assert_eq!(rt; found.why, None);
+    Ok(())
+}
+
+/// The epochs of batches, and the numbers of their last pushes.
+fn stamps_of(alloc: Global, list: &[Stored]) -> Result<List<(u32, u32)>, Fail> {
+    let mut stamps = List::new(alloc);
+    for stored in list {
+        stamps.push((stored.epoch, stored.sequence))?;
+    }
+    Ok(stamps)
+}
+
+#[test]
+fn its_head_is_read(rt: HostRuntime) -> Result<(), Fail> {
+    let head = head_of_image(rt.alloc())?;
     let spi = octets(rt.alloc(), SPI)?;
-    let head = head.ok_or("no head")?;
     assert_eq!(rt; (head.depth, head.limit), (2, u32::MAX));
     assert_eq!(rt; head.name.text(), b"console".as_slice());
     assert_eq!(rt; head.spi.as_slice(), spi.as_slice());
-    let mut stamps = List::new(rt.alloc());
-    for stored in list.as_slice() {
-        stamps.push((stored.epoch, stored.sequence))?;
-    }
-    assert_eq!(rt; stamps.as_slice(), [(1, 0), (2, 2)].as_slice());
-    assert_eq!(rt; why, None);
     Ok(())
+}
+
+fn head_of_image(alloc: Global) -> Result<Head, Fail> {
+    let found = found_in_image(alloc)?;
+    Ok(found.head.ok_or("no head")?)
 }
 
 fn found_in_image(alloc: Global) -> Result<Found, Fail> {
@@ -129,13 +145,14 @@ fn has_values(
     nodes: &[(u16, &str)],
     traffic: &str,
 ) -> Result<bool, Fail> {
+    let found = values_of(alloc, stored)?;
+    let due = values_due(alloc, nodes, traffic)?;
+    Ok(found.as_slice() == due.as_slice())
+}
+
+/// The values of a batch, one after another.
+fn values_of(alloc: Global, stored: &Stored) -> Result<Octets, Fail> {
     let mut found = Octets::new(alloc);
-    let mut due = Octets::new(alloc);
-    for (id, value) in nodes {
-        due.extend(&id.to_be_bytes())?;
-        due.extend(octets(alloc, value)?.as_slice())?;
-    }
-    due.extend(octets(alloc, traffic)?.as_slice())?;
     for node in stored.values.nodes.as_slice() {
         found.extend(&node.id.number().to_be_bytes())?;
         found.extend(&node.value.iv)?;
@@ -145,7 +162,18 @@ fn has_values(
     found.extend(&values.cipher_key)?;
     found.extend(&values.integrity_key)?;
     found.extend(&values.spi)?;
-    Ok(found.as_slice() == due.as_slice())
+    Ok(found)
+}
+
+/// These values, one after another.
+fn values_due(alloc: Global, nodes: &[(u16, &str)], traffic: &str) -> Result<Octets, Fail> {
+    let mut due = Octets::new(alloc);
+    for (id, value) in nodes {
+        due.extend(&id.to_be_bytes())?;
+        due.extend(octets(alloc, value)?.as_slice())?;
+    }
+    due.extend(octets(alloc, traffic)?.as_slice())?;
+    Ok(due)
 }
 
 #[test]
@@ -175,11 +203,21 @@ fn push_changes(text: &mut String, stored: &Stored) -> Result<(), Fail> {
 
 #[test]
 fn a_file_without_a_head_is_of_no_group(rt: HostRuntime) -> Result<(), Fail> {
-    let alloc = rt.alloc();
-    let journal = Journal::format(alloc, MemDisk::new(alloc))?;
-    for (disk, at) in [(MemDisk::new(alloc), 0), (journal.into_disk(), 9)] {
-        let why: Why = Some(JournalRefusal::NotAJournal { at });
-        assert_eq!(rt; read_all(alloc, disk)?.why, why);
-    }
+    let nothing = MemDisk::new(rt.alloc());
+    assert_eq!(rt; why_not_opened(rt.alloc(), nothing)?, refused_at(0));
+    let no_head = journal_without_records(rt.alloc())?;
+    assert_eq!(rt; why_not_opened(rt.alloc(), no_head)?, refused_at(9));
     Ok(())
+}
+
+fn refused_at(at: u64) -> Why {
+    Some(JournalRefusal::NotAJournal { at })
+}
+
+fn why_not_opened(alloc: Global, disk: MemDisk) -> Result<Why, Fail> {
+    Ok(read_all(alloc, disk)?.why)
+}
+
+fn journal_without_records(alloc: Global) -> Result<MemDisk, Fail> {
+    Ok(Journal::format(alloc, MemDisk::new(alloc))?.into_disk())
 }

@@ -1,15 +1,15 @@
 //! Lists of batches that are stored, opened again and read.
-ghost use Rattle.std.specs.Prelude.{◌≤◌};
+ghost use Rattle.std.specs.Prelude.{◌≤◌, IsSome, IfOk};
 
-use crate::tests::groups::{are_same, commit_all, disk_of, head_of, next_of, read_all};
-use crate::tests::numbers::Numbers;
-use crate::tests::unseen::UnseenDisk;
-use crate::{Stored, TreeStore};
+use crate::groups::{Why, are_same, commit_all, created, disk_of, head_of, next_of, read_all};
+use crate::numbers::Numbers;
+use crate::unseen::UnseenDisk;
 use gd_disk::MemDisk;
 use group_model::PresentTree;
 use group_terms::{Batch, Change, List, MOST_CHANGES, MemberName};
 use std::alloc::Global;
 use std::test::Fail;
+use tree_store::{Stored, TreeStore};
 
 #[test]
 fn lists_are_read_as_they_were_stored(rt: HostRuntime) -> Result<(), Fail> {
@@ -47,13 +47,17 @@ fn a_fourth_set_of_lists_is_read_as_it_was_stored(rt: HostRuntime) -> Result<(),
 fn is_read_as_stored(alloc: Global, seed: u64) -> Result<bool, Fail> {
     let depth = 1 + (seed % 9) as u8;
     let list = some_list(alloc, depth, &mut Numbers::new(seed))?;
-    let disk = stored(alloc, depth, list.as_slice())?;
-    let found = read_all(alloc, disk)?;
-    Ok(
-        found.head == Some(head_of(depth)?)
-            && found.why.is_none()
-            && are_same(found.list.as_slice(), list.as_slice()),
-    )
+    is_kept(alloc, depth, list.as_slice())
+}
+
+/// Whether a list is read as it was stored.
+fn is_kept(alloc: Global, depth: u8, list: &[Stored]) -> Result<bool, Fail>
+    requires shallow { 1 ≤ depth }
+    requires not_deep { depth ≤ 9 }
+{
+    let found = read_all(alloc, stored(alloc, depth, list)?)?;
+    let head = head_of(depth)?;
+    Ok(found.head == Some(head) && found.why.is_none() && are_same(found.list.as_slice(), list))
 }
 
 /// A disk with the batches of a list.
@@ -61,13 +65,27 @@ fn stored(alloc: Global, depth: u8, list: &[Stored]) -> Result<MemDisk, Fail>
     requires shallow { 1 ≤ depth }
     requires not_deep { depth ≤ 9 }
 {
-    let disk = UnseenDisk::new(MemDisk::new(alloc));
-    let mut store = TreeStore::create(alloc, disk, &head_of(depth)?)?;
+    let mut store = store_of(alloc, depth)?;
     let whys = commit_all(alloc, &mut store, list)?;
-    if whys.as_slice().iter().any(Option::is_some) {
-        return Err(Fail::new("a batch is refused"));
+    if are_done(whys.as_slice()) {
+        Ok(disk_of(store))
+    } else {
+        Err(Fail::new("a batch is refused"))
     }
-    Ok(disk_of(store))
+}
+
+/// A store of a group without a batch.
+fn store_of(alloc: Global, depth: u8) -> Result<TreeStore<UnseenDisk>, Fail>
+    requires shallow { 1 ≤ depth }
+    requires not_deep { depth ≤ 9 }
+    ensures { IfOk result (λ store. IsSome store.end) }
+{
+    let head = head_of(depth)?;
+    Ok(created(alloc, UnseenDisk::new(MemDisk::new(alloc)), &head)?)
+}
+
+fn are_done(whys: &[Why]) -> bool {
+    !whys.iter().any(Option::is_some)
 }
 
 /// A valid list of 1 to 40 batches.

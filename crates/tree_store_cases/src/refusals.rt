@@ -1,14 +1,14 @@
 //! Records that are not due.
 ghost use Rattle.std.specs.Prelude.{◌≤◌, length};
 
-use crate::JournalRefusal;
-use crate::tests::groups::{Why, read_all};
-use crate::tests::images::image;
+use crate::groups::{Why, read_all};
+use crate::images::image;
 use gd_disk::MemDisk;
 use group_terms::{List, Octets};
 use std::alloc::Global;
 use std::test::Fail;
 use tree_journal::Journal;
+use tree_store::JournalRefusal;
 
 /// A change of a record: at a place so many octets are taken out, and these put there.
 type Change = (usize, usize, &'static [u8]);
@@ -119,14 +119,18 @@ const NOT_DUE: [(&str, &[Change]); 15] = [
 
 #[test]
 fn a_batch_that_is_not_due_is_refused(rt: HostRuntime) -> Result<(), Fail> {
-    let alloc = rt.alloc();
-    let good = good_records(alloc)?;
+    let good = good_records(rt.alloc())?;
     for (case, changes) in NOT_DUE {
-        let second = changed(alloc, &good.second, changes)?;
-        let found = read(alloc, &[&good.head, &good.first, &second])?;
+        let found = read_second(rt.alloc(), &good, changes)?;
         assert_eq!(rt; found, refused(1, 328), "{case}");
     }
     Ok(())
+}
+
+/// What is read where the second batch has changes.
+fn read_second(alloc: Global, good: &Good, changes: &[Change]) -> Result<(usize, Why), Fail> {
+    let second = changed(alloc, &good.second, changes)?;
+    read(alloc, &[&good.head, &good.first, &second])
 }
 
 #[test]
@@ -150,11 +154,16 @@ const NO_HEADS: [&[Change]; 3] = [
 fn a_head_out_of_its_bounds_is_refused(rt: HostRuntime) -> Result<(), Fail> {
     let good = good_records(rt.alloc())?;
     for changes in NO_HEADS {
-        let head = changed(rt.alloc(), &good.head, changes)?;
-        let found = read(rt.alloc(), &[&head, &good.first])?;
+        let found = read_head(rt.alloc(), &good, changes)?;
         assert_eq!(rt; found, refused(0, 9), "{changes:?}");
     }
     Ok(())
+}
+
+/// What is read where the head has changes, and one batch comes after it.
+fn read_head(alloc: Global, good: &Good, changes: &[Change]) -> Result<(usize, Why), Fail> {
+    let head = changed(alloc, &good.head, changes)?;
+    read(alloc, &[&head, &good.first])
 }
 
 /// The second batch without its change, as epoch 1 or 2 of a group without a member, and as epoch 3 after both batches.
@@ -184,39 +193,56 @@ const THIRD_EMPTY: &[Change] = &[
 /// Where nobody is a member, no number is used, so that the epoch alone is past the limit.
 #[test]
 fn an_epoch_past_the_limit_is_refused(rt: HostRuntime) -> Result<(), Fail> {
-    let alloc = rt.alloc();
-    let good = good_records(alloc)?;
-    let first = changed(alloc, &good.second, FIRST_EMPTY)?;
-    let second = changed(alloc, &good.second, SECOND_EMPTY)?;
+    let good = good_records(rt.alloc())?;
     for (limit, want) in [(b"\0\0\0\x01", refused(1, 149)), (b"\0\0\0\x02", (2, None))] {
-        let head = changed(alloc, &good.head, &[(19, 4, limit)])?;
-        assert_eq!(rt; read(alloc, &[&head, &first, &second])?, want);
+        assert_eq!(rt; read_empty(rt.alloc(), &good, limit)?, want);
     }
     Ok(())
+}
+
+/// What is read of two batches without a change, in a group with a limit.
+fn read_empty(alloc: Global, good: &Good, limit: &[u8; 4]) -> Result<(usize, Why), Fail> {
+    let head = limited(alloc, good, limit)?;
+    let first = changed(alloc, &good.second, FIRST_EMPTY)?;
+    let second = changed(alloc, &good.second, SECOND_EMPTY)?;
+    read(alloc, &[&head, &first, &second])
+}
+
+/// The head of a group with a limit.
+fn limited(alloc: Global, good: &Good, limit: &[u8; 4]) -> Result<Octets, Fail> {
+    changed_once(alloc, good.head.as_slice(), 19, 4, limit)
 }
 
 #[test]
 fn a_number_past_the_limit_is_refused(rt: HostRuntime) -> Result<(), Fail> {
-    let alloc = rt.alloc();
-    let good = good_records(alloc)?;
-    let third = changed(alloc, &good.second, THIRD_EMPTY)?;
+    let good = good_records(rt.alloc())?;
     for (limit, want) in [(b"\0\0\0\x03", refused(2, 469)), (b"\0\0\0\x04", (3, None))] {
-        let head = changed(alloc, &good.head, &[(19, 4, limit)])?;
-        let found = read(alloc, &[&head, &good.first, &good.second, &third])?;
-        assert_eq!(rt; found, want);
+        assert_eq!(rt; read_three(rt.alloc(), &good, limit)?, want);
     }
     Ok(())
 }
 
+/// What is read of both batches and one without a change, in a group with a limit.
+fn read_three(alloc: Global, good: &Good, limit: &[u8; 4]) -> Result<(usize, Why), Fail> {
+    let head = limited(alloc, good, limit)?;
+    let third = changed(alloc, &good.second, THIRD_EMPTY)?;
+    read(alloc, &[&head, &good.first, &good.second, &third])
+}
+
 #[test]
 fn a_batch_of_33_changes_is_refused(rt: HostRuntime) -> Result<(), Fail> {
-    let alloc = rt.alloc();
-    let head = changed(alloc, &good_records(alloc)?.head, &[(2, 1, b"\x06")])?;
+    let good = good_records(rt.alloc())?;
     for (count, want) in [(32, (1, None)), (33, refused(0, 45))] {
-        let first = joins(alloc, count)?;
-        assert_eq!(rt; read(alloc, &[&head, &first])?, want);
+        assert_eq!(rt; read_joins(rt.alloc(), &good, count)?, want);
     }
     Ok(())
+}
+
+/// What is read of a batch in which so many come in, in a group of depth 6.
+fn read_joins(alloc: Global, good: &Good, count: u8) -> Result<(usize, Why), Fail> {
+    let head = changed_once(alloc, good.head.as_slice(), 2, 1, b"\x06")?;
+    let first = joins(alloc, count)?;
+    read(alloc, &[&head, &first])
 }
 
 /// The first batch of a group of depth 6, in which so many come in, of at most 64.
