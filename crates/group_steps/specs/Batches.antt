@@ -1,0 +1,75 @@
+-- What waits becomes a batch.
+use Rattle.std.specs.Prelude.{◌≡◌, ◌⊎◌, ℕ, ◌≤◌, List, [], ◌∷◌, ◌++◌, All, None, Some}
+use Rattle.gd_disk.specs.declared.disks.Disk.{Ghosts as DiskGhosts}
+use Rattle.gd_edges.specs.declared.signers.Signer.{Ghosts as SignerGhosts}
+use Rattle.group_values.specs.Drawing.{blocks_for}
+use Rattle.group_values.specs.Values.{Made, batches_made}
+use Rattle.group_model.specs.Legal.{IsOutputOf}
+use Rattle.group_model.specs.Servers.{Server, after_draws, coming_batch, coming_positions, coming_values, in_doubt, refusal_to_batch, with_batch}
+use Rattle.group_model.specs.declared.entries.Answer.{Answer}
+use Rattle.group_model.specs.declared.entries.Answer.TheVariants.{Batched, Refused}
+use Rattle.group_model.specs.declared.entries.Output.{Output}
+use Rattle.group_model.specs.declared.entries.Outside.{Outside}
+use Rattle.group_model.specs.declared.entries.Refusal.{Refusal}
+use Rattle.group_model.specs.declared.entries.Refusal.TheVariants.{DiskFault, NoMemory}
+use Rattle.group_model.specs.declared.entries.SentReply.{SentReply}
+use Rattle.group_pushes.specs.Pairs.{IsPairIfStayed}
+use Rattle.group_steps.specs.Disks.{HasJournal, LeavesJournal}
+use Rattle.group_steps.specs.Outsides.{Says, failing, quiet}
+use Rattle.group_steps.specs.Runs.{Run, with_disk, with_server}
+
+module _ {D G : Type 0} (d : DiskGhosts D) (g : SignerGhosts G) (signer : G) (block : ℕ → List ℕ) (run : Run D) where
+  -- what waits, with the values of the next blocks; and the batches with that one
+  abbrev pub made_next : Made
+  made_next = coming_batch run.server (coming_values run.server block)
+
+  abbrev pub list_next : List Made
+  list_next = run.server.list ++ made_next ∷ []
+
+  -- the server once these blocks were drawn
+  abbrev pub drawn_next : Server
+  drawn_next = after_draws run.server (blocks_for (coming_positions run.server))
+
+  -- what the batch puts out: what it encrypts, its two pushes octet for octet (RFC 6407 section 4), and what its replies say; no datagram is made of these
+  pub record PutsOut (output : Output) : Type 0 where
+    pub says : IsOutputOf run.server.depth (batches_made list_next) run.server.queue output
+    pub pushes : IsPairIfStayed g signer run.server.depth run.head.spi list_next output.pushes
+    pub no_datagrams : All (λ (reply : SentReply). reply.datagram ≡ []) output.replies
+
+  -- what waits becomes a batch, and is stored: from then on a crash leaves it
+  pub record IsStored (answer : Answer) (outside : Outside) (next : Run D) : Type 0 where
+    pub granted : refusal_to_batch run.server ≡ None
+    pub output : Output
+    pub puts_out : PutsOut output
+    pub answers : answer ≡ Batched output
+    pub beside : outside ≡ quiet run
+    pub now : next ≡ with_disk (with_server run (with_batch drawn_next made_next)) next.disk
+    pub journal : HasJournal d next
+    pub moments : LeavesJournal d run.disk run.head (in_doubt run.server made_next) next.disk
+
+  -- the disk failed while it was stored, and it is in doubt
+  pub record IsInDoubt (answer : Answer) (outside : Outside) (next : Run D) : Type 0 where
+    pub granted : refusal_to_batch run.server ≡ None
+    pub answers : answer ≡ Refused DiskFault
+    pub beside : outside ≡ failing run
+    pub now : next ≡ with_disk (with_server run (in_doubt drawn_next made_next)) next.disk
+    pub journal : HasJournal d next
+    pub moments : LeavesJournal d run.disk run.head (in_doubt run.server made_next) next.disk
+
+  -- it is refused, by the first reason that holds
+  pub record IsRefusedBatch (answer : Answer) (outside : Outside) (next : Run D) : Type 0 where
+    pub why : Refusal
+    pub reason : refusal_to_batch run.server ≡ Some why
+    pub says : Says (Refused why) run answer outside next
+
+  -- no memory was left, and some blocks were drawn
+  pub record RunsOut (answer : Answer) (outside : Outside) (next : Run D) : Type 0 where
+    pub answers : answer ≡ Refused NoMemory
+    pub beside : outside ≡ quiet run
+    pub n : ℕ
+    pub few : n ≤ blocks_for (coming_positions run.server)
+    pub now : next ≡ with_server run (after_draws run.server n)
+
+  abbrev pub IsBatching : Answer → Outside → Run D → Type 0
+  IsBatching answer outside next =
+      IsStored answer outside next ⊎ (IsInDoubt answer outside next ⊎ (IsRefusedBatch answer outside next ⊎ RunsOut answer outside next))

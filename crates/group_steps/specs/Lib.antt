@@ -1,0 +1,10 @@
+pub mod Batches
+pub mod Changes
+pub mod Disks
+pub mod Laws
+pub mod Members
+pub mod Openings
+pub mod Outsides
+pub mod Runs
+pub mod Sent
+pub mod Steps

@@ -1,0 +1,145 @@
+-- Making a group, and opening one from its journal.
+use Rattle.std.specs.Prelude.{◌≡◌, ◌⊎◌, ℕ, ◌≤◌, List, [], length, Option, None}
+use Rattle.gd_disk.specs.Disks.{Knows, Only}
+use Rattle.gd_disk.specs.Moments.{LeavesOnly, shown}
+use Rattle.gd_disk.specs.declared.disks.Disk.{Ghosts as DiskGhosts}
+use Rattle.gd_edges.specs.declared.signers.Signer.{Ghosts as SignerGhosts}
+use Rattle.group_values.specs.Drawing.{next_place}
+use Rattle.group_values.specs.Values.{Made, batches_made}
+use Rattle.group_model.specs.Seen.{seen_group}
+use Rattle.group_model.specs.Servers.{MayHave, after_draws, halted, opened_server}
+use Rattle.group_model.specs.declared.entries.Answer.{Answer}
+use Rattle.group_model.specs.declared.entries.Answer.TheVariants.{Opened, Refused}
+use Rattle.group_model.specs.declared.entries.Outside.{Outside}
+use Rattle.group_model.specs.declared.entries.PushPair.{PushPair}
+use Rattle.group_model.specs.declared.entries.Refusal.{Refusal}
+use Rattle.group_model.specs.declared.entries.Refusal.TheVariants.{DiskFault, NotAJournal, NoMemory}
+use Rattle.group_pushes.specs.Pairs.{IsPairIfStayed}
+use Rattle.group_records.specs.declared.heads.Head.{Head}
+use Rattle.tree_store.specs.Groups.{IsGroup, IsNoGroup, MakesGroup}
+use Rattle.gcks_core.specs.Stored.{AreDue, stored_list}
+use Rattle.group_steps.specs.Disks.{HasJournal, LeavesJournal}
+use Rattle.group_steps.specs.Outsides.{beside_refusal, finding}
+use Rattle.group_steps.specs.Runs.{Run, with_disk, with_server}
+
+-- ---- the making of a group
+
+module _ {D : Type 0} (d : DiskGhosts D) (block : ℕ → List ℕ) where
+  -- its head, with the next block as the SPI
+  abbrev pub head_made : Run D → ℕ → Head
+  head_made run depth = record run.head { depth = depth; spi = block run.server.place }
+
+  -- a group is made, without a batch
+  pub record Makes (depth : ℕ) (run : Run D) (answer : Answer) (outside : Outside) (next : Run D) : Type 0 where
+    pub answers : answer ≡ Opened (seen_group depth []) None
+    pub beside : outside ≡ finding run 0
+    pub now : next ≡ record run {
+      disk = next.disk;
+      head = head_made run depth;
+      server = opened_server depth run.head.limit [] (next_place run.server.place);
+    }
+    pub journal : HasJournal d next
+
+  -- The disk failed, or no memory was left; the SPI may be drawn. Where no memory was left, the disk is untouched.
+  pub record FailsToMake (run : Run D) (answer : Answer) (outside : Outside) (next : Run D) : Type 0 where
+    pub why : Refusal
+    pub causes : (why ≡ DiskFault) ⊎ ((why ≡ NoMemory) × (next.disk ≡ run.disk))
+    pub answers : answer ≡ Refused why
+    pub beside : outside ≡ beside_refusal run why
+    pub n : ℕ
+    pub few : n ≤ 1
+    pub now : next ≡ with_disk (with_server run (after_draws run.server n)) next.disk
+
+  -- A group is made, or that fails. Until the disk is first synced, a crash leaves what the old file can be cut to; then no journal, or the group.
+  pub record IsCreation (depth : ℕ) (run : Run D) (answer : Answer) (outside : Outside) (next : Run D) : Type 0 where
+    pub shallow : 1 ≤ depth
+    pub deep : depth ≤ 9
+    pub limited : 1 ≤ run.head.limit
+    pub ends : Makes depth run answer outside next ⊎ FailsToMake run answer outside next
+    pub moments : Knows (shown d run.disk) (λ file. MakesGroup d (head_made run depth) run.disk next.disk)
+
+-- ---- what is found in a journal
+
+-- what an opening found: the head of a group, and the batches that made its epochs, with the values of their keys
+pub record Found : Type 0 where
+  pub head : Head
+  pub list : List Made
+
+-- a group that a journal can have: a tree of depth 1 to 9, and batches of which each was due after those before it
+pub record IsGroupFound (found : Found) : Type 0 where
+  pub shallow : 1 ≤ found.head.depth
+  pub deep : found.head.depth ≤ 9
+  pub due : AreDue found.head.depth found.head.limit found.list
+
+-- it is the group that a run has, with the batches that its journal may have
+pub record IsSame {D : Type 0} (run : Run D) (found : Found) : Type 0 where
+  pub head : found.head ≡ run.head
+  pub batches : MayHave run.server found.list
+
+-- a run that goes on with what was found; no change waits, and the place of the draws stays
+abbrev pub opened_run : {D : Type 0} → Run D → Found → D → Run D
+opened_run run found disk = record run {
+  disk = disk;
+  head = found.head;
+  server = opened_server found.head.depth found.head.limit found.list run.server.place;
+}
+
+module _ {D G : Type 0} (d : DiskGhosts D) (g : SignerGhosts G) (signer : G) where
+  -- An opening found this: it shows the group as its batches made it, and the pair of the last one is sent again, if that sent one.
+  pub record FindsGroup (run : Run D) (found : Found) (answer : Answer) (outside : Outside) (next : Run D) : Type 0 where
+    pub group : IsGroupFound found
+    pub was_there : Knows (shown d run.disk) (λ file. IsGroup file found.head (stored_list found.head.depth found.list))
+    pub resent : Option PushPair
+    pub pair : IsPairIfStayed g signer found.head.depth found.head.spi found.list resent
+    pub answers : answer ≡ Opened (seen_group found.head.depth (batches_made found.list)) resent
+    pub beside : outside ≡ finding run (length found.list)
+    pub now : next ≡ opened_run run found next.disk
+    pub journal : HasJournal d next
+
+  -- ---- the first opening of a group
+
+  -- a group is opened from its journal
+  pub record Begins (run : Run D) (answer : Answer) (outside : Outside) (next : Run D) : Type 0 where
+    pub found : Found
+    pub finds : FindsGroup run found answer outside next
+
+  -- the disk has the journal of no group, and that is what a crash leaves
+  abbrev pub HasNoJournal : Run D → ℕ → Run D → Type 0
+  HasNoJournal run at next = Knows (shown d run.disk) (λ file. IsNoGroup file at × Only file (d.may_leave next.disk))
+
+  -- the disk failed, no memory was left, or there is no journal
+  pub record FailsToBegin (run : Run D) (answer : Answer) (outside : Outside) (next : Run D) : Type 0 where
+    pub why : Refusal
+    pub causes : (why ≡ DiskFault) ⊎ ((why ≡ NoMemory) ⊎ ((at : ℕ) × (why ≡ NotAJournal at) × HasNoJournal run at next))
+    pub answers : answer ≡ Refused why
+    pub beside : outside ≡ beside_refusal run why
+    pub now : next ≡ with_disk run next.disk
+
+  -- a group is opened, or that fails. The file stays as it is, and a crash leaves what it might have left before
+  pub record IsBeginning (run : Run D) (answer : Answer) (outside : Outside) (next : Run D) : Type 0 where
+    pub ends : Begins run answer outside next ⊎ FailsToBegin run answer outside next
+    pub same_file : shown d next.disk ≡ shown d run.disk
+    pub moments : Knows (shown d run.disk) (λ file. LeavesOnly d run.disk next.disk (d.may_leave run.disk))
+
+  -- ---- opening it again
+
+  -- It is opened from its journal again. Where the disk is honest and exposes its octets, it is the same group.
+  pub record Reopens (run : Run D) (answer : Answer) (outside : Outside) (next : Run D) : Type 0 where
+    pub found : Found
+    pub finds : FindsGroup run found answer outside next
+    pub same : Knows (shown d run.disk) (λ file. IsSame run found)
+
+  -- The disk failed, no memory was left, or there is no journal, which never is so of an honest disk that exposes its octets.
+  pub record FailsToReopen (run : Run D) (answer : Answer) (outside : Outside) (next : Run D) : Type 0 where
+    pub why : Refusal
+    pub causes : (why ≡ DiskFault) ⊎ ((why ≡ NoMemory) ⊎ ((at : ℕ) × (why ≡ NotAJournal at) × Knows (shown d run.disk) (λ file. ⊥)))
+    pub answers : answer ≡ Refused why
+    pub beside : outside ≡ beside_refusal run why
+    pub now : next ≡ with_disk (with_server run (halted run.server)) next.disk
+    pub journal : HasJournal d next
+
+  -- it is opened again, or still has to be; the file stays as it is
+  pub record IsOpeningAgain (run : Run D) (answer : Answer) (outside : Outside) (next : Run D) : Type 0 where
+    pub ends : Reopens run answer outside next ⊎ FailsToReopen run answer outside next
+    pub same_file : shown d next.disk ≡ shown d run.disk
+    pub moments : LeavesJournal d run.disk run.head run.server next.disk
