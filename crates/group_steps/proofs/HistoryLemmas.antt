@@ -24,7 +24,7 @@ known_still true false had has same exposed known = absurd (false≢true same)
 known_still false now had has same exposed known = absurd (false≢true known)
 
 module _ {D : Type 0} (d : DiskGhosts D) where
-  shown_still : (old new : D) → Keeps d old new → IsSome (shown d old) → IsSome (shown d new)
+  pub shown_still : (old new : D) → Keeps d old new → IsSome (shown d old) → IsSome (shown d new)
   shown_still old new keeps = known_still (d.honest old) (d.honest new) (d.image old) (d.image new) keeps.honest keeps.exposed
 
   -- what is sure of a history is sure of its first entry

@@ -1,8 +1,12 @@
 pub mod BatchLemmas
 pub mod ChangeLemmas
+pub mod CountLemmas
+pub mod CrashLemmas
 pub mod HistoryLemmas
+pub mod JournalLemmas
 pub mod MemberLemmas
 pub mod NamedLemmas
+pub mod OpenedLemmas
 pub mod OpeningLemmas
 pub mod SoundLemmas
 pub mod StepLemmas

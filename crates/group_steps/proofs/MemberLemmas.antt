@@ -24,7 +24,7 @@ use Rattle.group_steps.specs.Sent.{SentPush, last_push}
 use Rattle.group_steps.proofs.NamedLemmas.{Goes, IsAtHead, goes_by, nothing_beside}
 
 -- one of two, by a test
-either_case : (b : Bool) (P Q R : Type 0) → MatchBool b P Q → (P → R) → (Q → R) → R
+pub either_case : (b : Bool) (P Q R : Type 0) → MatchBool b P Q → (P → R) → (Q → R) → R
 either_case true P Q R given first second = first given
 either_case false P Q R given first second = second given
 

@@ -89,7 +89,7 @@ abbrev pub reading_of : Found → Reading
 reading_of found = record { depth = found.head.depth; batches = batches_made found.list }
 
 -- a file that is shown is some file
-some_file : (octets : Option (List ℕ)) → IsSome octets → (file : List ℕ) × (octets ≡ Some file)
+pub some_file : (octets : Option (List ℕ)) → IsSome octets → (file : List ℕ) × (octets ≡ Some file)
 some_file None some = absurd (false≢true some)
 some_file (Some file) some = (file, refl)
 

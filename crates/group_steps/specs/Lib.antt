@@ -1,5 +1,7 @@
 pub mod Batches
 pub mod Changes
+pub mod Counts
+pub mod Crashes
 pub mod Disks
 pub mod Laws
 pub mod Members

@@ -1,0 +1,64 @@
+-- What a crash leaves of a group at any moment of a history.
+use Rattle.std.specs.Prelude.{◌≡◌, ◌⊎◌, ℕ, true, List, [], ◌∷◌, ◌++◌, None}
+use Rattle.gd_disk.specs.Disks.{Knows}
+use Rattle.gd_disk.specs.Moments.{LeavesOnly, shown}
+use Rattle.gd_disk.specs.declared.disks.Disk.{Ghosts as DiskGhosts}
+use Rattle.gd_edges.specs.declared.signers.Signer.{Ghosts as SignerGhosts}
+use Rattle.gd_edges.specs.declared.verifiers.Verifier.{Ghosts as VerifierGhosts}
+use Rattle.group_values.specs.Values.{Made}
+use Rattle.group_model.specs.Legal.{is_open, opens}
+use Rattle.group_model.specs.Servers.{in_doubt, refusal_to_batch}
+use Rattle.group_model.specs.declared.entries.Asked.TheVariants.{Batch}
+use Rattle.group_model.specs.declared.entries.Entry.{Entry}
+use Rattle.tree_store.specs.Groups.{IsGroup}
+use Rattle.gcks_core.specs.Stored.{IsFileOf, stored_list}
+use Rattle.group_steps.specs.Batches.{made_next}
+use Rattle.group_steps.specs.Disks.{HasJournal}
+use Rattle.group_steps.specs.Runs.{Run}
+use Rattle.group_steps.specs.Steps.{AreRunSteps, IsRunStep}
+
+module _ {D : Type 0} where
+  -- the next entry asks for a batch, and that is granted
+  abbrev pub IsToWrite : Run D → List Entry → Type 0
+  IsToWrite run [] = ⊥
+  IsToWrite run (entry ∷ later) = (entry.asked ≡ Batch) × (refusal_to_batch run.server ≡ None)
+
+  -- an image is the journal of the group, with the batches that a run has, and maybe later ones
+  abbrev pub HasAtLeast : Run D → List ℕ → Type 0
+  HasAtLeast run c = (later : List Made) × IsGroup c run.head (stored_list run.head.depth (run.server.list ++ later))
+
+module _ {D G V : Type 0} (d : DiskGhosts D) (g : SignerGhosts G) (signer : G) (v : VerifierGhosts V) (verifier : V)
+    (block : ℕ → List ℕ) where
+  -- An image is the journal of the group that a run has, with the batches that it may have at a moment of its history: after some of the
+  -- entries, or while the batch is written that the next entry asks for.
+  pub record IsOfMoment (before : List Entry) (run : Run D) (entries : List Entry) (after : Run D) (c : List ℕ) : Type 0 where
+    pub front : List Entry
+    pub later : List Entry
+    pub is : entries ≡ front ++ later
+    pub mid : Run D
+    pub so_far : AreRunSteps d g signer v verifier block before run front mid
+    pub goes_on : AreRunSteps d g signer v verifier block (before ++ front) mid later after
+    pub image : IsFileOf run.head mid.server c
+        ⊎ (IsToWrite mid later × IsFileOf run.head (in_doubt mid.server (made_next d g signer block mid)) c)
+
+  -- A group that was made, or first opened, has a journal.
+  abbrev pub OpenedHaveJournals : Type 0
+  OpenedHaveJournals =
+      (before : List Entry) (start : Run D) (entry : Entry) (run : Run D)
+      → opens entry.asked ≡ true → is_open entry.answer ≡ true
+      → IsRunStep d g signer v verifier block before start entry run → HasJournal d run
+
+  -- what a history does to the journal of a group that was opened before
+  pub record LeavesMoments (before : List Entry) (run : Run D) (entries : List Entry) (after : Run D) : Type 0 where
+    pub journal : HasJournal d after
+    pub head : Knows (shown d run.disk) (λ file. after.head ≡ run.head)
+    pub moments : Knows (shown d run.disk) (λ file. LeavesOnly d run.disk after.disk (IsOfMoment before run entries after))
+    pub kept : Knows (shown d run.disk) (λ file. LeavesOnly d run.disk after.disk (HasAtLeast run))
+
+  -- Where the disk is honest and exposes its octets, a crash at any moment of a history leaves the group as it was at that moment. Batches
+  -- that were stored before are in every image that is left since.
+  abbrev pub CrashesLeaveMoments : Type 0
+  CrashesLeaveMoments =
+      (first : Entry) (before : List Entry) (run : Run D) (entries : List Entry) (after : Run D)
+      → AreRunSteps d g signer v verifier block (first ∷ before) run entries after → HasJournal d run
+      → LeavesMoments (first ∷ before) run entries after
