@@ -30,7 +30,7 @@ pub(crate) fn next_argument<'a>(
 ) -> Option<(Argument, &'a [String])>
     ensures argument { MatchOption result (arguments_of (word.now ∷ map string_bytes after.now) ≡ None)
         (λ next. arguments_of (word.now ∷ map string_bytes after.now)
-            ≡ followed_by (Some next.0) (arguments_of (map string_bytes next.1.now))) }
+        ≡ followed_by (Some next.0) (arguments_of (map string_bytes next.1.now))) }
     ensures goes { IfSome result (λ next. length next.1.now ≤ length after.now) }
     ensures allowed { IfSome result (λ next. IsAllowed next.0) }
 {
