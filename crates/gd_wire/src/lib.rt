@@ -22,17 +22,11 @@ pub use text_laws::{a_payload_is_its_head_and_its_body, written_framing_is_octet
 
 mod attributes;
 mod bodies;
-#[cfg(test)]
-mod body_tests;
 mod chains;
 mod faults;
 mod headers;
 mod laws;
-#[cfg(test)]
-mod payload_tests;
 mod payloads;
 mod readers;
 mod rooms;
-#[cfg(test)]
-mod tests;
 mod text_laws;

@@ -1,23 +1,38 @@
+//! Bodies of payloads, and room for them.
 ghost use Rattle.std.specs.Prelude.{◌+◌, ◌≤◌, length, IfSome};
 
-use crate::{
+use gd_wire::{
     Part, Room, WireFault, WireWhat, read_chain, write_identification, write_payload,
     write_sequence,
 };
 use group_terms::List;
 use std::test::Fail;
 
-/// The ID payload of the group `console`, the last of its message, and the SEQ payload of the number 1, with an SA payload after it.
+/// The ID payload of the group `console`, the last of its message.
+const CONSOLE: [u8; 15] = [
+    0x00, 0x00, 0x00, 0x0f, 0x0b, 0x00, 0x00, 0x00, 0x63, 0x6f, 0x6e, 0x73, 0x6f, 0x6c, 0x65,
+];
+
+/// The SEQ payload of the number 1, with an SA payload after it.
+const FIRST_PUSH: [u8; 12] = [
+    0x01, 0x00, 0x00, 0x08, 0x00, 0x00, 0x00, 0x01, 0x00, 0x00, 0x00, 0x04,
+];
+
 #[test]
-fn known_payloads_are_written(rt: HostRuntime) -> Result<(), Fail> {
+fn a_known_identification_is_written(rt: HostRuntime) -> Result<(), Fail> {
     let mut body = List::new(rt.alloc());
     write_identification(11, b"console", &mut body)?;
     let mut text = List::new(rt.alloc());
     write_payload(0, body.as_slice(), &mut text)?;
     assert_eq!(rt; text.as_slice(), CONSOLE.as_slice());
-    body.clear();
+    Ok(())
+}
+
+#[test]
+fn a_known_sequence_number_is_written(rt: HostRuntime) -> Result<(), Fail> {
+    let mut body = List::new(rt.alloc());
     write_sequence(1, &mut body)?;
-    text.clear();
+    let mut text = List::new(rt.alloc());
     write_payload(1, body.as_slice(), &mut text)?;
     assert_eq!(rt; text.as_slice(), &FIRST_PUSH[..8]);
     Ok(())
@@ -25,23 +40,22 @@ fn known_payloads_are_written(rt: HostRuntime) -> Result<(), Fail> {
 
 /// The same payloads, read.
 #[test]
-fn known_payloads_are_read(rt: HostRuntime) -> Result<(), Fail> {
-    let read = read_chain(5, &[5], &CONSOLE, 28).map_err(|_| "a fault")?;
-    let part = read.parts().first().ok_or("an ID payload")?;
-    assert_eq!(rt; identified(part, &CONSOLE), Some(11));
-    let read = read_chain(18, &[18, 1], &FIRST_PUSH, 28).map_err(|_| "a fault")?;
-    let part = read.parts().first().ok_or("a SEQ payload")?;
-    assert_eq!(rt; numbered(part, &FIRST_PUSH), Some(1));
-    Ok(())
+fn known_payloads_are_read(rt: HostRuntime) {
+    let found = first_part(5, &[5], &CONSOLE).and_then(|part| identified(&part, &CONSOLE));
+    assert_eq!(rt; found, Some(11));
+    let found = first_part(18, &[18, 1], &FIRST_PUSH).and_then(|part| numbered(&part, &FIRST_PUSH));
+    assert_eq!(rt; found, Some(1));
 }
 
-const CONSOLE: [u8; 15] = [
-    0x00, 0x00, 0x00, 0x0f, 0x0b, 0x00, 0x00, 0x00, 0x63, 0x6f, 0x6e, 0x73, 0x6f, 0x6c, 0x65,
-];
-
-const FIRST_PUSH: [u8; 12] = [
-    0x01, 0x00, 0x00, 0x08, 0x00, 0x00, 0x00, 0x01, 0x00, 0x00, 0x00, 0x04,
-];
+/// Where the first payload of a chain is.
+fn first_part(first: u8, due: &[u8], text: &[u8]) -> Option<Part>
+    requires some { 1 ≤ length due.now }
+    requires few { length due.now ≤ 2 }
+    requires small { length text.now ≤ 15 }
+{
+    let read = read_chain(first, due, text, 28).ok()?;
+    read.parts().first().copied()
+}
 
 /// The type of an identification that is `console`.
 fn identified(part: &Part, text: &[u8]) -> Option<u8> {

@@ -1,19 +1,26 @@
-use crate::{write_padding, write_payload, write_payload_head};
+//! Headers of payloads, and the zeros that fill a block.
+use gd_wire::{write_padding, write_payload, write_payload_head};
 use group_terms::List;
 use std::test::Fail;
 
-/// The payload with sequence number 1, after which an SA payload comes: at once, and the header before the body.
+/// The payload with sequence number 1, after which an SA payload comes.
+const NUMBER: [u8; 8] = [1, 0, 0, 8, 0, 0, 0, 1];
+
+#[test]
+fn a_payload_is_written(rt: HostRuntime) -> Result<(), Fail> {
+    let mut whole = List::new(rt.alloc());
+    write_payload(1, &[0, 0, 0, 1], &mut whole)?;
+    assert_eq!(rt; whole.as_slice(), NUMBER.as_slice());
+    Ok(())
+}
+
+/// Its header before its body.
 #[test]
 fn a_payload_is_written_in_two_steps(rt: HostRuntime) -> Result<(), Fail> {
-    let alloc = rt.alloc();
-    let due = [1, 0, 0, 8, 0, 0, 0, 1];
-    let mut whole = List::new(alloc);
-    write_payload(1, &[0, 0, 0, 1], &mut whole)?;
-    assert_eq!(rt; whole.as_slice(), due.as_slice());
-    let mut steps = List::new(alloc);
+    let mut steps = List::new(rt.alloc());
     write_payload_head(1, 4, &mut steps)?;
     steps.extend(&[0, 0, 0, 1])?;
-    assert_eq!(rt; steps.as_slice(), due.as_slice());
+    assert_eq!(rt; steps.as_slice(), NUMBER.as_slice());
     Ok(())
 }
 
