@@ -31,11 +31,7 @@ mod sealing;
 mod sizes;
 mod spans;
 mod spis;
-#[cfg(test)]
-mod tests;
 mod text_laws;
-#[cfg(test)]
-mod text_tests;
 mod texts;
 mod traffic;
 mod updates;

@@ -1,9 +1,11 @@
-use crate::{
+//! Sizes of bodies, and what says that values fit.
+use group_terms::Octets;
+use kd_wire::{
     Keyed, LkhId, NodeValue, Path, PathKey, TrafficValue, WrapJob, job_fits, path_key_fits,
     path_keys_fit, reply_kd_size, spi_fits, traffic_fits, traffic_kd_size, update_kd_size,
     write_reply_kd, write_traffic_kd, write_update, write_update_kd,
 };
-use group_terms::List;
+use std::alloc::Global;
 use std::test::Fail;
 
 const TRAFFIC: TrafficValue = TrafficValue {
@@ -16,37 +18,55 @@ const TRAFFIC: TrafficValue = TrafficValue {
 /// (RFC 6407 section 5.6); four of these are its header.
 #[test]
 fn bodies_have_their_sizes(rt: HostRuntime) -> Result<(), Fail> {
-    assert_eq!(rt; 4 + traffic_kd_size(&TRAFFIC), 73);
-    assert_eq!(rt;
-        (update_kd_size(0), update_kd_size(1), update_kd_size(290)),
-        (25, 89, 18_585)
-    );
     assert_eq!(rt; 4 + reply_kd_size(&keyed(2)?), 102 + 48 * 2);
     assert_eq!(rt; 4 + reply_kd_size(&keyed(16)?), 102 + 48 * 16);
     Ok(())
 }
 
+#[test]
+fn bodies_without_a_path_have_their_sizes(rt: HostRuntime) {
+    assert_eq!(rt; 4 + traffic_kd_size(&TRAFFIC), 73);
+    let updates = (update_kd_size(0), update_kd_size(1), update_kd_size(290));
+    assert_eq!(rt; updates, (25, 89, 18_585));
+}
+
 /// The same of what is written.
 #[test]
 fn written_bodies_have_their_sizes(rt: HostRuntime) -> Result<(), Fail> {
-    let alloc = rt.alloc();
-    let mut traffic = List::new(alloc);
-    write_traffic_kd(&TRAFFIC, &mut traffic)?;
-    let mut reply = List::new(alloc);
-    write_reply_kd(&keyed(16)?, &mut reply)?;
-    let mut arrays = List::new(alloc);
+    let arrays = two_arrays(rt.alloc())?;
+    assert_eq!(rt; arrays.len(), 128);
+    assert_eq!(rt; size_of_updates(rt.alloc(), &arrays)?, 153);
+    assert_eq!(rt; size_of_traffic(rt.alloc())?, 69);
+    assert_eq!(rt; size_of_reply(rt.alloc())?, 866);
+    Ok(())
+}
+
+fn two_arrays(alloc: Global) -> Result<Octets, Fail> {
+    let mut arrays = Octets::new(alloc);
     write_update(&job()?, &mut arrays)?;
     write_update(&job()?, &mut arrays)?;
+    Ok(arrays)
+}
+
+fn size_of_updates(alloc: Global, arrays: &Octets) -> Result<usize, Fail> {
     if arrays.len() > 65_000 {
         return Err("more than a payload holds".into());
     }
-    let mut updates = List::new(alloc);
+    let mut updates = Octets::new(alloc);
     write_update_kd(&[9; 16], arrays.as_slice(), &mut updates)?;
-    assert_eq!(rt;
-        (traffic.len(), reply.len(), arrays.len(), updates.len()),
-        (69, 866, 128, 153)
-    );
-    Ok(())
+    Ok(updates.len())
+}
+
+fn size_of_traffic(alloc: Global) -> Result<usize, Fail> {
+    let mut traffic = Octets::new(alloc);
+    write_traffic_kd(&TRAFFIC, &mut traffic)?;
+    Ok(traffic.len())
+}
+
+fn size_of_reply(alloc: Global) -> Result<usize, Fail> {
+    let mut reply = Octets::new(alloc);
+    write_reply_kd(&keyed(16)?, &mut reply)?;
+    Ok(reply.len())
 }
 
 /// What says that values fit does nothing else.
