@@ -24,10 +24,4 @@ mod nonces;
 mod opening;
 mod readers;
 mod reading;
-#[cfg(test)]
-mod row_tests;
-#[cfg(test)]
-mod shape_tests;
-#[cfg(test)]
-mod tests;
 mod writers;

@@ -1,10 +1,11 @@
 //! The pulls of three members of one group, whose octets another implementation wrote: what is read of them is written again as the same
 //! octets.
-use crate::{
+use crate::known::{nonce, octets};
+use group_terms::MemberName;
+use pull_msgs::{
     GroupName, Keyed, Nonce, Octets, Phase1, Second, next_iv, read_fourth, read_second,
     write_first, write_fourth, write_second, write_third,
 };
-use group_terms::MemberName;
 use std::alloc::Global;
 use std::test::Fail;
 
@@ -90,12 +91,6 @@ const ROWS: [Row; 3] = [
     },
 ];
 
-fn octets<const N: usize>(text: &str) -> Result<[u8; N], Fail> {
-    let mut octets = [0; N];
-    hex::decode_to_slice(text, &mut octets)?;
-    Ok(octets)
-}
-
 fn phase(row: &Row) -> Result<Phase1, Fail> {
     Ok(Phase1 {
         member: MemberName::default(),
@@ -127,6 +122,16 @@ fn second_again(alloc: Global, row: &Row, ni: &Nonce) -> Result<(Second, Octets)
     Ok((read, written))
 }
 
+/// The IV of the keys.
+fn third_iv(alloc: Global, row: &Row, ni: &Nonce, second: &Second) -> Result<[u8; 16], Fail> {
+    let (phase, message) = (phase(row)?, octets(row.message)?);
+    let third = write_third(alloc, &phase, &message, &second.next_iv, ni, &second.nr)?;
+    if third.len() < 16 {
+        return Err("a short message".into());
+    }
+    Ok(next_iv(third.as_slice()))
+}
+
 /// The keys, read and written again.
 fn fourth_again(
     alloc: Global,
@@ -134,34 +139,46 @@ fn fourth_again(
     ni: &Nonce,
     second: &Second,
 ) -> Result<(Keyed, Octets), Fail> {
+    let iv = third_iv(alloc, row, ni, second)?;
     let (phase, message) = (phase(row)?, octets(row.message)?);
-    let third = write_third(alloc, &phase, &message, &second.next_iv, ni, &second.nr)?;
-    if third.len() < 16 {
-        return Err("a short message".into());
-    }
-    let iv = next_iv(third.as_slice());
-    let kek = second.policy.kek.ok_or("no policy")?;
-    let (nr, spi) = (&second.nr, &kek.spi);
+    let spi = second.policy.kek.ok_or("no policy")?.spi;
     let text = octets::<332>(row.fourth)?;
-    let read = read_fourth(alloc, &text, &phase, &message, &iv, ni, nr, spi);
+    let nr = &second.nr;
+    let read = read_fourth(alloc, &text, &phase, &message, &iv, ni, nr, &spi);
     let keyed = read.map_err(|_| "refused")?;
     let written = write_fourth(alloc, &phase, &message, &iv, ni, nr, &keyed)?;
     Ok((keyed, written))
 }
 
 #[test]
-fn what_is_read_is_written_again(rt: HostRuntime) -> Result<(), Fail> {
-    let alloc = rt.alloc();
+fn answers_are_written_again(rt: HostRuntime) -> Result<(), Fail> {
     for row in ROWS {
-        let ni = Nonce::read(&octets::<16>(row.ni)?).ok_or("a nonce")?;
-        let (second, written) = second_again(alloc, &row, &ni)?;
+        let written = second_written(rt.alloc(), &row)?;
         assert_eq!(rt; written.as_slice(), octets::<236>(row.second)?.as_slice());
-        let (keyed, written) = fourth_again(alloc, &row, &ni, &second)?;
-        assert_eq!(rt; written.as_slice(), octets::<332>(row.fourth)?.as_slice());
-        assert_eq!(rt;
-            (keyed.epoch, keyed.sequence, keyed.path.keys().len()),
-            (1, 0, 3)
-        );
     }
     Ok(())
+}
+
+fn second_written(alloc: Global, row: &Row) -> Result<Octets, Fail> {
+    let (_, written) = second_again(alloc, row, &nonce(row.ni)?)?;
+    Ok(written)
+}
+
+#[test]
+fn keys_are_written_again(rt: HostRuntime) -> Result<(), Fail> {
+    for row in ROWS {
+        let (sizes, written) = fourth_written(rt.alloc(), &row)?;
+        assert_eq!(rt; sizes, (1, 0, 3));
+        assert_eq!(rt; written.as_slice(), octets::<332>(row.fourth)?.as_slice());
+    }
+    Ok(())
+}
+
+/// The epoch, the sequence number and the length of the path that are read of the keys, and these written again.
+fn fourth_written(alloc: Global, row: &Row) -> Result<((u32, u32, usize), Octets), Fail> {
+    let ni = nonce(row.ni)?;
+    let (second, _) = second_again(alloc, row, &ni)?;
+    let (keyed, written) = fourth_again(alloc, row, &ni, &second)?;
+    let sizes = (keyed.epoch, keyed.sequence, keyed.path.keys().len());
+    Ok((sizes, written))
 }
