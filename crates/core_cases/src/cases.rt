@@ -6,7 +6,9 @@ use crate::keyed::keyed_line;
 use crate::lines::{Call, Line, Request};
 use crate::looks::{counts, look, show, state};
 use crate::texts::{Detail, Shown, answered, refused};
-use gcks_core::{Core, CoreOpened, GroupName, MemberName, NewGroup, Opening, Parts};
+use gcks_core::{
+    Core, CoreOpened, GroupName, MemberName, NewGroup, Opening, Parts, PushPair, Refusal,
+};
 use gd_disk::MemDisk;
 use gd_edges::{ChaChaDraws, TestSigner};
 use group_terms::{List, Octets};
@@ -17,6 +19,8 @@ use std::io::ErrorKind;
 pub type TestParts = Parts<MemDisk, TestSigner, ChaChaDraws>;
 
 pub type TestCore = Core<MemDisk, TestSigner, ChaChaDraws>;
+
+type TestOpened = CoreOpened<MemDisk, TestSigner, ChaChaDraws>;
 
 type TestOpening = Opening<MemDisk, TestSigner, ChaChaDraws>;
 
@@ -129,98 +133,132 @@ impl Case {
 
     /// Another disk in place of the one that was there.
     fn put_disk(&mut self, alloc: Global, disk: MemDisk) -> io::Result<String> {
-        let Parts { signer, draws, .. } = self.take_parts()?;
-        let parts = Parts {
-            disk,
-            signer,
-            draws,
-        };
-        self.lay_down(alloc, parts)
-    }
-
-    /// Keeps what a group is made of, and says what its disk has.
-    fn lay_down(&mut self, alloc: Global, parts: TestParts) -> io::Result<String> {
-        let text = disk_text(alloc, self.detail, &parts.disk)?;
-        self.group = Some(Group::Closed { parts });
-        Ok(text)
+        let parts = self.take_parts()?;
+        self.keep_parts(with_disk(parts, disk));
+        self.disk_line(alloc)
     }
 
     fn close(&mut self, alloc: Global) -> io::Result<String> {
         let parts = self.take_apart()?;
-        self.lay_down(alloc, parts)
+        self.keep_parts(parts);
+        self.disk_line(alloc)
     }
 
     fn crash(&mut self, alloc: Global, choice: u64) -> io::Result<String> {
-        let Parts {
-            disk,
-            signer,
-            draws,
-        } = self.take_apart()?;
-        let Ok(disk) = disk.crashed(choice) else {
-            return Err(ErrorKind::OutOfMemory.into());
-        };
-        let parts = Parts {
-            disk,
-            signer,
-            draws,
-        };
-        self.lay_down(alloc, parts)
+        let parts = self.take_apart()?;
+        self.keep_parts(crashed(parts, choice)?);
+        self.disk_line(alloc)
+    }
+
+    fn keep_parts(&mut self, parts: TestParts) {
+        self.group = Some(Group::Closed { parts });
+    }
+
+    fn keep_core(&mut self, core: TestCore) {
+        self.group = Some(Group::Open { core });
+    }
+
+    /// What the disk of a group has that is not open.
+    fn disk_line(&self, alloc: Global) -> io::Result<String> {
+        match &self.group {
+            Some(Group::Closed { parts }) => disk_text(alloc, self.detail, &parts.disk),
+            _ => Err(ErrorKind::InvalidInput.into()),
+        }
     }
 
     fn create(&mut self, alloc: Global, depth: u8, limit: u32) -> io::Result<String> {
-        let name = group_name()?;
-        let parts = self.take_parts()?;
         if depth == 0 || depth > 9 || limit == 0 {
             return Err(ErrorKind::InvalidInput.into());
         }
+        let name = group_name()?;
+        let parts = self.take_parts()?;
         let group = NewGroup { depth, name, limit };
-        let made = create(alloc, parts, &group);
-        self.made(alloc, &group, made)
+        match self.keep_made(create(alloc, parts, &group)) {
+            None => Ok(format!(in alloc; "new depth {depth}\n")?),
+            Some(refusal) => refused(alloc, "new", refusal),
+        }
     }
 
-    /// Keeps the group that was made, or what it would be made of.
-    fn made(
-        &mut self,
-        alloc: Global,
-        group: &NewGroup,
-        made: Result<TestCore, TestOpening>,
-    ) -> io::Result<String> {
+    /// Keeps the group that was made, or what it would be made of; why it was not made, if it was not.
+    fn keep_made(&mut self, made: Result<TestCore, TestOpening>) -> Option<Refusal> {
         match made {
             Ok(core) => {
-                self.group = Some(Group::Open { core });
-                let depth = group.depth;
-                Ok(format!(in alloc; "new depth {depth}\n")?)
+                self.keep_core(core);
+                None
             }
             Err(Opening { refusal, parts }) => {
-                self.group = Some(Group::Closed { parts });
-                refused(alloc, "new", refusal)
+                self.keep_parts(parts);
+                Some(refusal)
             }
         }
     }
 
     fn open(&mut self, alloc: Global) -> io::Result<String> {
         let parts = self.take_parts()?;
-        match Core::open(alloc, parts) {
-            Ok(opened) => self.opened(alloc, opened),
+        match self.keep_opened(open(alloc, parts)) {
+            Ok(resent) => self.opened_line(alloc, &resent),
+            Err(refusal) => refused(alloc, "open", refusal),
+        }
+    }
+
+    /// Keeps the group that was opened, or what it is made of; the pair that was sent again, or why it was not opened.
+    fn keep_opened(
+        &mut self,
+        opened: Result<TestOpened, TestOpening>,
+    ) -> Result<Option<PushPair>, Refusal> {
+        match opened {
+            Ok(CoreOpened { core, resent }) => {
+                self.keep_core(core);
+                Ok(resent)
+            }
             Err(Opening { refusal, parts }) => {
-                self.group = Some(Group::Closed { parts });
-                refused(alloc, "open", refusal)
+                self.keep_parts(parts);
+                Err(refusal)
             }
         }
     }
 
-    fn opened(
-        &mut self,
-        alloc: Global,
-        opened: CoreOpened<MemDisk, TestSigner, ChaChaDraws>,
-    ) -> io::Result<String> {
-        let CoreOpened { core, resent } = opened;
+    /// What is said of a group that was opened.
+    fn opened_line(&mut self, alloc: Global, resent: &Option<PushPair>) -> io::Result<String> {
+        let detail = self.detail;
+        let core = self.core()?;
         let depth = core.depth();
-        let counts = counts(alloc, &core)?;
-        let pushes = pushes(alloc, self.detail, &resent)?;
-        self.group = Some(Group::Open { core });
+        let counts = counts(alloc, core)?;
+        let pushes = pushes(alloc, detail, resent)?;
         Ok(format!(in alloc; "open depth {depth} {counts}\n{pushes}")?)
     }
+}
+
+/// The same with another disk.
+fn with_disk(parts: TestParts, disk: MemDisk) -> TestParts {
+    let Parts { signer, draws, .. } = parts;
+    Parts {
+        disk,
+        signer,
+        draws,
+    }
+}
+
+/// The same with the disk that a crash leaves.
+fn crashed(parts: TestParts, choice: u64) -> io::Result<TestParts> {
+    let Parts {
+        disk,
+        signer,
+        draws,
+    } = parts;
+    match disk.crashed(choice) {
+        Ok(disk) => Ok(Parts {
+            disk,
+            signer,
+            draws,
+        }),
+        Err(_) => Err(ErrorKind::OutOfMemory.into()),
+    }
+}
+
+/// Opens a group, of which nothing more is said.
+fn open(alloc: Global, parts: TestParts) -> Result<TestOpened, TestOpening> {
+    Core::open(alloc, parts)
 }
 
 /// Makes a group, of which nothing more is said.
