@@ -1,83 +1,155 @@
 -- How a run ends.
-use Rattle.std.proofs.Common.{◌≡◌, ℕ, ◌+◌, false, List, [], Some, sym, refl, ◌∙◌, subst, inl, inr}
+use Rattle.std.proofs.Common.{◌≡◌, ◌⊎◌, ℕ, ◌+◌, false, List, [], sym, refl, ap, ◌∙◌, subst, inl, inr}
 use Rattle.std.proofs.KnownBytes.{Consumes-nil}
 use Rattle.std.proofs.lemmas.Bool.{false≢true}
 use Rattle.gd_edges.specs.Shown.{Shown}
-use Rattle.group_model.specs.declared.entries.Entry.{Entry}
+use Rattle.gd_edges.specs.declared.draws.Draws.{Ghosts as DrawGhosts}
+use Rattle.group_model.specs.declared.entries.Answer.TheVariants.{Refused}
 use Rattle.group_model.specs.declared.entries.Asked.{Asked}
-use Rattle.script_text.specs.Report.{entries_text}
+use Rattle.group_model.specs.declared.entries.Entry.{Entry}
+use Rattle.group_model.specs.declared.entries.Refusal.{Refusal}
+use Rattle.group_model.specs.declared.entries.Refusal.TheVariants.{NoMemory}
+use Rattle.group_steps.specs.Runs.{Run}
+use Rattle.script_text.specs.Report.{entries_text, entry_text}
 use Rattle.console_run.specs.declared.stops.Stop.TheVariants.{Line, Source as SourceStop, Sink as SinkStop, Memory as MemoryStop, Unreported}
 use Rattle.console_run.specs.declared.endings.Ending.{Ending}
-use Rattle.console_run.specs.declared.endings.Ending.TheVariants.{BadLine, Source, Sink, Memory}
-use Rattle.console_run.specs.Causes.{Given, CauseOf}
-use Rattle.console_run.specs.Reports.{Puts, LastLineEnds}
-use Rattle.console_run.specs.Promises.{IsBroken}
-use Rattle.console_run.specs.Private.Runs.{Moment, IsBrokenOff}
+use Rattle.console_run.specs.declared.endings.Ending.TheVariants.{BadLine, Source, Sink, Memory, NotOpened}
+use Rattle.console_run.specs.Causes.{CannotOpen, CauseOf, Given, IsInParts, SourceAt}
+use Rattle.console_run.specs.Devices.{Devices, Keying}
+use Rattle.console_run.specs.Lines.{IsOpeningEntry}
+use Rattle.console_run.specs.Promises.{IsBroken, IsEnded, Streams}
+use Rattle.console_run.specs.Reports.{LastLineEnds, Puts, ReportBreaksOff}
 use Rattle.console_run.specs.Private.Follows.{IsRunTo, IsRunUntil, RunsScript}
-use Rattle.console_run.proofs.KnownLemmas.{Puts-none}
+use Rattle.console_run.specs.Private.Openings.{RefusalEnds, due_after}
+use Rattle.console_run.specs.Private.Runs.{IsBrokenOff, Moment, Start}
+use Rattle.console_run.proofs.KnownLemmas.{Puts-entry, Puts-none, ReportBreaksOff-one}
 
-module _ (request : Asked) (had left was : Shown) (at : Moment) where
+module _ {D G V R : Type 0} (on : Devices D G V) (draws : DrawGhosts R) (start : Start D G) (had left : Shown) (at : Moment D G R) (entries : List Entry)
+    (same : entries ≡ at.held.entries) (disk : D) (kept : disk ≡ at.held.core.disk) where
   -- the ending that was due, and its last line
-  pub ran_to : (due ending : Ending) (now : Shown) (entries : List Entry) → IsRunTo due request [] had left was at → LastLineEnds due ending at.out now → entries ≡ at.held.entries → RunsScript request had left was now ending entries
-  ran_to due ending now entries h last same = (
-    h.given,
-    h.read,
-    h.came,
-    inl (record {
+  pub ran_to : (due ending : Ending) (now : Shown) → IsRunTo on draws due start had left at → LastLineEnds due ending at.out now
+      → RunsScript on start.by start.request start.run had left start.was now ending entries disk
+  ran_to due ending now h last = record {
+    given = h.given;
+    came = h.came;
+    after = h.reported.after;
+    left_disk = h.reported.stands.reflects.server.disk ∙ sym kept;
+    run = inl (record {
       due = due;
-      cause = subst (CauseOf due h.given request) (sym same) h.reported.cause;
+      cause = subst (λ entries. CauseOf on start.by h.given start.request start.run due entries h.reported.after) (sym same) h.reported.cause;
       source = h.source;
       middle = at.out;
-      report = subst (λ entries. Puts was at.out (entries_text entries)) (sym same) h.reported.report;
+      report = subst (λ entries. Puts start.was at.out (entries_text entries)) (sym same) h.reported.report;
       last = last;
-    }),
-  )
+    });
+  }
 
   -- a report that broke off
-  broken : (ending : Ending) (entries : List Entry) (given : Given) → IsBrokenOff ending given (record { request = request; was = was; readings = [] }) at → left.faults ≡ had.faults → entries ≡ at.held.entries
-      → IsBroken given (Some request) had left was at.out ending entries
-  broken ending entries given h stands same = record {
-    request = request;
-    asks = refl;
-    done = h.done;
-    more = h.more;
-    parts = same ∙ h.parts;
-    history = h.history;
+  broken : (ending : Ending) (given : Given) (h : IsBrokenOff on draws ending given start at) → left.faults ≡ had.faults
+      → IsBroken on start.by (record { given = given; source_before = had; source_after = left; sink_before = start.was; sink_after = at.out }) start.request start.run ending entries h.after
+  broken ending given h stands = record {
+    history = record { done = h.history.done; more = h.history.more; parts = same ∙ h.history.parts; up_to = h.history.up_to };
     source = stands;
     middle = h.middle;
     report = h.report;
     breaks = h.breaks;
   }
 
-  pub ran_into_sink : (entries : List Entry) → IsRunUntil SinkStop request [] had left was at → entries ≡ at.held.entries → RunsScript request had left was at.out Sink entries
-  ran_into_sink entries h same = (h.given, h.read, h.came, inr (broken Sink entries h.given h.stopped h.source same))
+  pub ran_into_sink : IsRunUntil on draws SinkStop start had left at → RunsScript on start.by start.request start.run had left start.was at.out Sink entries disk
+  ran_into_sink h = record {
+    given = h.given;
+    came = h.came;
+    after = h.stopped.after;
+    left_disk = h.stopped.stands.reflects.server.disk ∙ sym kept;
+    run = inr (broken Sink h.given h.stopped h.source);
+  }
 
-  pub ran_unreported : (entries : List Entry) → IsRunUntil Unreported request [] had left was at → entries ≡ at.held.entries → RunsScript request had left was at.out Memory entries
-  ran_unreported entries h same = (h.given, h.read, h.came, inr (broken Memory entries h.given h.stopped h.source same))
+  pub ran_unreported : IsRunUntil on draws Unreported start had left at
+      → RunsScript on start.by start.request start.run had left start.was at.out Memory entries disk
+  ran_unreported h = record {
+    given = h.given;
+    came = h.came;
+    after = h.stopped.after;
+    left_disk = h.stopped.stands.reflects.server.disk ∙ sym kept;
+    run = inr (broken Memory h.given h.stopped h.source);
+  }
 
+module _ {D G V R : Type 0} (on : Devices D G V) (draws : DrawGhosts R) (start : Start D G) (had left : Shown) (at : Moment D G R) where
   -- stops after which a last line is due
-  pub due_at_line : (line : ℕ) → line ≡ at.count + 1 → IsRunUntil Line request [] had left was at → IsRunTo (BadLine line) request [] had left was at
-  due_at_line line counted h = subst (λ number. IsRunTo (BadLine number) request [] had left was at) (sym counted)
-      (record { given = h.given; read = h.read; came = h.came; source = h.source; reported = h.stopped })
+  pub due_at_line : (line : ℕ) → line ≡ at.count + 1 → IsRunUntil on draws Line start had left at → IsRunTo on draws (BadLine line) start had left at
+  due_at_line line counted h = subst (λ number. IsRunTo on draws (BadLine number) start had left at) (sym counted)
+      (record { given = h.given; came = h.came; source = h.source; reported = h.stopped })
 
-  pub due_at_source : IsRunUntil SourceStop request [] had left was at → IsRunTo Source request [] had left was at
-  due_at_source h = record { given = h.given; read = h.read; came = h.came; source = h.source; reported = h.stopped }
+  pub due_at_source : IsRunUntil on draws SourceStop start had left at → IsRunTo on draws Source start had left at
+  due_at_source h = record { given = h.given; came = h.came; source = h.source; reported = h.stopped }
 
-  pub due_at_memory : IsRunUntil MemoryStop request [] had left was at → IsRunTo Memory request [] had left was at
-  due_at_memory h = record { given = h.given; read = h.read; came = h.came; source = h.source; reported = h.stopped }
+  pub due_at_memory : IsRunUntil on draws MemoryStop start had left at → IsRunTo on draws Memory start had left at
+  due_at_memory h = record { given = h.given; came = h.came; source = h.source; reported = h.stopped }
 
--- there was no memory for a group
-pub ran_out_at_once : (request : Asked) (had was now : Shown) (ending : Ending) (entries : List Entry) → LastLineEnds Memory ending was now → entries ≡ [] → RunsScript request had had was now ending entries
-ran_out_at_once request had was now ending entries last none = (
-  record { taken = []; ended = false; readings = [] },
-  refl,
-  record { consumed = Consumes-nil had.octets; octets = refl; whole = λ ended. absurd (false≢true ended) },
-  inl (record {
+-- ---- where no group was opened
+
+abbrev nothing : Given
+nothing = record { taken = []; ended = false }
+
+-- it ran out of memory, or cannot be opened
+module _ {D G V : Type 0} (on : Devices D G V) (by : Keying G) (request : Asked) (start : Run D) (had was now : Shown) (ending : Ending) (entries : List Entry)
+    (after : Run D) (disk : D) (left : after.disk ≡ disk) where
+  abbrev untouched : Streams
+  untouched = record { given = nothing; source_before = had; source_after = had; sink_before = was; sink_after = now }
+
+  runs : IsEnded on by untouched request start ending entries after ⊎ IsBroken on by untouched request start ending entries after
+      → RunsScript on by request start had had was now ending entries disk
+  runs h = record {
+    given = nothing;
+    came = record { consumed = Consumes-nil had.octets; octets = refl; whole = λ ended. absurd (false≢true ended) };
+    after = after;
+    left_disk = left;
+    run = h;
+  }
+
+  -- memory ran out before anything was asked
+  pub ran_out_at_once : LastLineEnds Memory ending was now → entries ≡ [] → after ≡ start → RunsScript on by request start had had was now ending entries disk
+  ran_out_at_once last none same = runs (inl (record {
     due = Memory;
-    cause = ([], [], none, inl (record { none_taken = refl; nothing = refl; begins = inl refl }));
+    cause = record { done = []; more = []; parts = none; up_to = inl (record { none_taken = refl; nothing = refl; begins = inl (refl, same) }) };
     source = refl;
     middle = was;
     report = subst (λ entries. Puts was was (entries_text entries)) (sym none) (Puts-none was);
     last = last;
-  }),
-)
+  }))
+
+  module _ (first : IsOpeningEntry on by request start entries after) where
+    abbrev in_parts : IsInParts on by nothing request start entries after
+    in_parts = record { done = []; more = entries; parts = refl; up_to = inl (record { none_taken = refl; nothing = refl; begins = inr first }) }
+
+    ended : (due : Ending) (middle : Shown) → CauseOf on by nothing request start due entries after → had.faults ≡ had.faults → SourceAt due had.faults had.faults
+        → Puts was middle (entry_text first.entry) → LastLineEnds due ending middle now → RunsScript on by request start had had was now ending entries disk
+    ended due middle cause same source puts last = runs (inl (record {
+      due = due;
+      cause = cause;
+      source = source;
+      middle = middle;
+      report = subst (λ entries. Puts was middle (entries_text entries)) (sym first.alone) (Puts-entry was middle first.entry puts);
+      last = last;
+    }))
+
+    -- the refusal
+    pub refused : (why : Refusal) → first.entry.answer ≡ Refused why → (why ≡ NoMemory) ⊎ CannotOpen why → RefusalEnds first.entry ending was now
+        → RunsScript on by request start had had was now ending entries disk
+    refused why is cause (inl ends) = elim cause [
+      | inl memory ↦ ended Memory ends.0 in_parts refl refl ends.1
+          (subst (λ due. LastLineEnds due ending ends.0 now) (ap due_after (is ∙ ap Refused memory)) ends.2)
+      | inr cannot ↦ ended NotOpened ends.0 (record { none_taken = refl; first = first; why = why; refused = is; cause = cannot }) refl refl ends.1
+          (subst (λ due. LastLineEnds due ending ends.0 now) (ap due_after is ∙ due_not_opened why cannot) ends.2)
+    ]
+      where
+        due_not_opened : (why : Refusal) → CannotOpen why → due_after (Refused why) ≡ NotOpened
+        due_not_opened why (inl fault) = ap (λ why. due_after (Refused why)) fault
+        due_not_opened why (inr journal) = ap (λ why. due_after (Refused why)) journal.1
+    refused why is cause (inr broke) = runs (inr (record {
+      history = in_parts;
+      source = refl;
+      middle = was;
+      report = Puts-none was;
+      breaks = subst (ReportBreaksOff ending was now) (sym first.alone) (ReportBreaksOff-one ending was now first.entry broke);
+    }))

@@ -8,10 +8,12 @@ use Rattle.std.proofs.lemmas.List.Folds.{list_all-append}
 use Rattle.std.proofs.lemmas.List.Sums.{fold-append}
 use Rattle.group_model.specs.declared.entries.Entry.{Entry}
 use Rattle.group_model.specs.declared.entries.Asked.{Asked}
+use Rattle.group_steps.specs.Runs.{Run}
 use Rattle.script_text.specs.Lines.{line_of, line_of_words}
 use Rattle.script_text.specs.Words.{words_of}
+use Rattle.console_run.specs.Devices.{Devices, Keying}
 use Rattle.console_run.specs.Scripts.{ends_line, EndsLine, unfinished, script_lines, is_line, are_lines}
-use Rattle.console_run.specs.Causes.{Given, CameFrom, IsOver, IsStopped}
+use Rattle.console_run.specs.Causes.{CameFrom, EndsAtLine, Given, IsOver}
 use Rattle.console_run.specs.Promises.{ShowsScript}
 use Rattle.console_run.specs.Private.Cuts.{Cut, cut_more, cut_of}
 use Rattle.console_run.proofs.CutLemmas.{cut_of-more, lines_cut, unfinished-some}
@@ -172,19 +174,19 @@ module _ (octets before text after : List ℕ) (ended : Bool) (ends : EndsLine b
       omega (arith, more, same, leb-true (length (script_lines octets)) 16384 all_good.0)
 
 -- no line of such a script is faulty
-module _ (given : Given) (request : Asked) (number : ℕ) (entries : List Entry) where
-  pub no_faulty_line : (had left : Option (List ℕ)) → ShowsScript had → CameFrom had left given → IsStopped given request number entries → ⊥
+module _ {D G V : Type 0} (on : Devices D G V) (by : Keying G) (given : Given) (request : Asked) (start : Run D) (number : ℕ) (entries : List Entry) (after : Run D) where
+  pub no_faulty_line : (had left : Option (List ℕ)) → ShowsScript had → CameFrom had left given → EndsAtLine on by given request start number entries after → ⊥
   no_faulty_line None left good came h = good
   no_faulty_line (Some octets) None good came h = came.consumed
   no_faulty_line (Some octets) (Some others) good came h =
-      let taken : octets ≡ (h.before ++ (h.text ++ h.after)) ++ others = came.consumed ∙ ap (λ taken. taken ++ others) h.cut.parts in
-      let whole : octets ≡ h.before ++ (h.text ++ (h.after ++ others)) =
-      taken ∙ append_assoc h.before (h.text ++ h.after) others ∙ ap (λ octets. h.before ++ octets) (append_assoc h.text h.after others) in
+      let taken : octets ≡ (h.before ++ (h.text ++ h.rest)) ++ others = came.consumed ∙ ap (λ taken. taken ++ others) h.cut.parts in
+      let whole : octets ≡ h.before ++ (h.text ++ (h.rest ++ others)) =
+      taken ∙ append_assoc h.before (h.text ++ h.rest) others ∙ ap (λ octets. h.before ++ octets) (append_assoc h.text h.rest others) in
       elim h.faulty [
-        | inl late ↦ omega (arith, late.0, h.counted, no_late_line octets h.before h.text h.after given.ended h.cut.whole_lines h.cut.one_line good (h.after ++ others) (omega (arith, late.1, length-append h.after others)) whole)
+        | inl late ↦ omega (arith, late.0, h.counted, no_late_line octets h.before h.text h.rest given.ended h.cut.whole_lines h.cut.one_line good (h.rest ++ others) (omega (arith, late.1, length-append h.rest others)) whole)
         | inr (inl long) ↦ (
             let next = long.1 in
-            no_long_line octets h.before h.text h.after given.ended h.cut.whole_lines h.cut.one_line good long.0 next.0 (next.1 ++ others) next.3 (whole ∙ ap (λ after. h.before ++ (h.text ++ (after ++ others))) next.2)
+            no_long_line octets h.before h.text h.rest given.ended h.cut.whole_lines h.cut.one_line good long.0 next.0 (next.1 ++ others) next.3 (whole ∙ ap (λ rest. h.before ++ (h.text ++ (rest ++ others))) next.2)
             )
-        | inr (inr bad) ↦ no_bad_line octets h.before h.text h.after given.ended h.cut.whole_lines h.cut.one_line good bad.1 (λ all. came.whole all ∙ h.cut.parts) others whole bad.0
+        | inr (inr bad) ↦ no_bad_line octets h.before h.text h.rest given.ended h.cut.whole_lines h.cut.one_line good bad.1 (λ all. came.whole all ∙ h.cut.parts) others whole bad.0
       ]

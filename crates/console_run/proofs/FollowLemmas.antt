@@ -3,93 +3,93 @@ use Rattle.std.proofs.Common.{◌≡◌, ℕ, true, false, List, [], ◌∷◌, 
 use Rattle.std.proofs.lemmas.Bool.{false≢true}
 use Rattle.std.proofs.KnownBytes.{Consumes-nil}
 use Rattle.gd_edges.specs.Shown.{Shown}
+use Rattle.gd_edges.specs.declared.draws.Draws.{Ghosts as DrawGhosts}
+use Rattle.group_model.specs.Legal.{ran_out}
 use Rattle.group_model.specs.declared.entries.Entry.{Entry}
-use Rattle.group_model.specs.declared.entries.Asked.{Asked}
-use Rattle.group_model.specs.Groups.{Reading}
+use Rattle.group_run.specs.Views.{View}
 use Rattle.script_text.specs.Report.{entry_text, entries_text}
 use Rattle.console_run.specs.declared.stops.Stop.{Stop}
 use Rattle.console_run.specs.declared.stops.Stop.TheVariants.{Line, Source as SourceStop, Sink as SinkStop, Memory as MemoryStop, Unreported}
 use Rattle.console_run.specs.declared.endings.Ending.TheVariants.{Whole}
 use Rattle.console_run.specs.Causes.{CameFrom}
+use Rattle.console_run.specs.Devices.{Devices}
 use Rattle.console_run.specs.Reports.{Puts}
-use Rattle.console_run.specs.Private.Held.{Held, IsOpened}
-use Rattle.console_run.specs.Private.Reports.{EntryBreaksOff}
+use Rattle.console_run.specs.Private.Follows.{moment, IsOpened, TakesAndGoesOn, TakesAndStops, IsRunTo, IsRunUntil}
+use Rattle.console_run.specs.Private.Reports.{EntryStops}
 use Rattle.console_run.specs.Private.Runs.{Start, Moment, IsSoFar, IsStoppedAt, Ends, StopsAtEnd, SourceFails, given_of}
-use Rattle.console_run.specs.Private.Follows.{TakesAndGoesOn, TakesAndStops, IsRunTo, IsRunUntil}
-use Rattle.console_run.proofs.KnownLemmas.{Puts-entry}
 use Rattle.console_run.proofs.SoFarLemmas.{first_so_far}
-use Rattle.console_run.proofs.StopLemmas.{stopped_at_opening, no_memory_after_opening}
-
-abbrev moment : Held → List ℕ → ℕ → Shown → Moment
-moment held line count out = record { held = held; line = line; count = count; out = out }
+use Rattle.console_run.proofs.StopLemmas.{stopped_at_opening, opening_reported, no_memory_after_opening}
 
 -- a stop in the report of an entry leaves the source's count
-SourceFails-report : (stop : Stop) (out : Shown) (text : List ℕ) (faults : ℕ) (was : Shown) → EntryBreaksOff stop was out text → SourceFails stop faults faults
-SourceFails-report Line out text faults was h = absurd h
-SourceFails-report SourceStop out text faults was h = absurd h
-SourceFails-report SinkStop out text faults was h = refl
-SourceFails-report MemoryStop out text faults was h = refl
-SourceFails-report Unreported out text faults was h = refl
+SourceFails-report : (stop : Stop) (was out : Shown) (entry : Entry) (faults : ℕ) → EntryStops stop was out entry → SourceFails stop faults faults
+SourceFails-report Line was out entry faults h = absurd h
+SourceFails-report SourceStop was out entry faults h = absurd h
+SourceFails-report SinkStop was out entry faults h = refl
+SourceFails-report MemoryStop was out entry faults h = refl
+SourceFails-report Unreported was out entry faults h = refl
 
-module _ (request : Asked) (readings : List Reading) (held : Held) (line : List ℕ) (count : ℕ) (was out : Shown) (opened : IsOpened request held) (none : line ≡ []) (zeroth : count ≡ 0) where
-  abbrev start : Start
-  start = record { request = request; was = was; readings = readings }
+-- before the source was asked
+nothing_came : (had : Shown) → CameFrom had.octets had.octets (given_of [] false)
+nothing_came had = record { consumed = Consumes-nil had.octets; octets = refl; whole = λ ended. absurd (false≢true ended) }
 
+-- A group that was opened, with the line and the count of a run before its script. Then its last entry was reported, or the report broke off.
+module _ {D G V R : Type 0} (on : Devices D G V) (draws : DrawGhosts R) (start : Start D G) (held : View D G R) (line : List ℕ) (count : ℕ) (was out : Shown)
+    (same : start.was ≡ was) (opened : IsOpened on draws start held) (none : line ≡ []) (zeroth : count ≡ 0) where
   -- a moment before the script
-  same_moment : (out : Shown) → moment held [] 0 out ≡ moment held line count out
-  same_moment out = λ i. moment held (sym none i) (sym zeroth i) out
+  same_moment : moment held [] 0 out ≡ moment held line count out
+  same_moment = λ i. moment held (sym none i) (sym zeroth i) out
 
   -- the report of the opening broke off
-  pub run_stopped_at_opening : (had : Shown) (stop : Stop) → ((front : List Entry) (entry : Entry) → held.entries ≡ front ++ entry ∷ [] → EntryBreaksOff stop was out (entry_text entry))
-      → IsRunUntil stop request readings had had was (moment held line count out)
-  run_stopped_at_opening had stop breaks = record {
-    given = given_of start [] false;
-    read = refl;
-    came = record { consumed = Consumes-nil had.octets; octets = refl; whole = λ ended. absurd (false≢true ended) };
-    source = SourceFails-report stop out (entry_text (opened.opens readings).answer.entry) had.faults was (breaks [] (opened.opens readings).answer.entry (opened.opens readings).answer.alone);
-    stopped = subst (IsStoppedAt stop (given_of start [] false) start) (same_moment out) (stopped_at_opening request readings held was out opened stop breaks);
-  }
+  pub run_stopped_at_opening : (had : Shown) (stop : Stop) → ((front : List Entry) (entry : Entry) → held.entries ≡ front ++ entry ∷ [] → EntryStops stop was out entry)
+      → IsRunUntil on draws stop start had had (moment held line count out)
+  run_stopped_at_opening had stop stops =
+      let first = opened.opens.first in
+      let here : EntryStops stop start.was out first.entry = subst (λ was. EntryStops stop was out first.entry) (sym same) (stops [] first.entry first.alone) in
+      record {
+        given = given_of [] false;
+        came = nothing_came had;
+        source = SourceFails-report stop start.was out first.entry had.faults here;
+        stopped = subst (IsStoppedAt on draws stop (given_of [] false) start) same_moment (stopped_at_opening on draws start held out opened stop here);
+      }
 
-  module _ (reported : (front : List Entry) (entry : Entry) → held.entries ≡ front ++ entry ∷ [] → Puts was out (entry_text entry)) where
-    opening_reported : Puts was out (entries_text held.entries)
-    opening_reported =
-        let first = (opened.opens readings).answer in
-        subst (λ entries. Puts was out (entries_text entries)) (sym first.alone) (Puts-entry was out first.entry (reported [] first.entry first.alone))
+  module _ (reported : (front : List Entry) (entry : Entry) → held.entries ≡ front ++ entry ∷ [] → Puts was out (entry_text entry) × (ran_out entry.answer ≡ false)) where
+    all_reported : Puts start.was out (entries_text held.entries)
+    all_reported =
+        let first = opened.opens.first in
+        opening_reported on draws start held out opened (subst (λ was. Puts was out (entry_text first.entry)) (sym same) (reported [] first.entry first.alone).0)
 
     -- there was no memory to go on
-    pub run_out_of_memory : (had : Shown) → IsRunUntil MemoryStop request readings had had was (moment held line count out)
+    pub run_out_of_memory : (had : Shown) → IsRunUntil on draws MemoryStop start had had (moment held line count out)
     run_out_of_memory had = record {
-      given = given_of start [] false;
-      read = refl;
-      came = record { consumed = Consumes-nil had.octets; octets = refl; whole = λ ended. absurd (false≢true ended) };
+      given = given_of [] false;
+      came = nothing_came had;
       source = refl;
-      stopped = subst (IsStoppedAt MemoryStop (given_of start [] false) start) (same_moment out) (no_memory_after_opening request readings held was out opened opening_reported);
+      stopped = subst (IsStoppedAt on draws MemoryStop (given_of [] false) start) same_moment (no_memory_after_opening on draws start held out opened all_reported);
     }
 
-    so_far : IsSoFar start [] (moment held line count out)
-    so_far = subst (IsSoFar start []) (same_moment out) (first_so_far request readings held was out opened opening_reported)
+    so_far : IsSoFar on draws start [] (moment held line count out)
+    so_far = subst (IsSoFar on draws start []) same_moment (first_so_far on draws start held out opened all_reported)
 
     -- the script was taken up to where the run stopped
-    pub run_stopped : (had left : Shown) (stop : Stop) (new : Moment) → TakesAndStops stop had left (moment held line count out) new → IsRunUntil stop request readings had left was new
+    pub run_stopped : (had left : Shown) (stop : Stop) (new : Moment D G R) → TakesAndStops on draws stop had left (moment held line count out) new → IsRunUntil on draws stop start had left new
     run_stopped had left stop new h = record {
-      given = given_of start h.taken false;
-      read = refl;
+      given = given_of h.taken false;
       came = record { consumed = h.consumed; octets = h.small; whole = λ ended. absurd (false≢true ended) };
       source = h.source;
       stopped = h.stops start [] so_far;
     }
 
-    module _ (had left : Shown) (middle : Moment) (taken : TakesAndGoesOn had left (moment held line count out) middle) where
-      all_so_far : IsSoFar start taken.taken middle
+    module _ (had left : Shown) (middle : Moment D G R) (taken : TakesAndGoesOn on draws had left (moment held line count out) middle) where
+      all_so_far : IsSoFar on draws start taken.taken middle
       all_so_far = taken.goes start [] so_far
 
-      came : CameFrom had.octets left.octets (given_of start taken.taken true)
+      came : CameFrom had.octets left.octets (given_of taken.taken true)
       came = record { consumed = taken.consumed; octets = all_so_far.small; whole = λ ended. taken.whole }
 
       -- it was taken whole, and what stands after its last line end was run
-      pub run_whole : (new : Moment) → Ends middle new → IsRunTo Whole request readings had left was new
-      run_whole new ends = record { given = given_of start taken.taken true; read = refl; came = came; source = taken.stands; reported = ends start taken.taken all_so_far }
+      pub run_whole : (new : Moment D G R) → Ends on draws middle new → IsRunTo on draws Whole start had left new
+      run_whole new ends = record { given = given_of taken.taken true; came = came; source = taken.stands; reported = ends start taken.taken all_so_far }
 
       -- or the run stopped there
-      pub run_stopped_at_end : (stop : Stop) (new : Moment) → SourceFails stop had.faults left.faults → StopsAtEnd stop middle new → IsRunUntil stop request readings had left was new
-      run_stopped_at_end stop new source stops = record { given = given_of start taken.taken true; read = refl; came = came; source = source; stopped = stops start taken.taken all_so_far }
+      pub run_stopped_at_end : (stop : Stop) (new : Moment D G R) → SourceFails stop had.faults left.faults → StopsAtEnd on draws stop middle new → IsRunUntil on draws stop start had left new
+      run_stopped_at_end stop new source stops = record { given = given_of taken.taken true; came = came; source = source; stopped = stops start taken.taken all_so_far }

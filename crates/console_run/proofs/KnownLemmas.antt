@@ -45,12 +45,9 @@ BreaksOff-after was known now front line others text puts parts h = (
 
 -- the report of one entry broke off
 pub ReportBreaksOff-one : (ending : Ending) (was now : Shown) (entry : Entry) → BreaksOff ending was now (entry_text entry) → ReportBreaksOff ending was now (entry ∷ [])
-ReportBreaksOff-one ending was now entry h = record {
-  reported = [];
-  missing = entry ∷ [];
-  parts = refl;
-  some = omega arith;
-  middle = was;
-  puts = Puts-none was;
-  breaks = subst (BreaksOff ending was now) (sym (append-nil (entry_text entry))) h;
-}
+ReportBreaksOff-one ending was now entry h = record { reported = []; last = entry; parts = refl; middle = was; puts = Puts-none was; breaks = h }
+
+-- that of the last of some entries
+pub ReportBreaksOff-last : (ending : Ending) (u v w : Shown) (entries : List Entry) (entry : Entry) → Puts u v (entries_text entries)
+    → BreaksOff ending v w (entry_text entry) → ReportBreaksOff ending u w (entries ++ entry ∷ [])
+ReportBreaksOff-last ending u v w entries entry h k = record { reported = entries; last = entry; parts = refl; middle = v; puts = h; breaks = k }

@@ -3,21 +3,27 @@ use Rattle.std.proofs.Common.{ℕ, ◌<◌, List, [], ◌∷◌, ◌++◌, lengt
 use Rattle.std.proofs.lemmas.List.{length-append}
 use Rattle.group_model.specs.declared.entries.Entry.{Entry}
 use Rattle.group_model.specs.declared.entries.Asked.{Asked}
-use Rattle.group_model.specs.Groups.{Reading, present_group}
-use Rattle.console_run.specs.Lines.{LineGives, LinesGive, IsRunOf}
+use Rattle.group_steps.specs.Runs.{Run}
+use Rattle.console_run.specs.Devices.{Devices, Keying}
+use Rattle.console_run.specs.Lines.{IsRunOf, LineGives, LinesGive}
 
--- lines, and one more line
-LinesGive-more : (readings : List Reading) (before : List Entry) (lines : List (List ℕ)) (line : List ℕ) (after more : List Entry)
-    → LinesGive readings before lines after → LineGives (present_group readings after) after line more → LinesGive readings before (lines ++ line ∷ []) (after ++ more)
-LinesGive-more readings before [] line after more same h =
-    subst (λ all. LinesGive readings all (line ∷ []) (after ++ more)) same (more, h, refl)
-LinesGive-more readings before (first ∷ lines) line after more h k = (h.0, h.1, LinesGive-more readings (before ++ h.0) lines line after more h.2 k)
+module _ {D G V : Type 0} (on : Devices D G V) (by : Keying G) where
+  -- lines, and one more line
+  LinesGive-more : (before : List Entry) (run : Run D) (lines : List (List ℕ)) (line : List ℕ) (entries : List Entry) (now : Run D) (more : List Entry) (after : Run D)
+      → LinesGive on by before run lines entries now → LineGives on by line entries now more after → LinesGive on by before run (lines ++ line ∷ []) (entries ++ more) after
+  LinesGive-more before run [] line entries now more after same h =
+      subst (λ all. LinesGive on by all run (line ∷ []) (entries ++ more) after) same.0
+      (subst (λ run. LinesGive on by entries run (line ∷ []) (entries ++ more) after) same.1 (more, after, h, (refl, refl)))
+  LinesGive-more before run (first ∷ lines) line entries now more after h k =
+      (h.0, h.1, h.2, LinesGive-more (before ++ h.0) h.1 lines line entries now more after h.3 k)
 
-pub IsRunOf-more : (readings : List Reading) (request : Asked) (lines : List (List ℕ)) (line : List ℕ) (entries more : List Entry)
-    → IsRunOf readings request lines entries → length lines < 16384 → LineGives (present_group readings entries) entries line more → IsRunOf readings request (lines ++ line ∷ []) (entries ++ more)
-IsRunOf-more readings request lines line entries more h few gives = record {
-  opening = h.opening;
-  opened = h.opened;
-  few = omega (arith, few, length-append lines (line ∷ []));
-  gives = LinesGive-more readings h.opening lines line entries more h.gives gives;
-}
+  pub IsRunOf-more : (request : Asked) (start : Run D) (lines : List (List ℕ)) (line : List ℕ) (entries : List Entry) (now : Run D) (more : List Entry) (after : Run D)
+      → IsRunOf on by request start lines entries now → length lines < 16384 → LineGives on by line entries now more after
+      → IsRunOf on by request start (lines ++ line ∷ []) (entries ++ more) after
+  IsRunOf-more request start lines line entries now more after h few gives = record {
+    opening = h.opening;
+    opened = h.opened;
+    opens = h.opens;
+    few = omega (arith, few, length-append lines (line ∷ []));
+    gives = LinesGive-more h.opening h.opened lines line entries now more after h.gives gives;
+  }

@@ -5,181 +5,25 @@ use Rattle.std.proofs.lemmas.Bool.{and_parts}
 use Rattle.std.proofs.lemmas.List.{append-nil, take_more, take-append-drop, length-drop}
 use Rattle.std.proofs.lemmas.List.Folds.{list_all-append}
 use Rattle.gd_edges.specs.Shown.{Shown}
+use Rattle.gd_edges.specs.declared.draws.Draws.{Ghosts as DrawGhosts}
 use Rattle.group_model.specs.declared.entries.Entry.{Entry}
-use Rattle.group_model.specs.declared.entries.Asked.{Asked}
-use Rattle.group_model.specs.Groups.{Reading, present_group}
+use Rattle.group_run.specs.Views.{View}
+use Rattle.group_steps.specs.Runs.{Run}
 use Rattle.script_text.specs.Report.{entry_text, entries_text}
 use Rattle.console_run.specs.declared.stops.Stop.{Stop}
 use Rattle.console_run.specs.declared.stops.Stop.TheVariants.{Line, Source as SourceStop, Sink as SinkStop, Memory as MemoryStop, Unreported}
 use Rattle.console_run.specs.declared.endings.Ending.{Ending}
 use Rattle.console_run.specs.declared.endings.Ending.TheVariants.{Whole, BadLine, Source, Sink, Memory}
+use Rattle.console_run.specs.Devices.{Devices, Keying}
 use Rattle.console_run.specs.Scripts.{are_octets, is_line}
-use Rattle.console_run.specs.Lines.{LineBegins}
-use Rattle.console_run.specs.Causes.{Given, IsCut, IsOver, IsFaulty, IsStopped, IsUpTo}
+use Rattle.console_run.specs.Lines.{GoesThrough, LineBegins}
+use Rattle.console_run.specs.Causes.{EndsAtLine, Given, IsCut, IsFaulty, IsInParts, IsOver, IsUpTo}
 use Rattle.console_run.specs.Reports.{Puts, BreaksOff, ReportBreaksOff}
-use Rattle.console_run.specs.Private.Held.{Held, IsOpened}
-use Rattle.console_run.specs.Private.Reports.{EntryBreaksOff}
-use Rattle.console_run.specs.Private.Runs.{Runs, Stops, by_text, begun_by_text, Start, Moment, IsSoFar, IsBrokenOff, IsReported, IsStoppedAt, StopsWithin, GoesOn, StopsAt, SourceFails, given_of}
-use Rattle.console_run.proofs.KnownLemmas.{Puts-none, Puts-entries, ReportBreaksOff-one}
+use Rattle.console_run.specs.Private.Follows.{moment, IsOpened}
+use Rattle.console_run.specs.Private.Reports.{EntryStops}
+use Rattle.console_run.specs.Private.Runs.{Runs, Stops, by_text, begun_by_text, Start, Moment, IsSoFar, IsBrokenOff, IsReported, IsStoppedAt, Stands, StopsWithin, GoesOn, StopsAt, SourceFails, given_of}
+use Rattle.console_run.proofs.KnownLemmas.{Puts-none, Puts-entries, Puts-entry, ReportBreaksOff-one}
 use Rattle.console_run.proofs.SoFarLemmas.{IsCut-from, count_before, run_before, whole_lines, whole_with_line}
-
-abbrev moment : Held → List ℕ → ℕ → Shown → Moment
-moment held line count out = record { held = held; line = line; count = count; out = out }
-
--- what is known of a run up to a place, and what came after it
-module _ (start : Start) (before after : List ℕ) (ended : Bool) (held : Held) (line : List ℕ) (count : ℕ) (out : Shown) (so : IsSoFar start before (moment held line count out)) (short : length line ≤ 200) (near : length after ≤ 4096) (within : 0 < length line → count < 16384) where
-  abbrev given : Given
-  given = given_of start (before ++ after) ended
-
-  -- the next line is faulty
-  pub stopped_at_line : IsFaulty ended (count + 1) line after → IsReported (BadLine (count + 1)) given start (moment held line count out)
-  stopped_at_line faulty = record {
-    cause = record {
-      before = so.front;
-      text = line;
-      after = after;
-      cut = IsCut-from start before (moment held line count out) so after short near within;
-      run = run_before start before (moment held line count out) so;
-      counted = ap (λ n. n + 1) (sym (count_before start before (moment held line count out) so));
-      faulty = faulty;
-    };
-    report = so.puts;
-  }
-
-  -- the line was over, and began to give these entries
-  up_to : (more : List Entry) → LineBegins (present_group start.readings held.entries) held.entries line more → IsOver ended after → count < 16384 → IsUpTo given start.request held.entries more
-  up_to more begins over room = inr (record {
-    before = so.front;
-    text = line;
-    after = after;
-    cut = IsCut-from start before (moment held line count out) so after short near within;
-    run = run_before start before (moment held line count out) so;
-    begins = begins;
-    over = inr (over, omega (arith, room, count_before start before (moment held line count out) so));
-  })
-
-  -- the run stopped in it
-  pub stopped_in_line : (stop : Stop) (new : Held) (now : Shown) → IsOver ended after → count < 16384 → (stop ≡ Line → is_line line ≡ false) → Stops (begun_by_text line) stop held new out now
-      → IsStoppedAt stop given start (moment new line count now)
-  stopped_in_line Line new now over room faulty h =
-      let same : new.entries ≡ held.entries = h.grown ∙ ap (λ more. held.entries ++ more) h.reports.0 ∙ append-nil held.entries in
-      let reported = stopped_at_line (inr (inr (faulty refl, over))) in
-      record {
-        cause = subst (IsStopped given start.request (count + 1)) (sym same) reported.cause;
-        report = subst (λ entries. Puts start.was now (entries_text entries)) (sym (same ∙ sym (append-nil held.entries))) (Puts-entries start.was out now held.entries [] so.puts h.reports.1);
-      }
-  stopped_in_line SourceStop new now over room faulty h = absurd h.reports
-  stopped_in_line SinkStop new now over room faulty h = record {
-    done = held.entries;
-    more = h.more;
-    parts = h.grown;
-    history = up_to h.more (h.begun (present_group start.readings held.entries) so.reflects) over room;
-    middle = out;
-    report = so.puts;
-    breaks = h.reports;
-  }
-  stopped_in_line MemoryStop new now over room faulty h = record {
-    cause = (held.entries, h.more, h.grown, up_to h.more (h.begun (present_group start.readings held.entries) so.reflects) over room);
-    report = subst (λ entries. Puts start.was now (entries_text entries)) (sym h.grown) (Puts-entries start.was out now held.entries h.more so.puts h.reports);
-  }
-  stopped_in_line Unreported new now over room faulty h = record {
-    done = held.entries;
-    more = h.more;
-    parts = h.grown;
-    history = up_to h.more (h.begun (present_group start.readings held.entries) so.reflects) over room;
-    middle = out;
-    report = so.puts;
-    breaks = h.reports;
-  }
-
--- the source failed, so nothing came after the octets so far
-pub lost : (start : Start) (before : List ℕ) (at : Moment) → IsSoFar start before at → length at.line ≤ 200 → (0 < length at.line → at.count < 16384) → IsReported Source (given_of start before false) start at
-lost start before at so short within = record {
-  cause = record {
-    before = so.front;
-    text = at.line;
-    cut = subst (λ taken. IsCut taken so.front at.line []) (append-nil before) (IsCut-from start before at so [] short (omega arith) within);
-    run = run_before start before at so;
-  };
-  report = so.puts;
-}
-
--- the script was run to its end
-pub whole_script : (start : Start) (before : List ℕ) (at : Moment) → IsSoFar start before at → at.line ≡ [] → IsReported Whole (given_of start before true) start at
-whole_script start before at so none = record { cause = (refl, whole_lines start before at so none); report = so.puts }
-
-pub whole_with_last : (start : Start) (before : List ℕ) (held new : Held) (line : List ℕ) (count : ℕ) (out now : Shown) → IsSoFar start before (moment held line count out)
-    → 0 < length line → count < 16384 → Runs (by_text line) held new out now → IsReported Whole (given_of start before true) start (moment new line count now)
-whole_with_last start before held new line count out now so some room run = record {
-  cause = (refl, whole_with_line start before (moment held line count out) so new now some room run);
-  report = subst (λ entries. Puts start.was now (entries_text entries)) (sym run.grown) (Puts-entries start.was out now held.entries run.more so.puts run.puts);
-}
-
--- the run stopped in what stands after the last line end
-pub stopped_at_end : (start : Start) (before : List ℕ) (stop : Stop) (held new : Held) (line : List ℕ) (count : ℕ) (out now : Shown) → IsSoFar start before (moment held line count out)
-    → length line ≤ 200 → count < 16384 → (stop ≡ Line → is_line line ≡ false) → Stops (begun_by_text line) stop held new out now → IsStoppedAt stop (given_of start before true) start (moment new line count now)
-stopped_at_end start before stop held new line count out now so short room faulty h =
-    subst (λ taken. IsStoppedAt stop (given_of start taken true) start (moment new line count now)) (append-nil before)
-    (stopped_in_line start before [] true held line count out so short (omega arith) (λ some. room) stop new now (inr (refl, refl)) room faulty h)
-
--- what is known where the group was opened and nothing of the script was taken
-module _ (request : Asked) (readings : List Reading) (held : Held) (was now : Shown) (opened : IsOpened request held) where
-  abbrev start : Start
-  start = record { request = request; was = was; readings = readings }
-
-  opening : IsUpTo (given_of start [] false) request [] held.entries
-  opening = inl (record { none_taken = refl; nothing = refl; begins = inr (opened.opens readings) })
-
-  -- the report of that broke off
-  pub stopped_at_opening : (stop : Stop) → ((front : List Entry) (entry : Entry) → held.entries ≡ front ++ entry ∷ [] → EntryBreaksOff stop was now (entry_text entry))
-      → IsStoppedAt stop (given_of start [] false) start (moment held [] 0 now)
-  stopped_at_opening stop breaks =
-      let first = (opened.opens readings).answer in
-      by_stop stop first.entry first.alone (breaks [] first.entry first.alone)
-    where
-      broken : (ending : Ending) (entry : Entry) → held.entries ≡ entry ∷ [] → BreaksOff ending was now (entry_text entry) → IsBrokenOff ending (given_of start [] false) start (moment held [] 0 now)
-      broken ending entry alone h = record {
-        done = [];
-        more = held.entries;
-        parts = refl;
-        history = opening;
-        middle = was;
-        report = Puts-none was;
-        breaks = subst (ReportBreaksOff ending was now) (sym alone) (ReportBreaksOff-one ending was now entry h);
-      }
-
-      by_stop : (stop : Stop) (entry : Entry) → held.entries ≡ entry ∷ [] → EntryBreaksOff stop was now (entry_text entry) → IsStoppedAt stop (given_of start [] false) start (moment held [] 0 now)
-      by_stop Line entry alone h = absurd h
-      by_stop SourceStop entry alone h = absurd h
-      by_stop SinkStop entry alone h = broken Sink entry alone h
-      by_stop MemoryStop entry alone h = absurd h
-      by_stop Unreported entry alone h = broken Memory entry alone h
-
-  -- there was no memory to go on
-  pub no_memory_after_opening : Puts was now (entries_text held.entries) → IsStoppedAt MemoryStop (given_of start [] false) start (moment held [] 0 now)
-  no_memory_after_opening puts = record { cause = ([], held.entries, refl, opening); report = puts }
-
--- a piece of which some octets were taken, and at the next the run stopped
-pub StopsWithin-piece : (piece : List ℕ) (place : ℕ) (stop : Stop) (old middle new : Moment) → are_octets piece ≡ true → length piece ≤ 4096 → place < length piece
-    → GoesOn (take place piece) old middle → StopsAt (get_or piece place 0) stop middle new → StopsWithin piece stop old new
-StopsWithin-piece piece place stop old middle new small short within goes stops start before so =
-    let octet = get_or piece place 0 in
-    let later = drop (place + 1) piece in
-    let front = take (place + 1) piece in
-    let whole : front ++ later ≡ piece = take-append-drop (place + 1) piece in
-    let each = and_parts (are_octets front) (are_octets later) (sym (list_all-append (λ octet. nat_lt octet 256) front later) ∙ ap are_octets whole ∙ small) in
-    let same : take place piece ++ (octet ∷ later) ≡ piece = sym (append_assoc (take place piece) (octet ∷ []) later) ∙ ap (λ front. front ++ later) (sym (take_more piece place 0 within)) ∙ whole in
-    subst (λ octets. IsStoppedAt stop (given_of start octets false) start new) (append_assoc before (take place piece) (octet ∷ later) ∙ ap (λ rest. before ++ rest) same)
-    (stops later (omega (arith, short, within, length-drop (place + 1) piece)) each.1 start (before ++ take place piece) (goes start before so))
-
--- the same where other octets were taken before
-pub StopsWithin-then : (a b : List ℕ) (stop : Stop) (first second new : Moment) → GoesOn a first second → StopsWithin b stop second new → StopsWithin (a ++ b) stop first new
-StopsWithin-then a b stop first second new goes stops start before so =
-    subst (λ octets. IsStoppedAt stop (given_of start octets false) start new) (append_assoc before a b) (stops start (before ++ a) (goes start before so))
-
--- no octet came after those that were taken
-pub StopsWithin-lost : (taken : List ℕ) (old at : Moment) → GoesOn taken old at → length at.line ≤ 200 → (0 < length at.line → at.count < 16384) → StopsWithin taken SourceStop old at
-StopsWithin-lost taken old at goes short within start before so = lost start (before ++ taken) at (goes start before so) short within
 
 -- a stop that is not the source's leaves its count
 pub SourceFails-other : (stop : Stop) (old new : ℕ) → (stop ≡ SourceStop → ⊥) → new ≡ old → SourceFails stop old new
@@ -188,3 +32,187 @@ SourceFails-other SourceStop old new other same = absurd (other refl)
 SourceFails-other SinkStop old new other same = same
 SourceFails-other MemoryStop old new other same = same
 SourceFails-other Unreported old new other same = same
+
+module _ {D G V R : Type 0} (on : Devices D G V) (draws : DrawGhosts R) where
+  -- a line that begins to give nothing leaves the run as it is
+  nothing_given : (by : Keying G) (text : List ℕ) (before more : List Entry) (run after : Run D) → more ≡ [] → LineBegins on by text before run more after → after ≡ run
+  nothing_given by text before more run after none h = elim h [
+    | inl same ↦ same.1
+    | inr begins ↦ subst (λ more. GoesThrough on by begins.0 before [] run more after) none begins.2
+  ]
+
+  -- what is known of a run up to a place, and what came after it
+  module _ (start : Start D G) (before after : List ℕ) (ended : Bool) (held : View D G R) (line : List ℕ) (count : ℕ) (out : Shown)
+      (so : IsSoFar on draws start before (moment held line count out)) (short : length line ≤ 200) (near : length after ≤ 4096) (within : 0 < length line → count < 16384) where
+    abbrev given : Given
+    given = given_of (before ++ after) ended
+
+    stopped : IsFaulty ended (count + 1) line after → EndsAtLine on start.by given start.request start.run (count + 1) held.entries so.now
+    stopped faulty = record {
+      before = so.front;
+      text = line;
+      rest = after;
+      cut = IsCut-from on draws start before (moment held line count out) so after short near within;
+      run = run_before on draws start before (moment held line count out) so;
+      counted = ap (λ n. n + 1) (sym (count_before on draws start before (moment held line count out) so));
+      faulty = faulty;
+    }
+
+    -- the next line is faulty
+    pub stopped_at_line : IsFaulty ended (count + 1) line after → IsReported on draws (BadLine (count + 1)) given start (moment held line count out)
+    stopped_at_line faulty = record { after = so.now; stands = so.stands; cause = stopped faulty; report = so.puts }
+
+    -- the line was over, and began to give these entries
+    up_to : (more : List Entry) (next : Run D) → LineBegins on start.by line held.entries so.now more next → IsOver ended after → count < 16384
+        → IsUpTo on start.by given start.request start.run held.entries more next
+    up_to more next begins over room = inr (record {
+      before = so.front;
+      text = line;
+      rest = after;
+      cut = IsCut-from on draws start before (moment held line count out) so after short near within;
+      middle = so.now;
+      run = run_before on draws start before (moment held line count out) so;
+      begins = begins;
+      over = inr (over, omega (arith, room, count_before on draws start before (moment held line count out) so));
+    })
+
+    module _ (stop : Stop) (new : View D G R) (now : Shown) (over : IsOver ended after) (room : count < 16384) (h : Stops on.disks draws (begun_by_text on line) stop held new out now) where
+      abbrev next : (next : Run D) × LineBegins on start.by line held.entries so.now h.more next × Stands on.disks draws start.by new next
+      next = h.each start.by so.now so.stands
+
+      abbrev in_parts : IsInParts on start.by given start.request start.run new.entries next.0
+      in_parts = record { done = held.entries; more = h.more; parts = h.grown; up_to = up_to h.more next.0 next.1 over room }
+
+      -- in what it gave the report broke off
+      broken : (ending : Ending) → ReportBreaksOff ending out now h.more → IsBrokenOff on draws ending given start (moment new line count now)
+      broken ending breaks = record { after = next.0; stands = next.2; history = in_parts; middle = out; report = so.puts; breaks = breaks }
+
+      -- what it gave was reported
+      reported : Puts out now (entries_text h.more) → IsReported on draws Memory given start (moment new line count now)
+      reported puts = record {
+        after = next.0;
+        stands = next.2;
+        cause = in_parts;
+        report = subst (λ entries. Puts start.was now (entries_text entries)) (sym h.grown) (Puts-entries start.was out now held.entries h.more so.puts puts);
+      }
+
+      -- it gave nothing, for it is faulty
+      faulty_line : IsFaulty ended (count + 1) line after → h.more ≡ [] → Puts out now [] → IsReported on draws (BadLine (count + 1)) given start (moment new line count now)
+      faulty_line faulty none puts =
+          let same : new.entries ≡ held.entries = h.grown ∙ ap (λ more. held.entries ++ more) none ∙ append-nil held.entries in
+          let stays : next.0 ≡ so.now = nothing_given start.by line held.entries h.more so.now next.0 none next.1 in
+          record {
+            after = next.0;
+            stands = next.2;
+            cause = subst (λ entries. EndsAtLine on start.by given start.request start.run (count + 1) entries next.0) (sym same)
+                (subst (EndsAtLine on start.by given start.request start.run (count + 1) held.entries) (sym stays) (stopped faulty));
+            report = subst (λ entries. Puts start.was now (entries_text entries)) (sym (same ∙ sym (append-nil held.entries))) (Puts-entries start.was out now held.entries [] so.puts puts);
+          }
+
+    -- the run stopped in it
+    pub stopped_in_line : (stop : Stop) (new : View D G R) (now : Shown) → IsOver ended after → count < 16384 → (stop ≡ Line → is_line line ≡ false)
+        → Stops on.disks draws (begun_by_text on line) stop held new out now → IsStoppedAt on draws stop given start (moment new line count now)
+    stopped_in_line Line new now over room faulty h = faulty_line Line new now over room h (inr (inr (faulty refl, over))) h.reports.0 h.reports.1
+    stopped_in_line SourceStop new now over room faulty h = absurd h.reports
+    stopped_in_line SinkStop new now over room faulty h = broken SinkStop new now over room h Sink h.reports
+    stopped_in_line MemoryStop new now over room faulty h = reported MemoryStop new now over room h h.reports
+    stopped_in_line Unreported new now over room faulty h = broken Unreported new now over room h Memory h.reports
+
+  -- the source failed, so nothing came after the octets so far
+  lost : (start : Start D G) (before : List ℕ) (now : Moment D G R) → IsSoFar on draws start before now → length now.line ≤ 200 → (0 < length now.line → now.count < 16384)
+      → IsReported on draws Source (given_of before false) start now
+  lost start before now so short within = record {
+    after = so.now;
+    stands = so.stands;
+    cause = record {
+      before = so.front;
+      text = now.line;
+      cut = subst (λ taken. IsCut taken so.front now.line []) (append-nil before) (IsCut-from on draws start before now so [] short (omega arith) within);
+      run = run_before on draws start before now so;
+    };
+    report = so.puts;
+  }
+
+  -- the script was run to its end
+  pub whole_script : (start : Start D G) (before : List ℕ) (now : Moment D G R) → IsSoFar on draws start before now → now.line ≡ [] → IsReported on draws Whole (given_of before true) start now
+  whole_script start before now so none = record {
+    after = so.now;
+    stands = so.stands;
+    cause = record { ended = refl; run = whole_lines on draws start before now so none };
+    report = so.puts;
+  }
+
+  pub whole_with_last : (start : Start D G) (before : List ℕ) (held new : View D G R) (line : List ℕ) (count : ℕ) (out now : Shown) → IsSoFar on draws start before (moment held line count out)
+      → 0 < length line → count < 16384 → Runs on.disks draws (by_text on line) held new out now → IsReported on draws Whole (given_of before true) start (moment new line count now)
+  whole_with_last start before held new line count out now so some room run = record {
+    after = (run.each start.by so.now so.stands).0;
+    stands = (run.each start.by so.now so.stands).2;
+    cause = record { ended = refl; run = whole_with_line on draws start before (moment held line count out) so new now some room run };
+    report = subst (λ entries. Puts start.was now (entries_text entries)) (sym run.grown) (Puts-entries start.was out now held.entries run.more so.puts run.puts);
+  }
+
+  -- the run stopped in what stands after the last line end
+  pub stopped_at_end : (start : Start D G) (before : List ℕ) (stop : Stop) (held new : View D G R) (line : List ℕ) (count : ℕ) (out now : Shown) → IsSoFar on draws start before (moment held line count out)
+      → length line ≤ 200 → count < 16384 → (stop ≡ Line → is_line line ≡ false) → Stops on.disks draws (begun_by_text on line) stop held new out now
+      → IsStoppedAt on draws stop (given_of before true) start (moment new line count now)
+  stopped_at_end start before stop held new line count out now so short room faulty h =
+      subst (λ taken. IsStoppedAt on draws stop (given_of taken true) start (moment new line count now)) (append-nil before)
+      (stopped_in_line start before [] true held line count out so short (omega arith) (λ some. room) stop new now (inr (refl, refl)) room faulty h)
+
+  -- what is known where the group was opened and nothing of the script was taken
+  module _ (start : Start D G) (held : View D G R) (now : Shown) (opened : IsOpened on draws start held) where
+    abbrev opening : IsInParts on start.by (given_of [] false) start.request start.run held.entries opened.opened
+    opening = record {
+      done = [];
+      more = held.entries;
+      parts = refl;
+      up_to = inl (record { none_taken = refl; nothing = refl; begins = inr opened.opens.first });
+    }
+
+    -- there was no memory to go on
+    pub no_memory_after_opening : Puts start.was now (entries_text held.entries) → IsReported on draws Memory (given_of [] false) start (moment held [] 0 now)
+    no_memory_after_opening puts = record { after = opened.opened; stands = opened.stands; cause = opening; report = puts }
+
+    -- the report of that broke off
+    opening_broken : (ending : Ending) → BreaksOff ending start.was now (entry_text opened.opens.first.entry) → IsBrokenOff on draws ending (given_of [] false) start (moment held [] 0 now)
+    opening_broken ending h = record {
+      after = opened.opened;
+      stands = opened.stands;
+      history = opening;
+      middle = start.was;
+      report = Puts-none start.was;
+      breaks = subst (ReportBreaksOff ending start.was now) (sym opened.opens.first.alone) (ReportBreaksOff-one ending start.was now opened.opens.first.entry h);
+    }
+
+    pub opening_reported : Puts start.was now (entry_text opened.opens.first.entry) → Puts start.was now (entries_text held.entries)
+    opening_reported puts = subst (λ entries. Puts start.was now (entries_text entries)) (sym opened.opens.first.alone) (Puts-entry start.was now opened.opens.first.entry puts)
+
+    pub stopped_at_opening : (stop : Stop) → EntryStops stop start.was now opened.opens.first.entry → IsStoppedAt on draws stop (given_of [] false) start (moment held [] 0 now)
+    stopped_at_opening Line h = absurd h
+    stopped_at_opening SourceStop h = absurd h
+    stopped_at_opening SinkStop h = opening_broken Sink h
+    stopped_at_opening MemoryStop h = no_memory_after_opening (opening_reported h.0)
+    stopped_at_opening Unreported h = opening_broken Memory h
+
+  -- a piece of which some octets were taken, and at the next the run stopped
+  pub StopsWithin-piece : (piece : List ℕ) (place : ℕ) (stop : Stop) (old middle new : Moment D G R) → are_octets piece ≡ true → length piece ≤ 4096 → place < length piece
+      → GoesOn on draws (take place piece) old middle → StopsAt on draws (get_or piece place 0) stop middle new → StopsWithin on draws piece stop old new
+  StopsWithin-piece piece place stop old middle new small short within goes stops start before so =
+      let octet = get_or piece place 0 in
+      let later = drop (place + 1) piece in
+      let front = take (place + 1) piece in
+      let whole : front ++ later ≡ piece = take-append-drop (place + 1) piece in
+      let each = and_parts (are_octets front) (are_octets later) (sym (list_all-append (λ octet. nat_lt octet 256) front later) ∙ ap are_octets whole ∙ small) in
+      let same : take place piece ++ (octet ∷ later) ≡ piece = sym (append_assoc (take place piece) (octet ∷ []) later) ∙ ap (λ front. front ++ later) (sym (take_more piece place 0 within)) ∙ whole in
+      subst (λ octets. IsStoppedAt on draws stop (given_of octets false) start new) (append_assoc before (take place piece) (octet ∷ later) ∙ ap (λ rest. before ++ rest) same)
+      (stops later (omega (arith, short, within, length-drop (place + 1) piece)) each.1 start (before ++ take place piece) (goes start before so))
+
+  -- the same where other octets were taken before
+  pub StopsWithin-then : (a b : List ℕ) (stop : Stop) (first second new : Moment D G R) → GoesOn on draws a first second → StopsWithin on draws b stop second new → StopsWithin on draws (a ++ b) stop first new
+  StopsWithin-then a b stop first second new goes stops start before so =
+      subst (λ octets. IsStoppedAt on draws stop (given_of octets false) start new) (append_assoc before a b) (stops start (before ++ a) (goes start before so))
+
+  -- no octet came after those that were taken
+  pub StopsWithin-lost : (taken : List ℕ) (old now : Moment D G R) → GoesOn on draws taken old now → length now.line ≤ 200 → (0 < length now.line → now.count < 16384)
+      → StopsWithin on draws taken SourceStop old now
+  StopsWithin-lost taken old now goes short within start before so = lost start (before ++ taken) now (goes start before so) short within

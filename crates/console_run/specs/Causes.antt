@@ -3,20 +3,22 @@ use Rattle.std.specs.Prelude.{◌≡◌, ◌⊎◌, ℕ, ◌+◌, ◌<◌, ◌�
 use Rattle.std.specs.List.{list_any}
 use Rattle.std.specs.Io.KnownBytes.{Consumes}
 use Rattle.group_terms.specs.Faults.{Rose}
-use Rattle.group_model.specs.declared.entries.Entry.{Entry}
+use Rattle.group_model.specs.declared.entries.Answer.TheVariants.{Refused}
 use Rattle.group_model.specs.declared.entries.Asked.{Asked}
-use Rattle.group_model.specs.Groups.{Reading, present_group}
+use Rattle.group_model.specs.declared.entries.Entry.{Entry}
+use Rattle.group_model.specs.declared.entries.Refusal.{Refusal}
+use Rattle.group_model.specs.declared.entries.Refusal.TheVariants.{DiskFault, NotAJournal}
+use Rattle.group_steps.specs.Runs.{Run}
 use Rattle.console_run.specs.declared.endings.Ending.{Ending}
-use Rattle.console_run.specs.declared.endings.Ending.TheVariants.{Whole, NoGroup, BadLine, Source, Sink, Memory}
+use Rattle.console_run.specs.declared.endings.Ending.TheVariants.{Whole, NoGroup, BadLine, Source, Sink, Memory, NotOpened}
+use Rattle.console_run.specs.Devices.{Devices, Keying}
 use Rattle.console_run.specs.Scripts.{are_octets, ends_line, script_lines, EndsLine, is_line}
-use Rattle.console_run.specs.Lines.{Opens, LineBegins, IsRunOf}
+use Rattle.console_run.specs.Lines.{IsOpeningEntry, IsRunOf, LineBegins}
 
--- What the outside gave to a run: the octets that were taken from the source, whether the source then had no more, and what each opening
--- read of its journal.
+-- What the source gave to a run: the octets that were taken from it, and whether it then had no more.
 pub record Given : Type 0 where
   pub taken : List ℕ
   pub ended : Bool
-  pub readings : List Reading
 
 -- where the source exposed what it had, that was taken whole
 abbrev pub TakesAll : Option (List ℕ) → List ℕ → Type 0
@@ -51,63 +53,80 @@ IsFaulty ended number text after =
     ⊎ (((length text ≡ 200) × ((octet : ℕ) × (later : List ℕ) × (after ≡ octet ∷ later) × (octet ≡ 10 → ⊥)))
     ⊎ ((is_line text ≡ false) × IsOver ended after))
 
--- the lines before the one of this number were run, and that one is faulty
-pub record IsStopped (given : Given) (request : Asked) (number : ℕ) (entries : List Entry) : Type 0 where
-  pub before : List ℕ
-  pub text : List ℕ
-  pub after : List ℕ
-  pub cut : IsCut given.taken before text after
-  pub run : IsRunOf given.readings request (script_lines before) entries
-  pub counted : number ≡ length (script_lines before) + 1
-  pub faulty : IsFaulty given.ended number text after
+-- the disk failed, or it has the journal of no group
+abbrev pub CannotOpen : Refusal → Type 0
+CannotOpen why = (why ≡ DiskFault) ⊎ ((at : ℕ) × (why ≡ NotAJournal at))
 
--- Nothing came after the text. The lines that ended were run, and nothing of the one that has begun. (`SourceAt` says that the source failed.)
-pub record IsLost (given : Given) (request : Asked) (entries : List Entry) : Type 0 where
-  pub before : List ℕ
-  pub text : List ℕ
-  pub cut : IsCut given.taken before text []
-  pub run : IsRunOf given.readings request (script_lines before) entries
+-- Of a run on these devices, for which an opening was requested: what the source gave, the run before the opening, the history, and the run after it.
+module _ {D G V : Type 0} (on : Devices D G V) (by : Keying G) (given : Given) (request : Asked) (start : Run D) where
+  -- the lines before the one of this number were run, and that one is faulty
+  pub record EndsAtLine (number : ℕ) (entries : List Entry) (after : Run D) : Type 0 where
+    pub before : List ℕ
+    pub text : List ℕ
+    pub rest : List ℕ
+    pub cut : IsCut given.taken before text rest
+    pub run : IsRunOf on by request start (script_lines before) entries after
+    pub counted : number ≡ length (script_lines before) + 1
+    pub faulty : IsFaulty given.ended number text rest
 
--- nothing of the script was taken; the group was opened, or not even that
-pub record IsOpening (given : Given) (request : Asked) (done more : List Entry) : Type 0 where
-  pub none_taken : given.taken ≡ []
-  pub nothing : done ≡ []
-  pub begins : (more ≡ []) ⊎ Opens given.readings request more
+  -- Nothing came after the text. The lines that ended were run, and nothing of the one that has begun. (`SourceAt` says that the source failed.)
+  pub record EndsAtSource (entries : List Entry) (after : Run D) : Type 0 where
+    pub before : List ℕ
+    pub text : List ℕ
+    pub cut : IsCut given.taken before text []
+    pub run : IsRunOf on by request start (script_lines before) entries after
 
--- The lines before some place of the script gave the first entries. The others are what the next line began to give, where it was over and
--- within the limits; or there are none.
-pub record IsUpToLine (given : Given) (request : Asked) (done more : List Entry) : Type 0 where
-  pub before : List ℕ
-  pub text : List ℕ
-  pub after : List ℕ
-  pub cut : IsCut given.taken before text after
-  pub run : IsRunOf given.readings request (script_lines before) done
-  pub begins : LineBegins (present_group given.readings done) done text more
-  pub over : (more ≡ []) ⊎ (IsOver given.ended after × (length (script_lines before) < 16384))
+  -- the disk, or what it has, did not let the group be opened; nothing of the script was taken
+  pub record EndsUnopened (entries : List Entry) (after : Run D) : Type 0 where
+    pub none_taken : given.taken ≡ []
+    pub first : IsOpeningEntry on by request start entries after
+    pub why : Refusal
+    pub refused : first.entry.answer ≡ Refused why
+    pub cause : CannotOpen why
 
--- what the opening and the lines before the one begun last gave, and what that one began to give
-abbrev pub IsUpTo : Given → Asked → List Entry → List Entry → Type 0
-IsUpTo given request done more = IsOpening given request done more ⊎ IsUpToLine given request done more
+  -- nothing of the script was taken; the opening was answered, or not even that
+  pub record IsOpening (done more : List Entry) (after : Run D) : Type 0 where
+    pub none_taken : given.taken ≡ []
+    pub nothing : done ≡ []
+    pub begins : ((more ≡ []) × (after ≡ start)) ⊎ IsOpeningEntry on by request start more after
 
--- why an ending was due of a run whose words asked for an opening
-abbrev pub CauseOf : Ending → Given → Asked → List Entry → Type 0
-CauseOf Whole given request entries = (given.ended ≡ true) × IsRunOf given.readings request (script_lines given.taken) entries
-CauseOf NoGroup given request entries = ⊥
-CauseOf (BadLine line) given request entries = IsStopped given request line entries
-CauseOf Source given request entries = IsLost given request entries
-CauseOf Sink given request entries = ⊥
-CauseOf Memory given request entries = (done : List Entry) × (more : List Entry) × (entries ≡ done ++ more) × IsUpTo given request done more
+  -- The lines before some place of the script gave the first entries. The others are what the next line began to give, where it was over and
+  -- within the limits; or there are none.
+  pub record IsUpToLine (done more : List Entry) (after : Run D) : Type 0 where
+    pub before : List ℕ
+    pub text : List ℕ
+    pub rest : List ℕ
+    pub cut : IsCut given.taken before text rest
+    pub middle : Run D
+    pub run : IsRunOf on by request start (script_lines before) done middle
+    pub begins : LineBegins on by text done middle more after
+    pub over : (more ≡ []) ⊎ (IsOver given.ended rest × (length (script_lines before) < 16384))
 
--- and of one whose words asked for none
-pub record AskedForNone (due : Ending) (given : Given) (entries : List Entry) : Type 0 where
-  pub cause : due ≡ NoGroup
-  pub none_taken : given.taken ≡ []
-  pub nothing : entries ≡ []
+  -- what the opening and the lines before the one begun last gave, and what that one began to give
+  abbrev pub IsUpTo : List Entry → List Entry → Run D → Type 0
+  IsUpTo done more after = IsOpening done more after ⊎ IsUpToLine done more after
 
--- why an ending was due, by what the words asked for
-abbrev pub IsCauseOf : Ending → Given → Option Asked → List Entry → Type 0
-IsCauseOf due given None entries = AskedForNone due given entries
-IsCauseOf due given (Some request) entries = CauseOf due given request entries
+  -- the history in these two parts
+  pub record IsInParts (entries : List Entry) (after : Run D) : Type 0 where
+    pub done : List Entry
+    pub more : List Entry
+    pub parts : entries ≡ done ++ more
+    pub up_to : IsUpTo done more after
+
+  -- the whole script was run
+  pub record IsWhole (entries : List Entry) (after : Run D) : Type 0 where
+    pub ended : given.ended ≡ true
+    pub run : IsRunOf on by request start (script_lines given.taken) entries after
+
+  -- why an ending was due
+  abbrev pub CauseOf : Ending → List Entry → Run D → Type 0
+  CauseOf Whole entries after = IsWhole entries after
+  CauseOf NoGroup entries after = ⊥
+  CauseOf (BadLine line) entries after = EndsAtLine line entries after
+  CauseOf Source entries after = EndsAtSource entries after
+  CauseOf Sink entries after = ⊥
+  CauseOf Memory entries after = IsInParts entries after
+  CauseOf NotOpened entries after = EndsUnopened entries after
 
 -- the source failed where that is the ending, and nowhere else
 abbrev pub SourceAt : Ending → ℕ → ℕ → Type 0
@@ -117,3 +136,4 @@ SourceAt (BadLine line) old new = new ≡ old
 SourceAt Source old new = Rose old new
 SourceAt Sink old new = new ≡ old
 SourceAt Memory old new = new ≡ old
+SourceAt NotOpened old new = new ≡ old

@@ -1,5 +1,5 @@
 pub mod Causes
-pub mod CommandLine
+pub mod Devices
 pub mod Lines
 pub mod Private
 pub mod Promises

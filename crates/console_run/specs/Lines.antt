@@ -1,86 +1,116 @@
 -- Which entries the lines of a script give.
-use Rattle.std.specs.Prelude.{◌≡◌, ◌⊎◌, ℕ, ◌≤◌, Bool, true, false, List, [], ◌∷◌, ◌++◌, length, Option, Some}
-use Rattle.group_model.specs.declared.entries.Entry.{Entry}
+use Rattle.std.specs.Prelude.{◌≡◌, ◌⊎◌, ℕ, ◌≤◌, true, false, List, [], ◌∷◌, ◌++◌, length, slice_get, MatchBool, Option, None, Some}
+use Rattle.std.specs.Option.{option_map}
+use Rattle.group_model.specs.Legal.{any_ran_out, is_open, ran_out}
+use Rattle.group_model.specs.Servers.{members_now}
 use Rattle.group_model.specs.declared.entries.Asked.{Asked}
-use Rattle.group_model.specs.declared.entries.Asked.TheVariants.{Join as AskJoin, Leave as AskLeave, Batch as AskBatch, Derive as AskDerive}
-use Rattle.group_model.specs.declared.entries.Answer.{Answer}
-use Rattle.group_model.specs.declared.entries.Answer.TheVariants.{Batched, Opened, Refused}
-use Rattle.group_model.specs.declared.entries.Refusal.{Refusal}
-use Rattle.group_model.specs.declared.entries.Refusal.TheVariants.{Spent, DiskFault}
-use Rattle.group_model.specs.declared.entries.GroupSeen.{GroupSeen}
-use Rattle.group_model.specs.declared.entries.PushPair.{PushPair}
-use Rattle.group_model.specs.Groups.{Reading, Group, no_group, present_group}
-use Rattle.group_model.specs.Legal.{HasNoDatagrams, IsStep, any_ran_out}
+use Rattle.group_model.specs.declared.entries.Asked.TheVariants as requests
+use Rattle.group_model.specs.declared.entries.Entry.{Entry}
+use Rattle.group_peers.specs.declared.members.Peer.{Peer}
+use Rattle.group_run.specs.Deliveries.{IsFirstDue, NoneIsDue}
+use Rattle.group_run.specs.declared.deliveries.Delivery.{Delivery}
+use Rattle.group_steps.specs.Members.{not_told}
+use Rattle.group_steps.specs.Runs.{Run}
 use Rattle.script_text.specs.Lines.{line_of}
 use Rattle.script_text.specs.declared.lines.Line.{Line}
-use Rattle.script_text.specs.declared.lines.Line.TheVariants.{Nothing, Join, Leave, Batch, Derive}
+use Rattle.script_text.specs.declared.lines.Line.TheVariants.{Nothing, Join, Leave, Batch, Deliver, DeliverAll, Key, Derive, Halt, Reopen, Show}
+use Rattle.console_run.specs.Devices.{Devices, Keying, Steps}
 
--- a reason that there may be where there is no disk and no limit
-abbrev pub is_on_paper : Refusal → Bool
-is_on_paper (Spent counter at) = false
-is_on_paper DiskFault = false
-is_on_paper why = true
+-- ---- what a line asks next
 
--- an answer of a group that has neither a disk nor keys: no disk failed, no limit was met, and no datagram was made
-abbrev pub IsPlain : Answer → Type 0
-IsPlain (Batched output) = HasNoDatagrams output
-IsPlain (Refused why) = is_on_paper why ≡ true
-IsPlain answer = Unit {0}
+-- one request, and nothing after it
+abbrev pub once : Asked → List Entry → Option Asked
+once request [] = Some request
+once request (entry ∷ so_far) = None
 
--- one entry answers a request, after those before it, which have made this group; nothing was drawn for it, and perhaps memory ran out
-pub record AnswersOrRunsOut (group : Group) (before : List Entry) (request : Asked) (more : List Entry) : Type 0 where
-  pub entry : Entry
-  pub alone : more ≡ entry ∷ []
-  pub asked : entry.asked ≡ request
-  pub step : IsStep group before entry
-  pub plain : IsPlain entry.answer
-  pub nothing_drawn : entry.outside.place ≡ 0
+-- a batch; then each who came in with it is told its keys, one request each
+abbrev pub batch_and_replies : List Entry → List Entry → Option Asked
+batch_and_replies before [] = Some requests.Batch
+batch_and_replies before (entry ∷ so_far) = option_map requests.Keep (slice_get (not_told (before ++ (entry ∷ so_far))) 0)
 
--- one entry answers a request, and memory did not run out
-pub record Answers (group : Group) (before : List Entry) (request : Asked) (more : List Entry) : Type 0 where
-  pub answer : AnswersOrRunsOut group before request more
-  pub enough_memory : any_ran_out more ≡ false
+-- what was given last by a line that gave these entries so far
+abbrev pub WasGivenLast : List Peer → List Entry → Option Delivery → Type 0
+WasGivenLast peers so_far None = so_far ≡ []
+WasGivenLast peers so_far (Some last) =
+    (front : List Entry) × (entry : Entry) × (so_far ≡ front ++ entry ∷ []) × (entry.asked ≡ requests.Deliver last.member last.number)
+    × (peer : Peer) × (slice_get peers last.place ≡ Some peer) × (last.member ≡ peer.name)
 
--- one entry answers a request, and the group is open
-pub record Opens (readings : List Reading) (request : Asked) (opening : List Entry) : Type 0 where
-  pub answer : AnswersOrRunsOut (no_group readings) [] request opening
-  pub seen : GroupSeen
-  pub resent : Option PushPair
-  pub is_open : answer.entry.answer ≡ Opened seen resent
+module _ {D : Type 0} (run : Run D) (before so_far : List Entry) where
+  -- the first push that is due after the last one given, or nothing where none is due any more
+  abbrev pub IsNextGiven : Option Delivery → Option Asked → Type 0
+  IsNextGiven last next =
+      ((next ≡ None) × NoneIsDue (members_now run.server) run.peers (before ++ so_far) last)
+      ⊎ ((delivery : Delivery) × (next ≡ Some (requests.Deliver delivery.member delivery.number))
+      × IsFirstDue (members_now run.server) run.peers (before ++ so_far) last delivery)
 
--- a line gives these entries
-abbrev pub Gives : Group → List Entry → Line → List Entry → Type 0
-Gives group before Nothing more = more ≡ []
-Gives group before (Join m) more = Answers group before (AskJoin m) more
-Gives group before (Leave m) more = Answers group before (AskLeave m) more
-Gives group before Batch more = Answers group before AskBatch more
-Gives group before (Derive epoch members) more = Answers group before (AskDerive epoch members) more
+  abbrev pub GivesWhatIsDue : Option Asked → Type 0
+  GivesWhatIsDue next = (last : Option Delivery) × WasGivenLast run.peers so_far last × IsNextGiven last next
 
--- A line begins to give these entries: the first of those that it gives, perhaps none. The last of them may have run out of memory.
-abbrev pub BeginsToGive : Group → List Entry → Line → List Entry → Type 0
-BeginsToGive group before Nothing more = more ≡ []
-BeginsToGive group before (Join m) more = (more ≡ []) ⊎ AnswersOrRunsOut group before (AskJoin m) more
-BeginsToGive group before (Leave m) more = (more ≡ []) ⊎ AnswersOrRunsOut group before (AskLeave m) more
-BeginsToGive group before Batch more = (more ≡ []) ⊎ AnswersOrRunsOut group before AskBatch more
-BeginsToGive group before (Derive epoch members) more = (more ≡ []) ⊎ AnswersOrRunsOut group before (AskDerive epoch members) more
+  -- what a line asks, after the entries before it and those that it gave so far, which made this run
+  abbrev pub AsksNext : Line → Option Asked → Type 0
+  AsksNext Nothing next = next ≡ None
+  AsksNext (Join m) next = next ≡ once (requests.Join m) so_far
+  AsksNext (Leave m) next = next ≡ once (requests.Leave m) so_far
+  AsksNext Batch next = next ≡ batch_and_replies before so_far
+  AsksNext (Deliver m number) next = next ≡ once (requests.Deliver m number) so_far
+  AsksNext DeliverAll next = MatchBool run.server.need (next ≡ once requests.DeliverAll so_far) (GivesWhatIsDue next)
+  AsksNext (Key m) next = next ≡ once (requests.Key m) so_far
+  AsksNext (Derive epoch members) next = next ≡ once (requests.Derive epoch members) so_far
+  AsksNext Halt next = next ≡ once requests.Halt so_far
+  AsksNext Reopen next = next ≡ once requests.Reopen so_far
+  AsksNext Show next = next ≡ once requests.Show so_far
 
--- a text is a line of the grammar, which gives these entries
-abbrev pub LineGives : Group → List Entry → List ℕ → List Entry → Type 0
-LineGives group before text more = (line : Line) × (line_of text ≡ Some line) × Gives group before line more
+-- ---- what a script gives
 
--- a text begins to give these entries; one that is no line of the grammar gives none
-abbrev pub LineBegins : Group → List Entry → List ℕ → List Entry → Type 0
-LineBegins group before text more = (more ≡ []) ⊎ ((line : Line) × (line_of text ≡ Some line) × BeginsToGive group before line more)
+module _ {D G V : Type 0} (on : Devices D G V) (by : Keying G) where
+  -- Entries one after the other, after those that a line gave so far. Each answers what the line asks next, and memory ran out in the last of them at most.
+  abbrev pub GoesThrough : Line → List Entry → List Entry → Run D → List Entry → Run D → Type 0
+  GoesThrough line before so_far run [] after = after ≡ run
+  GoesThrough line before so_far run (entry ∷ more) after =
+      AsksNext run before so_far line (Some entry.asked) × ((more ≡ []) ⊎ (ran_out entry.answer ≡ false))
+      × (next : Run D) × Steps on by (before ++ so_far) run entry next × GoesThrough line before (so_far ++ entry ∷ []) next more after
 
--- lines, one after the other, lead from the entries before them to these
-abbrev pub LinesGive : List Reading → List Entry → List (List ℕ) → List Entry → Type 0
-LinesGive readings before [] after = after ≡ before
-LinesGive readings before (line ∷ lines) after =
-    (more : List Entry) × LineGives (present_group readings before) before line more × LinesGive readings (before ++ more) lines after
+  -- A line begins to give these entries: the first of those that it gives, perhaps none. The last of them may have run out of memory.
+  abbrev pub BeginsToGive : Line → List Entry → Run D → List Entry → Run D → Type 0
+  BeginsToGive line before run more after = GoesThrough line before [] run more after
 
--- The history of a group that was opened as requested, and on which these lines were run. What its openings read is given.
-pub record IsRunOf (readings : List Reading) (request : Asked) (lines : List (List ℕ)) (entries : List Entry) : Type 0 where
-  pub opening : List Entry
-  pub opened : Opens readings request opening
-  pub few : length lines ≤ 16384
-  pub gives : LinesGive readings opening lines entries
+  -- a line gives these entries: it asks nothing more after them, and memory did not run out
+  pub record Gives (line : Line) (before : List Entry) (run : Run D) (more : List Entry) (after : Run D) : Type 0 where
+    pub begins : BeginsToGive line before run more after
+    pub no_more : AsksNext after before more line None
+    pub enough_memory : any_ran_out more ≡ false
+
+  -- a text is a line of the grammar, which gives these entries
+  abbrev pub LineGives : List ℕ → List Entry → Run D → List Entry → Run D → Type 0
+  LineGives text before run more after = (line : Line) × (line_of text ≡ Some line) × Gives line before run more after
+
+  -- a text begins to give these entries; one that is no line of the grammar gives none
+  abbrev pub LineBegins : List ℕ → List Entry → Run D → List Entry → Run D → Type 0
+  LineBegins text before run more after =
+      ((more ≡ []) × (after ≡ run)) ⊎ ((line : Line) × (line_of text ≡ Some line) × BeginsToGive line before run more after)
+
+  -- lines, one after the other, lead from the entries before them to these
+  abbrev pub LinesGive : List Entry → Run D → List (List ℕ) → List Entry → Run D → Type 0
+  LinesGive before run [] entries after = (entries ≡ before) × (after ≡ run)
+  LinesGive before run (line ∷ lines) entries after =
+      (more : List Entry) × (next : Run D) × LineGives line before run more next × LinesGive (before ++ more) next lines entries after
+
+  -- one entry answers the opening that is requested
+  pub record IsOpeningEntry (request : Asked) (start : Run D) (entries : List Entry) (after : Run D) : Type 0 where
+    pub entry : Entry
+    pub alone : entries ≡ entry ∷ []
+    pub asked : entry.asked ≡ request
+    pub step : Steps on by [] start entry after
+
+  -- and the group is open
+  pub record Opens (request : Asked) (start : Run D) (entries : List Entry) (after : Run D) : Type 0 where
+    pub first : IsOpeningEntry request start entries after
+    pub is_open : is_open first.entry.answer ≡ true
+
+  -- The history of a group that was opened as requested, and on which these lines were run, and the run after it.
+  pub record IsRunOf (request : Asked) (start : Run D) (lines : List (List ℕ)) (entries : List Entry) (after : Run D) : Type 0 where
+    pub opening : List Entry
+    pub opened : Run D
+    pub opens : Opens request start opening opened
+    pub few : length lines ≤ 16384
+    pub gives : LinesGive opening opened lines entries after

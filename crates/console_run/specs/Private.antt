@@ -1,8 +1,7 @@
 -- What private functions promise each other. No public contract cites these.
+pub mod Asks
 pub mod Cuts
 pub mod Follows
-pub mod Held
-pub mod Kept
 pub mod Openings
 pub mod Reports
 pub mod Runs

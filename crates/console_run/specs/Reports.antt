@@ -1,12 +1,12 @@
 -- What is put into a sink.
-use Rattle.std.specs.Prelude.{◌≡◌, ◌⊎◌, ℕ, ◌<◌, List, [], ◌++◌, length, Option}
+use Rattle.std.specs.Prelude.{◌≡◌, ◌⊎◌, ℕ, ◌<◌, List, [], ◌∷◌, ◌++◌, length, Option}
 use Rattle.std.specs.Io.KnownBytes.{Appends}
 use Rattle.group_terms.specs.Faults.{Rose}
 use Rattle.gd_edges.specs.Shown.{Shown}
 use Rattle.group_model.specs.declared.entries.Entry.{Entry}
-use Rattle.script_text.specs.Report.{entries_text, end_text}
+use Rattle.script_text.specs.Report.{entries_text, entry_text, end_text}
 use Rattle.console_run.specs.declared.endings.Ending.{Ending}
-use Rattle.console_run.specs.declared.endings.Ending.TheVariants.{Whole, NoGroup, BadLine, Source, Sink, Memory}
+use Rattle.console_run.specs.declared.endings.Ending.TheVariants.{Whole, NoGroup, BadLine, Source, Sink, Memory, NotOpened}
 
 -- no call failed, and where the sink exposes what was put, a text was put
 pub record Puts (was now : Shown) (text : List ℕ) : Type 0 where
@@ -29,6 +29,7 @@ status_of (BadLine line) = 2
 status_of Source = 3
 status_of Sink = 4
 status_of Memory = 5
+status_of NotOpened = 6
 
 abbrev pub line_at : Ending → ℕ
 line_at Whole = 0
@@ -37,6 +38,7 @@ line_at (BadLine line) = line
 line_at Source = 0
 line_at Sink = 0
 line_at Memory = 0
+line_at NotOpened = 0
 
 -- the line that ends a report
 abbrev pub last_line : Ending → List ℕ
@@ -51,17 +53,17 @@ BreaksOff (BadLine line) was now text = ⊥
 BreaksOff Source was now text = ⊥
 BreaksOff Sink was now text = Rose was.faults now.faults × AppendsPart was.octets now.octets text
 BreaksOff Memory was now text = Puts was now []
+BreaksOff NotOpened was now text = ⊥
 
--- the entries up to some place were reported, and the report of those after it broke off
+-- The entries before the last one were reported, and the report of the last one broke off. Nothing was asked after it.
 pub record ReportBreaksOff (ending : Ending) (was now : Shown) (entries : List Entry) : Type 0 where
   pub reported : List Entry
-  pub missing : List Entry
-  pub parts : entries ≡ reported ++ missing
-  pub some : 0 < length missing
+  pub last : Entry
+  pub parts : entries ≡ reported ++ last ∷ []
   pub middle : Shown
   pub puts : Puts was middle (entries_text reported)
-  pub breaks : BreaksOff ending middle now (entries_text missing)
+  pub breaks : BreaksOff ending middle now (entry_text last)
 
--- The last line that was due was put; or it broke off, and then the ending is `Sink` or `Memory`, whichever was due.
+-- The last line of the ending that was due was put. Or it broke off: then the run ended as `Sink` or `Memory`, whatever ending was due.
 abbrev pub LastLineEnds : Ending → Ending → Shown → Shown → Type 0
 LastLineEnds due ending was now = ((due ≡ ending) × Puts was now (last_line ending)) ⊎ BreaksOff ending was now (last_line due)

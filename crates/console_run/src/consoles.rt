@@ -1,118 +1,287 @@
 //! The console: words, a script, and a report.
-ghost use Rattle.std.specs.Prelude.{◌≡◌, map, string_bytes, None};
-ghost use Rattle.console_run.specs.CommandLine.{opening_of};
+ghost use Rattle.std.specs.Prelude.{◌≡◌, ℕ, None, map, string_bytes, IfOk, IfErr};
+ghost use Rattle.command_words.specs.Commands.{IsWithin, command_of};
+ghost use Rattle.group_run.specs.Openings.{FailsToOpen, Opens};
+ghost use Rattle.console_run.specs.Devices.{devices, keying};
 ghost use Rattle.console_run.specs.Causes.{Given};
-ghost use Rattle.console_run.specs.Promises.{Promises};
+ghost use Rattle.console_run.specs.Promises.{Promises, console_name, request_of, start_of};
 ghost use Rattle.console_run.specs.Reports.{LastLineEnds};
-ghost use Rattle.console_run.specs.Private.Follows.{RunsScript};
-ghost use Rattle.console_run.specs.Private.Openings.{request_of, IsAllowed};
+ghost use Rattle.console_run.specs.Private.Follows.{IsOpened, RunsScript};
+ghost use Rattle.console_run.specs.Private.Openings.{RefusalEnds, UnopenedEnds, due_after, step_of};
+ghost use Rattle.console_run.specs.Private.Runs.{Start};
 
-use crate::command_line::{Opening, read_words};
 use crate::endings::Ending;
-use crate::report_sink::put_lines;
+use crate::line_run::ran_out;
+use crate::report_sink::{put_lines, report};
 use crate::script_run::ScriptRun;
 use crate::stops::Stop;
-use gd_edges::{Failed, Sink, Source};
-use group_model::{Entry, List, NoMemory, a_history_leaves_a_sound_group};
+use command_words::{Command, Opening, read_words};
+use gd_disk::Disk;
+use gd_edges::{Draws, Failed, Signer, Sink, Source, Verifier};
+use group_model::{Entry, List, NoMemory};
+use group_run::{GroupRun, NewGroup, Parts, Unopened};
+use group_steps::{
+    a_crash_leaves_a_moment_of_the_history, a_history_is_legal_by_names, faults_are_counted,
+};
+use group_terms::GroupName;
 use script_text::end_line;
 use std::alloc::Global;
-use sym_closure::{
-    a_history_is_part_of_its_world, a_history_serves_its_members_alone, no_others_derive,
+use store_steps::{
+    a_due_push_is_taken_in_a_history, each_moment_is_of_a_keyed_history,
+    each_store_is_one_of_the_group,
 };
+use sym_closure::{
+    a_history_is_part_of_its_world, a_history_serves_its_members_alone, members_derive,
+    no_others_derive,
+};
+use tree_store::a_file_has_one_group;
 
-/// What is left of a run: how it ended, and the history of its group.
+/// What is left of a run: how it ended, the history of its group, and the disk.
 #[derive(Debug, Drop)]
-pub struct Finished {
+pub struct Finished<D> {
     pub ending: Ending,
     pub history: List<Entry>,
+    pub disk: D,
 }
 
-/// Runs a group from a script, and reports each entry of its history and then how the run ended.
+/// Runs a group from a script, in its journal on the disk, and reports each entry of its history and then how the run ended.
 ///
-/// The words are `--new DEPTH` or `--new=DEPTH`, with a depth from 1 to 4. Words of another form touch neither the source nor
-/// a group. The script has lines of at most 200 octets, at most 16,384 of them; the lines before one of another form are run.
-/// A line past a limit ends the run at the first octet past it, and one of another form at its end; of what comes from there on at most
-/// 4,096 octets are taken. Where the source fails, the lines that came whole are run. A batch that runs out of memory is in the history
-/// as refused for that, and ends the run.
+/// The words make a group, `--new DEPTH`, or open the one of the disk, `--open`; `--limit NUMBER` says how far epochs and sequence numbers of a group that is made may
+/// go; `--seed NUMBER` is for who makes the draws. Words of another form touch neither the source nor the disk. The script has lines of at most 200 octets, at most 16,384 of them; the lines before one of
+/// another form are run. A line past a limit ends the run at the first octet past it, and one of another form at its end; of what comes from there on at most
+/// 4,096 octets are taken. Where the source fails, the lines that came whole are run. Where the group is not opened, nothing of the script is taken.
+/// A request that runs out of memory ends the run; where something may have been done by then, it is in the history as refused for that, and else it has no entry.
 ///
 /// What is written is the report of the history and the last line of the ending that was due. Where the sink fails or memory runs out,
 /// it is a part of that from its start: all that the opening and the lines before the one begun last gave is reported.
 ///
-/// `Promises` says this of the history, the report, the source and the sink, with one witness for what the outside gave. It says also that
-/// the history is a legal one, and whom its keys serve.
-pub fn console<S: Source, K: Sink>(
+/// `Promises` says this of the history, the report, the source, the sink and the disk. It says also which step each entry is, what a crash leaves, and whom the keys serve.
+pub fn console<S: Source, K: Sink, D: Disk, G: Signer + Drop, V: Verifier, R: Draws + Drop>(
     alloc: Global,
     words: &[String],
     script: &mut S,
     out: &mut K,
-) -> Finished
-    ensures run { (given : Given) × Promises given (opening_of (map string_bytes words.now)) (S.shows script.old) (S.shows script.new) (K.shows out.old) (K.shows out.new) result.ending result.history }
-    ensures untouched { opening_of (map string_bytes words.now) ≡ None → script.new ≡ script.old }
+    disk: D,
+    signer: G,
+    verifier: &V,
+    draws: R,
+) -> Finished<D>
+    ensures run { (given : Given) × Promises (devices D.Disk G.Signer V.Verifier verifier.now) (keying signer (R.block_at draws))
+        (command_of (map string_bytes words.now))
+        (record { given = given; source_before = S.shows script.old; source_after = S.shows script.new; sink_before = K.shows out.old; sink_after = K.shows out.new })
+        (R.place_of draws) result.ending result.history disk result.disk }
+    ensures untouched { command_of (map string_bytes words.now) ≡ None → script.new ≡ script.old }
 {
-    a_history_leaves_a_sound_group();
+    a_history_is_legal_by_names::<D, G, V>();
+    a_crash_leaves_a_moment_of_the_history::<D, G, V>();
+    faults_are_counted::<D, G, V>();
+    each_store_is_one_of_the_group::<D, G, V>();
+    each_moment_is_of_a_keyed_history::<D, G, V>();
+    a_due_push_is_taken_in_a_history::<D, G, V>();
+    a_file_has_one_group();
     no_others_derive();
+    members_derive();
     a_history_is_part_of_its_world();
     a_history_serves_its_members_alone();
     match read_words(words) {
-        Some(opening) => run_script(alloc, opening, script, out),
-        None => end(alloc, Ending::NoGroup, List::new(alloc), out),
+        Some(command) => {
+            let parts = Parts {
+                disk,
+                signer,
+                draws,
+            };
+            run_command(alloc, command, script, out, parts, verifier)
+        }
+        None => end(alloc, Ending::NoGroup, List::new(alloc), disk, out),
     }
 }
 
-/// Opens a group, and runs a script on it.
-fn run_script<S: Source, K: Sink>(
+/// Opens the group that a command asks for, and runs a script on it.
+fn run_command<S: Source, K: Sink, D: Disk, G: Signer + Drop, V: Verifier, R: Draws + Drop>(
     alloc: Global,
-    opening: Opening,
+    command: Command,
     script: &mut S,
     out: &mut K,
-) -> Finished
-    requires { IsAllowed opening }
-    ensures { RunsScript (request_of opening) (S.shows script.old) (S.shows script.new) (K.shows out.old) (K.shows out.new) result.ending result.history }
+    parts: Parts<D, G, R>,
+    verifier: &V,
+) -> Finished<D>
+    requires { IsWithin command }
+    ensures { RunsScript (devices D.Disk G.Signer V.Verifier verifier.now) (keying parts.signer (R.block_at parts.draws))
+        (request_of command.opening) (start_of command parts.disk (R.place_of parts.draws)) (S.shows script.old) (S.shows script.new) (K.shows out.old) (K.shows out.new)
+        result.ending result.history result.disk }
 {
-    let mut run = match ScriptRun::begin(alloc, opening) {
-        Ok(run) => run,
-        Err(NoMemory) => return end(alloc, Ending::Memory, List::new(alloc), out),
-    };
-    match run.follow(alloc, script, out) {
-        Ok(()) => end(alloc, Ending::Whole, run.into_entries(), out),
+    match open_group(alloc, command, parts) {
+        Ok(group) => run_script(alloc, group, script, out, verifier),
+        Err(Unopened { history, parts }) => end_unopened(alloc, history, parts.disk, out),
+    }
+}
+
+/// Makes a group, or opens that of the disk.
+fn open_group<D: Disk, G: Signer, R: Draws>(
+    alloc: Global,
+    command: Command,
+    parts: Parts<D, G, R>,
+) -> Result<GroupRun<D, G, R>, Unopened<D, G, R>>
+    requires { IsWithin command }
+    ensures ok { IfOk result (Opens D.Disk R.Draws (step_of D.Disk G.Signer (keying parts.signer (R.block_at parts.draws)) command.opening)
+        (request_of command.opening) (start_of command parts.disk (R.place_of parts.draws))) }
+    ensures goes_on { IfOk result (λ run. (run.core.signer ≡ parts.signer) × ((k : ℕ) → R.block_at run.core.draws k ≡ R.block_at parts.draws k)) }
+    ensures err { IfErr result (λ unopened. FailsToOpen D.Disk (step_of D.Disk G.Signer (keying parts.signer (R.block_at parts.draws)) command.opening)
+        (request_of command.opening) (start_of command parts.disk (R.place_of parts.draws)) unopened.history unopened.parts.disk) }
+{
+    match command.opening {
+        Opening::New { depth } => {
+            let group = NewGroup {
+                depth,
+                name: console_name(),
+                limit: command.limit,
+            };
+            GroupRun::create(alloc, parts, &group)
+        }
+        Opening::Open => GroupRun::open(alloc, parts),
+    }
+}
+
+/// The name of the console's group.
+fn console_name() -> GroupName
+    ensures { result ≡ console_name }
+{
+    GroupName::read(b"console").unwrap()
+}
+
+/// Runs a script on a group that was opened.
+fn run_script<S: Source, K: Sink, D: Disk, G: Signer + Drop, V: Verifier, R: Draws + Drop>(
+    alloc: Global,
+    group: GroupRun<D, G, R>,
+    script: &mut S,
+    out: &mut K,
+    verifier: &V,
+) -> Finished<D>
+    ensures { (start : Start D G) → start.was ≡ K.shows out.old → IsOpened (devices D.Disk G.Signer V.Verifier verifier.now) R.Draws start group →
+        RunsScript (devices D.Disk G.Signer V.Verifier verifier.now) start.by start.request start.run (S.shows script.old) (S.shows script.new) (K.shows out.old)
+        (K.shows out.new) result.ending result.history result.disk }
+{
+    let mut run = ScriptRun::begin(group);
+    match run.follow(alloc, script, verifier, out) {
+        Ok(()) => end_run(alloc, Ending::Whole, run, out),
         Err(Stop::Line) => {
             let line = run.line_number();
-            end(alloc, Ending::BadLine { line }, run.into_entries(), out)
+            end_run(alloc, Ending::BadLine { line }, run, out)
         }
-        Err(Stop::Source) => end(alloc, Ending::Source, run.into_entries(), out),
-        Err(Stop::Memory) => end(alloc, Ending::Memory, run.into_entries(), out),
-        Err(Stop::Sink) => Finished {
-            ending: Ending::Sink,
-            history: run.into_entries(),
-        },
-        Err(Stop::Unreported) => Finished {
-            ending: Ending::Memory,
-            history: run.into_entries(),
-        },
+        Err(Stop::Source) => end_run(alloc, Ending::Source, run, out),
+        Err(Stop::Memory) => end_run(alloc, Ending::Memory, run, out),
+        Err(Stop::Sink) => finish(Ending::Sink, run),
+        Err(Stop::Unreported) => finish(Ending::Memory, run),
+    }
+}
+
+/// Puts the last line of the ending that is due of a run.
+fn end_run<D: Disk, G: Signer + Drop, R: Draws + Drop, K: Sink>(
+    alloc: Global,
+    due: Ending,
+    run: ScriptRun<D, G, R>,
+    out: &mut K,
+) -> Finished<D>
+    ensures history { result.history ≡ run.group.entries }
+    ensures disk { result.disk ≡ run.group.core.disk }
+    ensures ends { LastLineEnds due result.ending (K.shows out.old) (K.shows out.new) }
+{
+    let ending = put_last_line(alloc, due, out);
+    finish(ending, run)
+}
+
+/// What is left of a run.
+fn finish<D: Disk, G: Signer + Drop, R: Draws + Drop>(
+    ending: Ending,
+    run: ScriptRun<D, G, R>,
+) -> Finished<D>
+    ensures ending { result.ending ≡ ending }
+    ensures history { result.history ≡ run.group.entries }
+    ensures disk { result.disk ≡ run.group.core.disk }
+{
+    let (history, parts) = run.into_group().into_parts();
+    Finished {
+        ending,
+        history,
+        disk: parts.disk,
+    }
+}
+
+/// Reports that no group was opened.
+fn end_unopened<D, K: Sink>(
+    alloc: Global,
+    history: List<Entry>,
+    disk: D,
+    out: &mut K,
+) -> Finished<D>
+    ensures history { result.history ≡ history }
+    ensures disk { result.disk ≡ disk }
+    ensures ends { UnopenedEnds history result.ending (K.shows out.old) (K.shows out.new) }
+{
+    let ending = match history.as_slice().first() {
+        Some(entry) => report_refusal(alloc, entry, out),
+        None => put_last_line(alloc, Ending::Memory, out),
+    };
+    Finished {
+        ending,
+        history,
+        disk,
+    }
+}
+
+/// Reports the refusal of an opening, and puts the last line that is due.
+fn report_refusal<K: Sink>(alloc: Global, entry: &Entry, out: &mut K) -> Ending
+    ensures { RefusalEnds entry.now result (K.shows out.old) (K.shows out.new) }
+{
+    match report(alloc, entry, out) {
+        Ok(()) => put_last_line(alloc, due_after(entry), out),
+        Err(Stop::Sink) => Ending::Sink,
+        Err(Stop::Line | Stop::Source | Stop::Memory | Stop::Unreported) => Ending::Memory,
+    }
+}
+
+/// The ending that is due where an opening was refused.
+fn due_after(entry: &Entry) -> Ending
+    ensures { result ≡ due_after entry.now.answer }
+{
+    if ran_out(entry) {
+        Ending::Memory
+    } else {
+        Ending::NotOpened
     }
 }
 
 /// Puts the last line of the ending that is due.
-fn end<K: Sink>(alloc: Global, due: Ending, history: List<Entry>, out: &mut K) -> Finished
+fn end<D, K: Sink>(
+    alloc: Global,
+    due: Ending,
+    history: List<Entry>,
+    disk: D,
+    out: &mut K,
+) -> Finished<D>
     ensures history { result.history ≡ history }
+    ensures disk { result.disk ≡ disk }
     ensures ends { LastLineEnds due result.ending (K.shows out.old) (K.shows out.new) }
+{
+    let ending = put_last_line(alloc, due, out);
+    Finished {
+        ending,
+        history,
+        disk,
+    }
+}
+
+/// Puts the last line of the ending that is due; how the run ended then.
+fn put_last_line<K: Sink>(alloc: Global, due: Ending, out: &mut K) -> Ending
+    ensures { LastLineEnds due result (K.shows out.old) (K.shows out.new) }
 {
     let mut text = List::new(alloc);
     match end_line(alloc, due.status(), due.line(), &mut text) {
         Ok(()) => {}
-        Err(NoMemory) => {
-            let ending = Ending::Memory;
-            return Finished { ending, history };
-        }
+        Err(NoMemory) => return Ending::Memory,
     }
     match put_lines(text.as_slice(), out) {
-        Ok(()) => Finished {
-            ending: due,
-            history,
-        },
-        Err(Failed) => {
-            let ending = Ending::Sink;
-            Finished { ending, history }
-        }
+        Ok(()) => due,
+        Err(Failed) => Ending::Sink,
     }
 }

@@ -17,10 +17,12 @@ pub enum Ending {
     Sink,
     /// Memory ran out.
     Memory,
+    /// The group could not be opened: the disk failed, or it has the journal of no group.
+    NotOpened,
 }
 
 impl Ending {
-    /// The exit status: 0 for the whole script, 1 to 5 for the other endings in their order.
+    /// The exit status: 0 for the whole script, 1 to 6 for the other endings in their order.
     pub fn status(self) -> u8
         ensures { result ≡ status_of self }
     {
@@ -31,6 +33,7 @@ impl Ending {
             Ending::Source => 3,
             Ending::Sink => 4,
             Ending::Memory => 5,
+            Ending::NotOpened => 6,
         }
     }
 
@@ -40,7 +43,12 @@ impl Ending {
     {
         match self {
             Ending::BadLine { line } => line,
-            Ending::Whole | Ending::NoGroup | Ending::Source | Ending::Sink | Ending::Memory => 0,
+            Ending::Whole
+            | Ending::NoGroup
+            | Ending::Source
+            | Ending::Sink
+            | Ending::Memory
+            | Ending::NotOpened => 0,
         }
     }
 }

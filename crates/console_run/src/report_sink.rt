@@ -3,7 +3,7 @@ ghost use Rattle.std.specs.Prelude.{◌<◌, ◌≤◌, ◌≡◌, [], length, I
 ghost use Rattle.script_text.specs.Report.{entry_text};
 ghost use Rattle.console_run.specs.declared.endings.Ending.TheVariants.{Sink as SinkEnding};
 ghost use Rattle.console_run.specs.Reports.{Puts, BreaksOff};
-ghost use Rattle.console_run.specs.Private.Reports.{EntryBreaksOff};
+ghost use Rattle.console_run.specs.Private.Reports.{TextBreaksOff};
 
 use crate::stops::Stop;
 use gd_edges::{Failed, Sink};
@@ -14,7 +14,7 @@ use std::alloc::Global;
 /// Puts the report of an entry, line by line.
 pub(crate) fn report<K: Sink>(alloc: Global, entry: &Entry, out: &mut K) -> Result<(), Stop>
     ensures ok { OnOk result (Puts (K.shows out.old) (K.shows out.new) (entry_text entry.now)) }
-    ensures breaks { IfErr result (λ stop. EntryBreaksOff stop (K.shows out.old) (K.shows out.new) (entry_text entry.now)) }
+    ensures breaks { IfErr result (λ stop. TextBreaksOff stop (K.shows out.old) (K.shows out.new) (entry_text entry.now)) }
 {
     let mut text = List::new(alloc);
     match report_entry(alloc, entry, &mut text) {

@@ -1,20 +1,18 @@
 //! Running a script, octet by octet.
-ghost use Rattle.std.specs.Prelude.{◌≡◌, ◌+◌, ◌<◌, ◌≤◌, [], ◌∷◌, length, true, Err, IfOk, IfErr, OnOk, OnErr};
-ghost use Rattle.group_model.specs.Groups.{Reading};
-ghost use Rattle.group_model.specs.declared.entries.Asked.{Asked};
+ghost use Rattle.std.specs.Prelude.{◌≡◌, ◌+◌, ◌<◌, ◌≤◌, [], ◌∷◌, length, true, Err, IfErr, OnOk};
 ghost use Rattle.console_run.specs.declared.endings.Ending.TheVariants.{Whole};
 ghost use Rattle.console_run.specs.Scripts.{are_octets};
-ghost use Rattle.console_run.specs.Private.Held.{IsOpened};
-ghost use Rattle.console_run.specs.Private.Openings.{request_of, IsAllowed};
-ghost use Rattle.console_run.specs.Private.Runs.{GoesOn, IsReady, StopsAt, StopsWithin, Ends, StopsAtEnd, room_left};
+ghost use Rattle.console_run.specs.Private.Follows.{IsOpened, IsRunTo, IsRunUntil, TakesAndGoesOn, TakesAndStops, at};
+ghost use Rattle.console_run.specs.Devices.{devices};
+ghost use Rattle.console_run.specs.Private.Runs.{Ends, GoesOn, IsReady, Start, StopsAt, StopsAtEnd, StopsWithin, room_left};
 
-use crate::command_line::Opening;
-use crate::groups::Group;
 use crate::line_run::{report_last, run_line};
 use crate::stops::Stop;
 use arrayvec::ArrayVec;
-use gd_edges::{Failed, Sink, Source};
-use group_model::{Entry, List, NoMemory};
+use gd_disk::Disk;
+use gd_edges::{Draws, Failed, Signer, Sink, Source, Verifier};
+use group_model::NoMemory;
+use group_run::GroupRun;
 use script_text::MOST_LINE_OCTETS;
 use std::alloc::Global;
 
@@ -25,31 +23,24 @@ const PIECE: usize = 4096;
 
 /// A run of a script: the group, what has come of the present line, and how many lines were run before it.
 #[derive(Debug, Drop)]
-pub(crate) struct ScriptRun {
-    pub(crate) group: Group,
+pub(crate) struct ScriptRun<D: Disk, G: Signer, R: Draws> {
+    pub(crate) group: GroupRun<D, G, R>,
     line: ArrayVec<u8, MOST_LINE_OCTETS>,
     count: u32,
 }
 
-impl ScriptRun {
-    ghost use Rattle.console_run.specs.Private.Follows.{at, TakesAndGoesOn, TakesAndStops, IsRunTo, IsRunUntil};
-
-    /// A run before its script, with a group that is opened.
-    pub(crate) fn begin(alloc: Global, opening: Opening) -> Result<Self, NoMemory>
-        requires { IsAllowed opening }
-        ensures opened { IfOk result (λ run. IsOpened (request_of opening) run.group) }
-        ensures ready { IfOk result (λ run. (run.group.tree.epoch ≡ 0) × (run.group.tree.sequence ≡ 0)) }
-        ensures line { IfOk result (λ run. run.line.items ≡ []) }
-        ensures count { IfOk result (λ run. run.count ≡ 0) }
+impl<D: Disk, G: Signer, R: Draws> ScriptRun<D, G, R> {
+    /// A run before its script, with a group that was just opened.
+    pub(crate) fn begin(group: GroupRun<D, G, R>) -> Self
+        ensures group { result.group ≡ group }
+        ensures line { result.line.items ≡ [] }
+        ensures count { result.count ≡ 0 }
     {
-        let group = match opening {
-            Opening::New { depth } => Group::create(alloc, depth)?,
-        };
-        Ok(ScriptRun {
+        ScriptRun {
             group,
             line: ArrayVec::new(),
             count: 0,
-        })
+        }
     }
 
     /// The number of the present line, from 1.
@@ -61,20 +52,26 @@ impl ScriptRun {
     }
 
     /// Takes one octet. The line that it ends is run.
-    fn take_octet<K: Sink>(&mut self, alloc: Global, octet: u8, out: &mut K) -> Result<(), Stop>
+    fn take_octet<V: Verifier, K: Sink>(
+        &mut self,
+        alloc: Global,
+        octet: u8,
+        verifier: &V,
+        out: &mut K,
+    ) -> Result<(), Stop>
         requires ready { IsReady (at self.old (K.shows out.old)) }
         ensures ready { OnOk result (IsReady (at self.new (K.shows out.new))) }
-        ensures goes { OnOk result (GoesOn (octet ∷ []) (at self.old (K.shows out.old)) (at self.new (K.shows out.new))) }
+        ensures goes { OnOk result (GoesOn (devices D.Disk G.Signer V.Verifier verifier.now) R.Draws (octet ∷ []) (at self.old (K.shows out.old)) (at self.new (K.shows out.new))) }
         ensures nearer { OnOk result (room_left (at self.new (K.shows out.new)) < room_left (at self.old (K.shows out.old))) }
         ensures count { self.new.count ≤ 16384 }
-        ensures stops { IfErr result (λ stop. StopsAt octet stop (at self.old (K.shows out.old)) (at self.new (K.shows out.new))) }
+        ensures stops { IfErr result (λ stop. StopsAt (devices D.Disk G.Signer V.Verifier verifier.now) R.Draws octet stop (at self.old (K.shows out.old)) (at self.new (K.shows out.new))) }
         ensures other { result ≡ Err Stop.Source → ⊥ }
     {
         if self.count == MOST_LINES {
             return Err(Stop::Line);
         }
         if octet == b'\n' {
-            run_line(alloc, self.line.as_slice(), &mut self.group, out)?;
+            run_line(alloc, self.line.as_slice(), &mut self.group, verifier, out)?;
             self.line.clear();
             self.count += 1;
             return Ok(());
@@ -87,38 +84,45 @@ impl ScriptRun {
     }
 
     /// Takes a piece of the script.
-    fn take_piece<K: Sink>(&mut self, alloc: Global, piece: &[u8], out: &mut K) -> Result<(), Stop>
+    fn take_piece<V: Verifier, K: Sink>(
+        &mut self,
+        alloc: Global,
+        piece: &[u8],
+        verifier: &V,
+        out: &mut K,
+    ) -> Result<(), Stop>
         requires short { length piece.now ≤ 4096 }
         requires ready { IsReady (at self.old (K.shows out.old)) }
         ensures ready { OnOk result (IsReady (at self.new (K.shows out.new))) }
-        ensures goes { OnOk result (GoesOn piece.now (at self.old (K.shows out.old)) (at self.new (K.shows out.new))) }
+        ensures goes { OnOk result (GoesOn (devices D.Disk G.Signer V.Verifier verifier.now) R.Draws piece.now (at self.old (K.shows out.old)) (at self.new (K.shows out.new))) }
         ensures nearer { OnOk result (room_left (at self.new (K.shows out.new)) + length piece.now ≤ room_left (at self.old (K.shows out.old))) }
         ensures count { self.new.count ≤ 16384 }
-        ensures stops { IfErr result (λ stop. StopsWithin piece.now stop (at self.old (K.shows out.old)) (at self.new (K.shows out.new))) }
+        ensures stops { IfErr result (λ stop. StopsWithin (devices D.Disk G.Signer V.Verifier verifier.now) R.Draws piece.now stop (at self.old (K.shows out.old)) (at self.new (K.shows out.new))) }
         ensures other { result ≡ Err Stop.Source → ⊥ }
         ensures octets { are_octets piece.now ≡ true }
     {
         for octet in piece {
-            self.take_octet(alloc, *octet, out)?;
+            self.take_octet(alloc, *octet, verifier, out)?;
         }
         Ok(())
     }
 
     /// Takes all that the source has, in pieces of at most the buffer's length.
-    fn take_script<S: Source, K: Sink>(
+    fn take_script<S: Source, V: Verifier, K: Sink>(
         &mut self,
         alloc: Global,
         script: &mut S,
         buffer: &mut [u8],
+        verifier: &V,
         out: &mut K,
     ) -> Result<(), Stop>
         requires buffer { 0 < length buffer.old }
         requires short { length buffer.old ≤ 4096 }
         requires ready { IsReady (at self.old (K.shows out.old)) }
         ensures ready { OnOk result (IsReady (at self.new (K.shows out.new))) }
-        ensures goes { OnOk result (TakesAndGoesOn (S.shows script.old) (S.shows script.new) (at self.old (K.shows out.old)) (at self.new (K.shows out.new))) }
+        ensures goes { OnOk result (TakesAndGoesOn (devices D.Disk G.Signer V.Verifier verifier.now) R.Draws (S.shows script.old) (S.shows script.new) (at self.old (K.shows out.old)) (at self.new (K.shows out.new))) }
         ensures count { self.new.count ≤ 16384 }
-        ensures stops { IfErr result (λ stop. TakesAndStops stop (S.shows script.old) (S.shows script.new) (at self.old (K.shows out.old)) (at self.new (K.shows out.new))) }
+        ensures stops { IfErr result (λ stop. TakesAndStops (devices D.Disk G.Signer V.Verifier verifier.now) R.Draws stop (S.shows script.old) (S.shows script.new) (at self.old (K.shows out.old)) (at self.new (K.shows out.new))) }
     {
         'pieces: loop {
             let n = match script.take(buffer) {
@@ -129,56 +133,61 @@ impl ScriptRun {
                 return Ok(());
             }
             let (piece, _) = buffer.split_at(n);
-            self.take_piece(alloc, piece, out)?;
+            self.take_piece(alloc, piece, verifier, out)?;
         }
     }
 
     /// Runs the last line, where the script ends in the middle of it.
-    fn finish<K: Sink>(&mut self, alloc: Global, out: &mut K) -> Result<(), Stop>
+    fn finish<V: Verifier, K: Sink>(
+        &mut self,
+        alloc: Global,
+        verifier: &V,
+        out: &mut K,
+    ) -> Result<(), Stop>
         requires ready { IsReady (at self.old (K.shows out.old)) }
-        ensures ends { OnOk result (Ends (at self.old (K.shows out.old)) (at self.new (K.shows out.new))) }
+        ensures ends { OnOk result (Ends (devices D.Disk G.Signer V.Verifier verifier.now) R.Draws (at self.old (K.shows out.old)) (at self.new (K.shows out.new))) }
         ensures count { self.new.count ≤ 16384 }
-        ensures stops { IfErr result (λ stop. StopsAtEnd stop (at self.old (K.shows out.old)) (at self.new (K.shows out.new))) }
+        ensures stops { IfErr result (λ stop. StopsAtEnd (devices D.Disk G.Signer V.Verifier verifier.now) R.Draws stop (at self.old (K.shows out.old)) (at self.new (K.shows out.new))) }
         ensures other { result ≡ Err Stop.Source → ⊥ }
     {
         if self.line.is_empty() {
             return Ok(());
         }
-        run_line(alloc, self.line.as_slice(), &mut self.group, out)?;
+        run_line(alloc, self.line.as_slice(), &mut self.group, verifier, out)?;
         Ok(())
     }
 
     /// Reports that the group was opened, and runs the whole script on it.
-    pub(crate) fn follow<S: Source, K: Sink>(
+    pub(crate) fn follow<S: Source, V: Verifier, K: Sink>(
         &mut self,
         alloc: Global,
         script: &mut S,
+        verifier: &V,
         out: &mut K,
     ) -> Result<(), Stop>
         requires line { self.old.line.items ≡ [] }
         requires count { self.old.count ≡ 0 }
-        requires epochs { self.old.group.tree.epoch ≡ 0 }
-        requires pushes { self.old.group.tree.sequence ≡ 0 }
-        ensures ok { OnOk result ((request : Asked) (readings : List Reading) → IsOpened request self.old.group → IsRunTo Whole request readings (S.shows script.old) (S.shows script.new) (K.shows out.old) (at self.new (K.shows out.new))) }
+        ensures ok { OnOk result ((start : Start D G) → start.was ≡ K.shows out.old → IsOpened (devices D.Disk G.Signer V.Verifier verifier.now) R.Draws start self.old.group →
+            IsRunTo (devices D.Disk G.Signer V.Verifier verifier.now) R.Draws Whole start (S.shows script.old) (S.shows script.new) (at self.new (K.shows out.new))) }
         ensures count { self.new.count ≤ 16384 }
-        ensures stops { IfErr result (λ stop. (request : Asked) (readings : List Reading) → IsOpened request self.old.group → IsRunUntil stop request readings (S.shows script.old) (S.shows script.new) (K.shows out.old) (at self.new (K.shows out.new))) }
+        ensures stops { IfErr result (λ stop. (start : Start D G) → start.was ≡ K.shows out.old → IsOpened (devices D.Disk G.Signer V.Verifier verifier.now) R.Draws start self.old.group →
+            IsRunUntil (devices D.Disk G.Signer V.Verifier verifier.now) R.Draws stop start (S.shows script.old) (S.shows script.new) (at self.new (K.shows out.new))) }
     {
         report_last(alloc, &self.group, out)?;
         let mut buffer = vec![in alloc; 0; PIECE].map_err(NoMemory::from)?;
-        self.take_script(alloc, script, &mut buffer, out)?;
-        self.finish(alloc, out)?;
-        Ok(())
+        self.take_script(alloc, script, &mut buffer, verifier, out)?;
+        self.finish(alloc, verifier, out)
     }
 
-    /// The history of the group.
-    pub(crate) fn into_entries(self) -> List<Entry>
-        ensures { result ≡ self.group.entries }
+    /// The group.
+    pub(crate) fn into_group(self) -> GroupRun<D, G, R>
+        ensures { result ≡ self.group }
     {
         let ScriptRun {
             group,
             line: _,
             count: _,
         } = self;
-        group.into_entries()
+        group
     }
 }

@@ -7,7 +7,7 @@ use group_model::NoMemory;
 /// Why a run stops before its script ends.
 #[derive(Clone, Copy, Debug, PartialEq, Eq)]
 pub(crate) enum Stop {
-    /// A line is not of the grammar.
+    /// A line is not of the grammar, or is past a limit.
     Line,
     /// The source failed.
     Source,

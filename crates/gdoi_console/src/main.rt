@@ -1,23 +1,47 @@
-//! Runs a whole group from a script: the words come from the command line, the script from standard input, and the report goes to standard output.
+//! Runs a whole group from a script, in a journal: the words come from the command line, the script from standard input, the report goes to standard output, and the
+//! journal is the file `group.journal` of the working folder.
 #![tactic(auto)]
 
+use command_words::seed_of;
 use console_run::console;
-use gd_edges::{StdSink, StdSource};
+use gd_disk::FileDisk;
+use gd_edges::{ChaChaDraws, StdSink, StdSource, TestSigner, TestVerifier};
 use std::alloc::AllocError;
 use std::env;
 use std::io::ErrorKind;
 use std::process::ExitCode;
 
+/// The file that has the journal.
+const JOURNAL: &str = "group.journal";
+
+/// The stream of the seed that has the server's draws.
+const SERVER_STREAM: u8 = 0;
+
 fn main(rt: HostRuntime) -> ExitCode {
-    match arguments(&rt) {
-        Ok(words) => {
-            let mut script = StdSource::new(rt.stdin());
-            let mut out = StdSink::new(rt.stdout());
-            let finished = console(rt.alloc(), &words, &mut script, &mut out);
-            ExitCode::from(finished.ending.status())
-        }
+    match run(&rt) {
+        Ok(status) => ExitCode::from(status),
         Err(AllocError) => ExitCode::from(5),
     }
+}
+
+/// Runs the console; its status.
+fn run(rt: &HostRuntime) -> Result<u8, AllocError> {
+    let words = arguments(rt)?;
+    let disk = FileDisk::new(rt.alloc(), rt, JOURNAL).map_err(|_| AllocError)?;
+    let draws = ChaChaDraws::new(seed_of(&words), SERVER_STREAM);
+    let mut script = StdSource::new(rt.stdin());
+    let mut out = StdSink::new(rt.stdout());
+    let finished = console(
+        rt.alloc(),
+        &words,
+        &mut script,
+        &mut out,
+        disk,
+        TestSigner::new(),
+        &TestVerifier::new(),
+        draws,
+    );
+    Ok(finished.ending.status())
 }
 
 /// The words after the program's name; none where the arguments cannot be had as text.

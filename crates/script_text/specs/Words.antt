@@ -1,5 +1,5 @@
 -- The words of a line of a script.
-use Rattle.std.specs.Prelude.{ℕ, ◌==◌, Bool, true, false, List, [], ◌∷◌, filter}
+use Rattle.std.specs.Prelude.{ℕ, ◌==◌, Bool, true, false, List, [], ◌∷◌, filter, Option, None, Some}
 use Rattle.std.specs.List.{slice_split}
 
 -- a space; a tab and a carriage return are part of a word
@@ -15,3 +15,9 @@ is_word (c ∷ cs) = true
 -- nothing
 unfoldable pub words_of : List ℕ → List (List ℕ)
 words_of text = filter is_word (slice_split is_space text)
+
+-- the one word of words that have exactly one
+abbrev pub only_word : List (List ℕ) → Option (List ℕ)
+only_word [] = None
+only_word (word ∷ []) = Some word
+only_word (word ∷ second ∷ words) = None

@@ -1,10 +1,10 @@
 ghost use Rattle.std.specs.Prelude.{◌≡◌};
 ghost use Rattle.script_text.specs.Words.{words_of};
-ghost use Rattle.script_text.specs.Lines.{line_of, command_of, command_with, derive_of, lone_command};
+ghost use Rattle.script_text.specs.Lines.{line_of, command_of, command_with, command_with_more, deliver_of, derive_of, lone_command};
 
 use crate::members::read_members;
 use crate::numbers::read_number;
-use crate::words::next_word;
+use crate::words::{next_word, only_word};
 use group_model::{MemberName, MemberNames};
 
 /// How many octets a line has at the most.
@@ -21,14 +21,27 @@ pub enum Line {
     Leave { member: MemberName },
     /// The pending changes are to make the next epoch.
     Batch,
+    /// A member is given the push of this number.
+    Deliver { member: MemberName, sequence: u32 },
+    /// Each present member is given each push that is new to it.
+    DeliverAll,
+    /// Which traffic key a member has.
+    Key { member: MemberName },
     /// Whether these members derive the traffic key of an epoch.
     Derive { epoch: u32, members: MemberNames },
+    /// The group answers nothing until it is opened again.
+    Halt,
+    /// It is opened again, from the journal that it has.
+    Reopen,
+    /// Who has which leaf.
+    Show,
 }
 
 /// What a line says, without its end of line; `None` where it is none of the grammar.
 ///
-/// Spaces alone part words, so that a tab or a carriage return is an octet of one. A line is `join NAME`, `leave NAME`, `batch`
-/// or `derive NUMBER NAME..` with 1 to 8 names; or it has no word, or one that begins with `#` first, and says nothing.
+/// Spaces alone part words, so that a tab or a carriage return is an octet of one. A line is `join NAME`, `leave NAME`, `batch`,
+/// `deliver NAME NUMBER`, `deliver-all`, `key NAME`, `derive NUMBER NAME..` with 1 to 8 names, `halt`, `reopen` or `show`; or it
+/// has no word, or one that begins with `#` first, and says nothing.
 #[tactic(auto, unfolding(crate::specs::Lines::line_of))]
 pub fn read_line(text: &[u8]) -> Option<Line>
     ensures { result ≡ line_of text.now }
@@ -51,12 +64,9 @@ fn read_command(command: &[u8], behind: &[u8]) -> Option<Line>
     let Some((first, behind)) = next_word(behind) else {
         return read_lone_command(command);
     };
-    if command == b"derive".as_slice() {
-        return read_derive(first, behind);
-    }
     match next_word(behind) {
         None => read_command_with(command, first),
-        Some(_) => None,
+        Some(_) => read_command_with_more(command, first, behind),
     }
 }
 
@@ -65,6 +75,14 @@ fn read_lone_command(command: &[u8]) -> Option<Line>
 {
     if command == b"batch".as_slice() {
         Some(Line::Batch)
+    } else if command == b"deliver-all".as_slice() {
+        Some(Line::DeliverAll)
+    } else if command == b"halt".as_slice() {
+        Some(Line::Halt)
+    } else if command == b"reopen".as_slice() {
+        Some(Line::Reopen)
+    } else if command == b"show".as_slice() {
+        Some(Line::Show)
     } else {
         None
     }
@@ -79,9 +97,33 @@ fn read_command_with(command: &[u8], name: &[u8]) -> Option<Line>
     } else if command == b"leave".as_slice() {
         let member = MemberName::read(name)?;
         Some(Line::Leave { member })
+    } else if command == b"key".as_slice() {
+        let member = MemberName::read(name)?;
+        Some(Line::Key { member })
     } else {
         None
     }
+}
+
+fn read_command_with_more(command: &[u8], first: &[u8], behind: &[u8]) -> Option<Line>
+    ensures { result ≡ command_with_more command.now first.now (words_of behind.now) }
+{
+    if command == b"deliver".as_slice() {
+        read_deliver(first, behind)
+    } else if command == b"derive".as_slice() {
+        read_derive(first, behind)
+    } else {
+        None
+    }
+}
+
+fn read_deliver(name: &[u8], numbers: &[u8]) -> Option<Line>
+    ensures { result ≡ deliver_of name.now (words_of numbers.now) }
+{
+    let member = MemberName::read(name)?;
+    let number = only_word(numbers)?;
+    let sequence = read_number(number)?;
+    Some(Line::Deliver { member, sequence })
 }
 
 fn read_derive(number: &[u8], names: &[u8]) -> Option<Line>

@@ -7,11 +7,11 @@ ghost use Rattle.script_text.specs.Lines.{number_in};
 use group_model::{NoMemory, Octets};
 use std::alloc::Global;
 
-/// How many digits the number of an epoch has at the most.
-const MOST_EPOCH_DIGITS: usize = 10;
+/// How many digits the number of an epoch or of a push has at the most.
+const MOST_NUMBER_DIGITS: usize = 10;
 
-/// One more than the last epoch that has a number.
-const EPOCH_LIMIT: u64 = 1 << 32;
+/// One more than the greatest number of an epoch or of a push.
+const NUMBER_LIMIT: u64 = 1 << 32;
 
 /// Puts a number at the end of a text, in decimal.
 pub fn append_number(alloc: Global, number: u32, out: &mut Octets) -> Result<(), NoMemory>
@@ -35,7 +35,7 @@ pub fn append_place(alloc: Global, place: u64, out: &mut Octets) -> Result<(), N
 pub fn read_number(text: &[u8]) -> Option<u32>
     ensures { result ≡ number_in text.now }
 {
-    let number = read_decimal(text, MOST_EPOCH_DIGITS, EPOCH_LIMIT)?;
+    let number = read_decimal(text, MOST_NUMBER_DIGITS, NUMBER_LIMIT)?;
     Some(number as u32)
 }
 

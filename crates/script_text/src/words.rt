@@ -1,6 +1,6 @@
-ghost use Rattle.std.specs.Prelude.{◌≡◌, ◌≤◌, [], ◌∷◌, length, MatchOption};
+ghost use Rattle.std.specs.Prelude.{◌≡◌, ◌≤◌, [], ◌∷◌, length, MatchOption, Some, None};
 ghost use Rattle.std.specs.List.{prefix_len, position_or_len};
-ghost use Rattle.script_text.specs.Words.{is_space, words_of};
+ghost use Rattle.script_text.specs.Words.{is_space, only_word, words_of};
 
 /// The first word of a text and what stands behind it, or `None` where the text has no word.
 pub fn next_word(text: &[u8]) -> Option<(&[u8], &[u8])>
@@ -12,6 +12,18 @@ pub fn next_word(text: &[u8]) -> Option<(&[u8], &[u8])>
         return None;
     }
     Some(text.split_at(octets_of_word(text)))
+}
+
+/// The word of a text that has exactly one; `None` where it has none or several.
+pub fn only_word(text: &[u8]) -> Option<&[u8]>
+    ensures { MatchOption result (only_word (words_of text.now) ≡ None)
+        (λ word. only_word (words_of text.now) ≡ Some word.now) }
+{
+    let (word, behind) = next_word(text)?;
+    match next_word(behind) {
+        None => Some(word),
+        Some(_) => None,
+    }
 }
 
 /// How many spaces a text begins with.

@@ -1,56 +1,73 @@
 -- A run and the source that it takes its script from.
-use Rattle.std.specs.Prelude.{◌≡◌, ◌⊎◌, ℕ, true, List, [], Some}
+use Rattle.std.specs.Prelude.{◌≡◌, ◌⊎◌, ℕ, true, List}
 use Rattle.std.specs.Io.KnownBytes.{Consumes}
 use Rattle.gd_edges.specs.Shown.{Shown}
+use Rattle.gd_edges.specs.declared.draws.Draws.{Ghosts as DrawGhosts}
 use Rattle.group_model.specs.declared.entries.Asked.{Asked}
 use Rattle.group_model.specs.declared.entries.Entry.{Entry}
-use Rattle.group_model.specs.Groups.{Reading}
+use Rattle.group_run.specs.Views.{View}
+use Rattle.group_steps.specs.Runs.{Run}
+use Rattle.console_run.specs.declared.script_run.ScriptRun.{ScriptRun}
 use Rattle.console_run.specs.declared.stops.Stop.{Stop}
 use Rattle.console_run.specs.declared.endings.Ending.{Ending}
-use Rattle.console_run.specs.declared.script_run.ScriptRun.{ScriptRun}
+use Rattle.console_run.specs.Devices.{Devices, Keying}
 use Rattle.console_run.specs.Scripts.{are_octets}
-use Rattle.console_run.specs.Causes.{Given, TakesAll, CameFrom, SourceAt}
+use Rattle.console_run.specs.Causes.{CameFrom, Given, SourceAt, TakesAll}
+use Rattle.console_run.specs.Lines.{Opens}
 use Rattle.console_run.specs.Promises.{IsEnded, IsBroken}
-use Rattle.console_run.specs.Private.Runs.{Moment, GoesOn, IsReported, IsStoppedAt, SourceFails, StopsWithin}
+use Rattle.console_run.specs.Private.Runs.{Moment, GoesOn, IsReported, IsStoppedAt, SourceFails, Stands, Start, StopsWithin}
 
--- a run and its sink at a moment
-abbrev pub at : ScriptRun → Shown → Moment
-at run out = record { held = run.group; line = run.line.items; count = run.count; out = out }
+-- a group and its sink at a moment, with what has come of the present line, after so many lines
+abbrev pub moment : {D G R : Type 0} → View D G R → List ℕ → ℕ → Shown → Moment D G R
+moment held line count out = record { held = held; line = line; count = count; out = out }
 
--- all that the source had was taken, and the run went on by it
-pub record TakesAndGoesOn (had left : Shown) (old new : Moment) : Type 0 where
-  pub taken : List ℕ
-  pub consumed : Consumes had.octets left.octets taken
-  pub whole : TakesAll had.octets taken
-  pub stands : left.faults ≡ had.faults
-  pub goes : GoesOn taken old new
+-- that of a run of a script
+abbrev pub at : {D G R : Type 0} → ScriptRun D G R → Shown → Moment D G R
+at run out = moment run.group run.line.items run.count out
 
--- what was taken was run up to where the run stopped
-pub record TakesAndStops (stop : Stop) (had left : Shown) (old new : Moment) : Type 0 where
-  pub taken : List ℕ
-  pub consumed : Consumes had.octets left.octets taken
-  pub small : are_octets taken ≡ true
-  pub source : SourceFails stop had.faults left.faults
-  pub stops : StopsWithin taken stop old new
+module _ {D G V R : Type 0} (on : Devices D G V) (draws : DrawGhosts R) where
+  -- all that the source had was taken, and the run went on by it
+  pub record TakesAndGoesOn (had left : Shown) (old new : Moment D G R) : Type 0 where
+    pub taken : List ℕ
+    pub consumed : Consumes had.octets left.octets taken
+    pub whole : TakesAll had.octets taken
+    pub stands : left.faults ≡ had.faults
+    pub goes : GoesOn on draws taken old new
 
--- a script was run to the ending that is due, with what the outside gave
-pub record IsRunTo (due : Ending) (request : Asked) (readings : List Reading) (had left was : Shown) (now : Moment) : Type 0 where
+  -- what was taken was run up to where the run stopped
+  pub record TakesAndStops (stop : Stop) (had left : Shown) (old new : Moment D G R) : Type 0 where
+    pub taken : List ℕ
+    pub consumed : Consumes had.octets left.octets taken
+    pub small : are_octets taken ≡ true
+    pub source : SourceFails stop had.faults left.faults
+    pub stops : StopsWithin on draws taken stop old new
+
+  -- the group was opened as requested, and nothing else has happened
+  pub record IsOpened (start : Start D G) (held : View D G R) : Type 0 where
+    pub opened : Run D
+    pub opens : Opens on start.by start.request start.run held.entries opened
+    pub stands : Stands on.disks draws start.by held opened
+
+  -- a script was run to the ending that is due, with what the source gave
+  pub record IsRunTo (due : Ending) (start : Start D G) (had left : Shown) (now : Moment D G R) : Type 0 where
+    pub given : Given
+    pub came : CameFrom had.octets left.octets given
+    pub source : SourceAt due had.faults left.faults
+    pub reported : IsReported on draws due given start now
+
+  -- or until it stopped
+  pub record IsRunUntil (stop : Stop) (start : Start D G) (had left : Shown) (now : Moment D G R) : Type 0 where
+    pub given : Given
+    pub came : CameFrom had.octets left.octets given
+    pub source : SourceFails stop had.faults left.faults
+    pub stopped : IsStoppedAt on draws stop given start now
+
+-- A script was run on a group that was opened as requested, until the run ended, and this disk is left.
+pub record RunsScript {D G V : Type 0} (on : Devices D G V) (by : Keying G) (request : Asked) (start : Run D) (had left was now : Shown)
+    (ending : Ending) (entries : List Entry) (disk : D) : Type 0 where
   pub given : Given
-  pub read : given.readings ≡ readings
   pub came : CameFrom had.octets left.octets given
-  pub source : SourceAt due had.faults left.faults
-  pub reported : IsReported due given (record { request = request; was = was; readings = readings }) now
-
--- or until it stopped
-pub record IsRunUntil (stop : Stop) (request : Asked) (readings : List Reading) (had left was : Shown) (now : Moment) : Type 0 where
-  pub given : Given
-  pub read : given.readings ≡ readings
-  pub came : CameFrom had.octets left.octets given
-  pub source : SourceFails stop had.faults left.faults
-  pub stopped : IsStoppedAt stop given (record { request = request; was = was; readings = readings }) now
-
--- A script was run on a group that was opened as requested, until the run ended. No opening read a journal.
-abbrev pub RunsScript : Asked → Shown → Shown → Shown → Shown → Ending → List Entry → Type 0
-RunsScript request had left was now ending entries =
-    (given : Given) × (given.readings ≡ []) × CameFrom had.octets left.octets given
-    × (IsEnded given (Some request) had left was now ending entries ⊎ IsBroken given (Some request) had left was now ending entries)
+  pub after : Run D
+  pub left_disk : after.disk ≡ disk
+  pub run : IsEnded on by (record { given = given; source_before = had; source_after = left; sink_before = was; sink_after = now }) request start ending entries after
+      ⊎ IsBroken on by (record { given = given; source_before = had; source_after = left; sink_before = was; sink_after = now }) request start ending entries after

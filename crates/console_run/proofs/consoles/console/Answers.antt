@@ -1,92 +1,94 @@
-use Rattle.std.proofs.Common.{◌≡◌, true, false, [], None, List, ◌∙◌, sym, refl, subst, inl}
+use Rattle.std.proofs.Common.{false, [], ◌∙◌, refl, subst}
 use Rattle.std.proofs.KnownBytes.{Consumes-nil}
 use Rattle.std.proofs.lemmas.Bool.{false≢true}
-use Rattle.gd_edges.specs.Shown.{Shown}
-use Rattle.group_model.specs.declared.entries.Entry.{Entry}
-use Rattle.group_model.specs.Groups.{depth_after, batches_after}
-use Rattle.group_model.specs.Legal.{opens, IsLegalHistory}
-use Rattle.script_text.specs.Report.{entries_text}
-use Rattle.console_run.specs.declared.command_line.Opening.{Opening}
-use Rattle.console_run.specs.declared.command_line.Opening.TheVariants.{New}
-use Rattle.console_run.specs.declared.endings.Ending.{Ending}
-use Rattle.console_run.specs.declared.endings.Ending.TheVariants.{NoGroup}
+use Rattle.group_values.specs.Values.{batches_made}
 use Rattle.console_run.specs.Causes.{Given}
-use Rattle.console_run.specs.Reports.{Puts, LastLineEnds}
-use Rattle.console_run.specs.Promises.{IsEnded, Promises}
-use Rattle.console_run.specs.Private.Openings.{request_of}
-use Rattle.console_run.proofs.KnownLemmas.{Puts-none}
-use Rattle.console_run.proofs.PromiseLemmas.{ran_legal, ran_whole}
+use Rattle.console_run.specs.Devices.{devices, keying}
+use Rattle.console_run.specs.Promises.{Promises, Streams, console_name, request_of, start_of}
+use Rattle.console_run.proofs.PromiseLemmas.{leaves_moments, opens_group, ran_history, ran_whole}
+use Rattle.console_run.proofs.StoreLemmas.{stores_follow}
 use Rattle.console_run.proofs.consoles.console.Goals as goal
-
--- an opening is requested
-opens_group : (opening : Opening) → opens (request_of opening) ≡ true
-opens_group (New depth) = refl
 
 pub returns-in-Some-clause-run : goal.returns-in-Some-clause-run
 returns-in-Some-clause-run g c =
-    let ran = c.run_script.ensures in
-    let given = ran.0 in
-    let request = request_of c.in-Some.opening in
+    let on = devices g.D.Disk g.G.Signer g.V.Verifier c.args.verifier.now in
+    let by = keying c.args.signer (g.R.Draws.block_at c.args.draws) in
+    let place = g.R.Draws.place_of c.args.draws in
+    let command = c.in-Some.command in
+    let ran = c.run_command.ensures in
     let had = g.S.Source.shows c.args.script.now in
-    let left = g.S.Source.shows c.run_script.new.script in
+    let left = g.S.Source.shows c.run_command.new.script in
     let was = g.K.Sink.shows c.args.out.now in
-    let now = g.K.Sink.shows c.run_script.new.out in
-    let entries = c.run_script.result.history in
-    let legal = ran_legal given request (opens_group c.in-Some.opening) had left was now c.run_script.result.ending entries ran.3 in (
-      given,
-      subst (λ asked. Promises given asked had left was now c.run_script.result.ending entries) c.in-Some.ensures.opening (record {
-        came = ran.2;
-        readings = ran.1;
-        run = ran.3;
-        complete = λ some script source sink. ran_whole given request had left was entries ran.2 script source now c.run_script.result.ending sink ran.3;
-        legal = legal;
-        valid = (c.a_history_leaves_a_sound_group.ensures.history given.readings entries legal).valid;
-        secrecy = c.no_others_derive.ensures.traffic (depth_after given.readings entries) (batches_after given.readings entries);
-        to_come = c.no_others_derive.ensures.to_come (depth_after given.readings entries) (batches_after given.readings entries);
-        world = c.a_history_is_part_of_its_world.ensures.part given.readings entries legal;
-        others = c.a_history_serves_its_members_alone.ensures.others given.readings entries legal;
-        wraps = c.a_history_is_part_of_its_world.ensures.wraps given.readings entries legal;
-        members = c.a_history_serves_its_members_alone.ensures.members given.readings entries legal;
-        yes = c.a_history_serves_its_members_alone.ensures.yes given.readings entries legal;
+    let now = g.K.Sink.shows c.run_command.new.out in
+    let ending = c.run_command.result.ending in
+    let entries = c.run_command.result.history in
+    let disk = c.run_command.result.disk in
+    let start = start_of command c.args.disk place in
+    let streams : Streams = record { given = ran.given; source_before = had; source_after = left; sink_before = was; sink_after = now } in
+    let list = batches_made ran.after.server.list in
+    let history = ran_history on by (request_of command.opening) start (opens_group command.opening) streams ending entries ran.after ran.run in
+    let valid = c.a_history_is_legal_by_names.ensures.valid by.signer on.verifier by.block c.args.disk console_name command.limit place entries ran.after history in
+    let counted = c.faults_are_counted.ensures.counted by.signer on.verifier by.block [] start entries ran.after history.steps in (
+      ran.given,
+      subst (λ asked. Promises on by asked streams place ending entries c.args.disk disk) c.in-Some.ensures.command (record {
+        came = ran.came;
+        promised = record {
+          after = ran.after;
+          disk = ran.left_disk;
+          run = ran.run;
+          complete = λ can. ran_whole on by c.a_file_has_one_group.ensures.or_none streams command place c.args.disk disk entries ran.after ran.left_disk ran.came can ending
+              ran.run;
+          history = history;
+          valid = valid;
+          secrecy = c.no_others_derive.ensures.traffic ran.after.server.depth list;
+          to_come = c.no_others_derive.ensures.to_come ran.after.server.depth list;
+          members = λ deep. c.members_derive.ensures ran.after.server.depth list deep valid;
+          by_names = λ sure.
+              let named = c.a_history_is_legal_by_names.ensures.legal by.signer on.verifier by.block c.args.disk console_name command.limit place entries ran.after history
+              sure in
+              record {
+                readings = named.0;
+                legal = named.1;
+                leaves = named.2;
+                world = c.a_history_is_part_of_its_world.ensures.part named.0 entries named.1;
+                others = c.a_history_serves_its_members_alone.ensures.others named.0 entries named.1;
+                wraps = c.a_history_is_part_of_its_world.ensures.wraps named.0 entries named.1;
+                members = c.a_history_serves_its_members_alone.ensures.members named.0 entries named.1;
+                yes = c.a_history_serves_its_members_alone.ensures.yes named.0 entries named.1;
+              };
+          stores = λ sure apart.
+              stores_follow on by (c.each_store_is_one_of_the_group.ensures by.signer on.verifier by.block)
+              (c.each_moment_is_of_a_keyed_history.ensures by.signer on.verifier by.block)
+              (c.a_due_push_is_taken_in_a_history.ensures.membership by.signer on.verifier by.block)
+              (c.a_due_push_is_taken_in_a_history.ensures.traffic by.signer on.verifier by.block)
+              c.args.disk console_name command.limit place entries ran.after history sure apart;
+          crash = leaves_moments on by (c.a_crash_leaves_a_moment_of_the_history.ensures.opened by.signer on.verifier by.block)
+              (c.a_crash_leaves_a_moment_of_the_history.ensures.crashes by.signer on.verifier by.block) start entries ran.after history;
+          faults = rw (← ran.left_disk) counted;
+        };
       }),
     )
 
--- nothing was taken, nothing was opened
 abbrev nothing : Given
-nothing = record { taken = []; ended = false; readings = [] }
-
-no_group_ended : (had was now : Shown) (ending : Ending) (entries : List Entry) → entries ≡ [] → LastLineEnds NoGroup ending was now → IsEnded nothing None had had was now ending entries
-no_group_ended had was now ending entries none last = record {
-  due = NoGroup;
-  cause = record { cause = refl; none_taken = refl; nothing = none };
-  source = refl;
-  middle = was;
-  report = subst (λ entries. Puts was was (entries_text entries)) (sym none) (Puts-none was);
-  last = last;
-}
+nothing = record { taken = []; ended = false }
 
 pub returns-in-None-clause-run : goal.returns-in-None-clause-run
 returns-in-None-clause-run g c =
+    let on = devices g.D.Disk g.G.Signer g.V.Verifier c.args.verifier.now in
+    let by = keying c.args.signer (g.R.Draws.block_at c.args.draws) in
     let had = g.S.Source.shows c.args.script.now in
     let was = g.K.Sink.shows c.args.out.now in
-    let now = g.K.Sink.shows c.end.new.out in
-    let entries = c.end.result.history in
-    let none : entries ≡ [] = c.end.ensures.history ∙ c.new.ensures in
-    let legal : IsLegalHistory [] entries = subst (IsLegalHistory []) (sym none) (record { begins = tt; steps = tt }) in (
+    let now = g.K.Sink.shows c.end.new.out in (
       nothing,
-      subst (λ asked. Promises nothing asked had had was now c.end.result.ending entries) c.in-None.ensures.opening (record {
-        came = record { consumed = Consumes-nil had.octets; octets = refl; whole = λ ended. absurd (false≢true ended) };
-        readings = refl;
-        run = inl (no_group_ended had was now c.end.result.ending entries none c.end.ensures.ends);
-        complete = λ some script source sink. absurd (false≢true some);
-        legal = legal;
-        valid = (c.a_history_leaves_a_sound_group.ensures.history [] entries legal).valid;
-        secrecy = c.no_others_derive.ensures.traffic (depth_after [] entries) (batches_after [] entries);
-        to_come = c.no_others_derive.ensures.to_come (depth_after [] entries) (batches_after [] entries);
-        world = c.a_history_is_part_of_its_world.ensures.part [] entries legal;
-        others = c.a_history_serves_its_members_alone.ensures.others [] entries legal;
-        wraps = c.a_history_is_part_of_its_world.ensures.wraps [] entries legal;
-        members = c.a_history_serves_its_members_alone.ensures.members [] entries legal;
-        yes = c.a_history_serves_its_members_alone.ensures.yes [] entries legal;
-      }),
+      subst (λ asked. Promises on by asked (record { given = nothing; source_before = had; source_after = had; sink_before = was; sink_after = now }) (g.R.Draws.place_of c.args.draws) c.end.result.ending
+          c.end.result.history c.args.disk c.end.result.disk) c.in-None.ensures.command (record {
+            came = record { consumed = Consumes-nil had.octets; octets = refl; whole = λ ended. absurd (false≢true ended) };
+            promised = record {
+              none_taken = refl;
+              source = refl;
+              disk = c.end.ensures.disk;
+              nothing = c.end.ensures.history ∙ c.new.ensures;
+              last = c.end.ensures.ends;
+            };
+          }),
     )

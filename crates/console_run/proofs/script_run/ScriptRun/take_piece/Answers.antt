@@ -1,6 +1,7 @@
 use Rattle.std.proofs.Common.{◌∷◌, [], take, get_or, sym, subst, arith}
-use Rattle.std.proofs.lemmas.List.{take_more}
+use Rattle.std.proofs.lemmas.List.{take_all, take_more}
 use Rattle.console_run.specs.Private.Follows.{at}
+use Rattle.console_run.specs.Devices.{devices}
 use Rattle.console_run.specs.Private.Runs.{GoesOn}
 use Rattle.console_run.proofs.CutLemmas.{small_octets}
 use Rattle.console_run.proofs.ErrorLemmas.{if_error}
@@ -9,14 +10,17 @@ use Rattle.console_run.proofs.StopLemmas.{StopsWithin-piece}
 use Rattle.console_run.proofs.script_run.ScriptRun.take_piece.Goals as goal
 
 pub loop-octet-init : goal.loop-octet-init
-loop-octet-init g c = record {
-  ready = c.requires.ready;
-  goes = GoesOn-none (at c.args.self.now (g.K.Sink.shows c.args.out.now));
-  nearer = omega arith;
-}
+loop-octet-init g c =
+    let on = devices g.D.Disk g.G.Signer g.V.Verifier c.args.verifier.now in
+    record {
+      ready = c.requires.ready;
+      goes = GoesOn-none on g.R.Draws (at c.args.self.now (g.K.Sink.shows c.args.out.now));
+      nearer = omega arith;
+    }
 
 pub loop-octet-preserved : goal.loop-octet-preserved
 loop-octet-preserved g c =
+    let on = devices g.D.Disk g.G.Signer g.V.Verifier c.args.verifier.now in
     let seen = g.K.Sink.shows in
     let piece = c.args.piece.now in
     let place = c.loop-octet.octet-index in
@@ -25,16 +29,18 @@ loop-octet-preserved g c =
     let new = at c.take_octet.new.self (seen c.take_octet.new.out) in
     record {
       ready = c.in_ok-take_octet.ensures.ready;
-      goes = subst (λ octets. GoesOn octets was new) (sym (take_more piece place 0 c.loop-octet-test.true))
-          (GoesOn-then (take place piece) (get_or piece place 0 ∷ []) was now new c.loop-octet.invariant.goes c.in_ok-take_octet.ensures.goes);
+      goes = subst (λ octets. GoesOn on g.R.Draws octets was new) (sym (take_more piece place 0 c.loop-octet-test.true))
+          (GoesOn-then on g.R.Draws (take place piece) (get_or piece place 0 ∷ []) was now new c.loop-octet.invariant.goes c.in_ok-take_octet.ensures.goes);
       nearer = omega (arith, c.in_ok-take_octet.ensures.nearer, c.loop-octet.invariant.nearer);
     }
 
 pub returns-in_err-take_octet-clause-stops : goal.returns-in_err-take_octet-clause-stops
 returns-in_err-take_octet-clause-stops g c =
+    let on = devices g.D.Disk g.G.Signer g.V.Verifier c.args.verifier.now in
     let seen = g.K.Sink.shows in
     if_error _ _ _ c.from_residual.ensures.1
-    (StopsWithin-piece c.args.piece.now c.loop-octet.octet-index c.in_err-take_octet.field-0.0 (at c.args.self.now (seen c.args.out.now)) (at c.loop-octet.self (seen c.loop-octet.out)) (at c.take_octet.new.self (seen c.take_octet.new.out))
+    (StopsWithin-piece on g.R.Draws c.args.piece.now c.loop-octet.octet-index c.in_err-take_octet.field-0.0 (at c.args.self.now (seen c.args.out.now))
+    (at c.loop-octet.self (seen c.loop-octet.out)) (at c.take_octet.new.self (seen c.take_octet.new.out))
     (small_octets c.args.piece.now c.type_inv.piece) c.requires.short c.loop-octet-test.true c.loop-octet.invariant.goes c.in_err-take_octet.ensures.stops)
 
 pub returns-clause-octets : goal.returns-clause-octets
@@ -42,3 +48,10 @@ returns-clause-octets g c = small_octets c.args.piece.now c.type_inv.piece
 
 pub returns-in_err-take_octet-clause-octets : goal.returns-in_err-take_octet-clause-octets
 returns-in_err-take_octet-clause-octets g c = small_octets c.args.piece.now c.type_inv.piece
+
+pub returns-clause-goes : goal.returns-clause-goes
+returns-clause-goes g c =
+    let on = devices g.D.Disk g.G.Signer g.V.Verifier c.args.verifier.now in
+    let seen = g.K.Sink.shows in
+    subst (λ octets. GoesOn on g.R.Draws octets (at c.args.self.now (seen c.args.out.now)) (at c.loop-octet.self (seen c.loop-octet.out)))
+    (take_all c.loop-octet.octet-index c.args.piece.now c.loop-octet-test.false) c.loop-octet.invariant.goes

@@ -7,6 +7,7 @@ use Rattle.std.proofs.KnownBytes.{Consumes-nil, Consumes-trans, Consumes-kept}
 use Rattle.group_terms.specs.Faults.{Rose}
 use Rattle.console_run.specs.Scripts.{are_octets}
 use Rattle.console_run.specs.Private.Follows.{at}
+use Rattle.console_run.specs.Devices.{devices}
 use Rattle.console_run.proofs.ErrorLemmas.{if_error}
 use Rattle.console_run.proofs.SoFarLemmas.{GoesOn-none, GoesOn-then}
 use Rattle.console_run.proofs.StopLemmas.{StopsWithin-lost, StopsWithin-then, SourceFails-other}
@@ -17,14 +18,17 @@ both_small : (a b : List ℕ) → are_octets a ≡ true → are_octets b ≡ tru
 both_small a b h k = list_all-append (λ octet. nat_lt octet 256) a b ∙ and_from _ _ h k
 
 pub pieces-init : goal.pieces-init
-pieces-init g c = record {
-  ready = c.requires.ready;
-  stands = refl;
-  goes = ([], Consumes-nil (g.S.Source.shows c.args.script.now).octets, refl, GoesOn-none (at c.args.self.now (g.K.Sink.shows c.args.out.now)));
-}
+pieces-init g c =
+    let on = devices g.D.Disk g.G.Signer g.V.Verifier c.args.verifier.now in
+    record {
+      ready = c.requires.ready;
+      stands = refl;
+      goes = ([], Consumes-nil (g.S.Source.shows c.args.script.now).octets, refl, GoesOn-none on g.R.Draws (at c.args.self.now (g.K.Sink.shows c.args.out.now)));
+    }
 
 pub pieces-preserved : goal.pieces-preserved
 pieces-preserved g c =
+    let on = devices g.D.Disk g.G.Signer g.V.Verifier c.args.verifier.now in
     let left = g.S.Source.shows in
     let seen = g.K.Sink.shows in
     let piece = c.split_at.result.0.now in
@@ -37,12 +41,14 @@ pieces-preserved g c =
         before.0 ++ piece,
         Consumes-trans (left c.args.script.now).octets (left c.pieces.script).octets (left c.take.new.self).octets before.0 piece before.1 moved,
         both_small before.0 piece before.2 c.in_ok-take_piece.ensures.octets,
-        GoesOn-then before.0 piece (at c.args.self.now (seen c.args.out.now)) (at c.pieces.self (seen c.pieces.out)) (at c.take_piece.new.self (seen c.take_piece.new.out)) before.3 c.in_ok-take_piece.ensures.goes,
+        GoesOn-then on g.R.Draws before.0 piece (at c.args.self.now (seen c.args.out.now)) (at c.pieces.self (seen c.pieces.out))
+            (at c.take_piece.new.self (seen c.take_piece.new.out)) before.3 c.in_ok-take_piece.ensures.goes,
       );
     }
 
 pub returns-in-Err-clause-stops : goal.returns-in-Err-clause-stops
 returns-in-Err-clause-stops g c =
+    let on = devices g.D.Disk g.G.Signer g.V.Verifier c.args.verifier.now in
     let left = g.S.Source.shows in
     let seen = g.K.Sink.shows in
     let before = c.pieces.invariant.goes in
@@ -52,11 +58,12 @@ returns-in-Err-clause-stops g c =
       consumed = Consumes-kept (left c.args.script.now).octets (left c.pieces.script).octets (left c.take.new.self).octets before.0 before.1 c.in-Err.ensures.failed;
       small = before.2;
       source = subst (λ faults. Rose faults (left c.take.new.self).faults) c.pieces.invariant.stands c.in-Err.ensures.cause;
-      stops = StopsWithin-lost before.0 (at c.args.self.now (seen c.args.out.now)) (at c.pieces.self (seen c.pieces.out)) before.3 ready.short ready.begun;
+      stops = StopsWithin-lost on g.R.Draws before.0 (at c.args.self.now (seen c.args.out.now)) (at c.pieces.self (seen c.pieces.out)) before.3 ready.short ready.begun;
     }
 
 pub returns-in_err-take_piece-clause-stops : goal.returns-in_err-take_piece-clause-stops
 returns-in_err-take_piece-clause-stops g c =
+    let on = devices g.D.Disk g.G.Signer g.V.Verifier c.args.verifier.now in
     let left = g.S.Source.shows in
     let seen = g.K.Sink.shows in
     let stop = c.in_err-take_piece.field-0.0 in
@@ -68,5 +75,6 @@ returns-in_err-take_piece-clause-stops g c =
       consumed = Consumes-trans (left c.args.script.now).octets (left c.pieces.script).octets (left c.take.new.self).octets before.0 piece before.1 moved;
       small = both_small before.0 piece before.2 c.in_err-take_piece.ensures.octets;
       source = SourceFails-other stop _ _ (λ source. c.take_piece.ensures.other (c.in_err-take_piece.was ∙ ap Err source)) (c.in-Ok.ensures.stands ∙ c.pieces.invariant.stands);
-      stops = StopsWithin-then before.0 piece stop (at c.args.self.now (seen c.args.out.now)) (at c.pieces.self (seen c.pieces.out)) (at c.take_piece.new.self (seen c.take_piece.new.out)) before.3 c.in_err-take_piece.ensures.stops;
+      stops = StopsWithin-then on g.R.Draws before.0 piece stop (at c.args.self.now (seen c.args.out.now)) (at c.pieces.self (seen c.pieces.out))
+          (at c.take_piece.new.self (seen c.take_piece.new.out)) before.3 c.in_err-take_piece.ensures.stops;
     })

@@ -2,6 +2,7 @@ use Rattle.std.proofs.Common.{◌≡◌, true, ℕ, List}
 use Rattle.std.specs.Io.KnownBytes.{Consumes}
 use Rattle.console_run.specs.Scripts.{are_octets}
 use Rattle.console_run.specs.Private.Follows.{at}
+use Rattle.console_run.specs.Devices.{devices}
 use Rattle.console_run.specs.Private.Runs.{IsReady, GoesOn, room_left}
 use Rattle.console_run.proofs.script_run.ScriptRun.take_script.Given as goal
 
@@ -11,7 +12,7 @@ invariant-pieces g l = record {
   ready : IsReady (at l.self (g.K.Sink.shows l.out));
   stands : (g.S.Source.shows l.script).faults ≡ (g.S.Source.shows l.fn.script).faults;
   goes : (taken : List ℕ) × Consumes (g.S.Source.shows l.fn.script).octets (g.S.Source.shows l.script).octets taken × (are_octets taken ≡ true)
-      × GoesOn taken (at l.fn.self (g.K.Sink.shows l.fn.out)) (at l.self (g.K.Sink.shows l.out));
+      × GoesOn (devices g.D.Disk g.G.Signer g.V.Verifier l.verifier) g.R.Draws taken (at l.fn.self (g.K.Sink.shows l.fn.out)) (at l.self (g.K.Sink.shows l.out));
 }
 
 abbrev pub decreases-pieces : goal.decreases-pieces

@@ -1,0 +1,49 @@
+//! Runs the console on disks in memory that fail and crash where a case says so. Each line of standard input says something of the next run, or asks for it; a run is
+//! answered by its report, its status with the number of a faulty line, and the journal that it left.
+//!
+//! ```text
+//! case NAME                        an empty disk
+//! faults CALL ..                   an empty disk that fails at these of its calls, counted from 1
+//! disk OCTETS                      a disk with these octets
+//! source CALL ..                   the source of the next run fails at these of its calls
+//! sink CALL ..                     its sink does
+//! words WORD ..                    its words
+//! > LINE                           a line of its script
+//! run octets|hashes|outline        the run, on the disk that the last one left
+//! crash CHOICE                     the disk is as a crash of this number leaves it
+//! ```
+//!
+//! A run is told in full, by the SHA-256 of its report and of its journal, or in full but for the octets of its pushes.
+#![tactic(auto)]
+
+use cases::Case;
+use lines::read_line;
+use std::io;
+use std::io::{BufRead, BufReader};
+
+mod cases;
+mod lines;
+mod runs;
+mod texts;
+
+fn main(rt: HostRuntime) -> io::Result<()> {
+    let mut case = Case::begin(rt.alloc());
+    answer_all(&rt, &mut case)
+}
+
+/// Answers standard input, line by line.
+fn answer_all(rt: &HostRuntime, case: &mut Case) -> io::Result<()> {
+    let input = BufReader::new(rt.alloc(), rt.reader())?;
+    for line in input.lines(rt.alloc()) {
+        let line = line?;
+        answer(rt, case, line.as_str())?;
+    }
+    Ok(())
+}
+
+fn answer(rt: &HostRuntime, case: &mut Case, line: &str) -> io::Result<()> {
+    let line = read_line(rt.alloc(), line)?;
+    let answer = case.answer(rt.alloc(), line)?;
+    print!(rt; "{answer}")?;
+    Ok(())
+}

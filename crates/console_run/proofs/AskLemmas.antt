@@ -1,0 +1,328 @@
+-- One line of a script, request by request.
+use Rattle.std.proofs.Common.{◌≡◌, ℕ, false, ◌||◌, List, [], ◌∷◌, ◌++◌, Option, None, Some, Result, Ok, Err, sym, refl, ap, ◌∙◌, subst, inl, inr, append_assoc}
+use Rattle.std.specs.Prelude.{IfErr, MatchResult, OnOk}
+use Rattle.std.proofs.lemmas.Bool.{or_parts}
+use Rattle.std.proofs.lemmas.List.{append-nil}
+use Rattle.std.proofs.lemmas.List.Folds.{list_any-append}
+use Rattle.std.proofs.lemmas.Result.{IfOk-at_ok, MatchResult-weaker}
+use Rattle.gd_edges.specs.Shown.{Shown}
+use Rattle.gd_edges.specs.declared.draws.Draws.{Ghosts as DrawGhosts}
+use Rattle.group_model.specs.Legal.{any_ran_out, ran_out}
+use Rattle.group_model.specs.declared.entries.Asked.{Asked}
+use Rattle.group_model.specs.declared.entries.Entry.{Entry}
+use Rattle.group_terms.specs.declared.memory.NoMemory.{NoMemory}
+use Rattle.group_run.specs.Moves.{Moves}
+use Rattle.group_run.specs.Reflects.{Reflects}
+use Rattle.group_run.specs.Views.{View}
+use Rattle.group_steps.specs.Runs.{Run}
+use Rattle.group_steps.specs.Steps.{IsAnswered}
+use Rattle.script_text.specs.Lines.{line_of}
+use Rattle.script_text.specs.Report.{entry_text, entries_text}
+use Rattle.script_text.specs.declared.lines.Line.{Line as ScriptLine}
+use Rattle.script_text.specs.declared.lines.Line.TheVariants as lines
+use Rattle.console_run.specs.declared.stops.Stop.{Stop}
+use Rattle.console_run.specs.declared.stops.Stop.TheVariants.{Line, Source, Sink, Memory, Unreported}
+use Rattle.console_run.specs.declared.endings.Ending.{Ending}
+use Rattle.console_run.specs.declared.endings.Ending.TheVariants.{Sink as SinkEnding, Memory as MemoryEnding}
+use Rattle.console_run.specs.Devices.{Devices, Keying, Steps}
+use Rattle.console_run.specs.Lines.{AsksNext, BeginsToGive, GoesThrough, once}
+use Rattle.console_run.specs.Reports.{BreaksOff, Puts, ReportBreaksOff}
+use Rattle.console_run.specs.Private.Asks.{Answers, StopsIn}
+use Rattle.console_run.specs.Private.Reports.{EntryStops}
+use Rattle.console_run.specs.Private.Runs.{ReportsUntil, Runs, Stands, Stops, begun_by_text, by_line, by_text}
+use Rattle.console_run.proofs.KnownLemmas.{Puts-entries, Puts-entry, Puts-none, ReportBreaksOff-last}
+
+-- ---- what a request of the engine answers
+
+module _ {D G V R : Type 0} (on : Devices D G V) (draws : DrawGhosts R) (old new : View D G R) where
+  -- what a step does that answers a request, with the server that the group has
+  abbrev pub MovesBy : Asked → Type 0
+  MovesBy request =
+      Moves on.disks draws (IsAnswered on.disks on.signers old.core.signer on.verifiers on.verifier (draws.block_at old.core.draws) old.entries request) request
+      old new
+
+  pub Answers-by : (request : Asked) → MovesBy request → Answers on draws request old new
+  Answers-by request moves = record {
+    entry = moves.entry;
+    added = moves.added;
+    asked = moves.asked;
+    each = λ by run stands.
+        let next = moves.each run stands.reflects in
+        let block : draws.block_at old.core.draws ≡ by.block = λ i k. stands.blocks k i in (
+          next.0,
+          record {
+            answered = subst
+                (λ asked. IsAnswered on.disks on.signers by.signer on.verifiers on.verifier by.block old.entries asked run moves.entry.answer moves.entry.outside next.0)
+                (sym moves.asked)
+                (subst
+                (λ block. IsAnswered on.disks on.signers by.signer on.verifiers on.verifier block old.entries request run moves.entry.answer moves.entry.outside next.0)
+                block
+                (subst
+                (λ signer. IsAnswered on.disks on.signers signer on.verifiers on.verifier (draws.block_at old.core.draws) old.entries request run moves.entry.answer moves.entry.outside next.0)
+                stands.signer next.1.answered));
+            keeps = next.1.keeps;
+            counts = next.1.counts;
+          },
+          record {
+            reflects = next.2;
+            signer = moves.goes_on.signer ∙ stands.signer;
+            blocks = λ k. moves.goes_on.blocks k ∙ stands.blocks k;
+          },
+        );
+  }
+
+module _ {D G V R : Type 0} (on : Devices D G V) (draws : DrawGhosts R) (old new : View D G R) where
+  -- a line asks just once, and its request was answered
+  pub record AsksOnce (line : ScriptLine) : Type 0 where
+    pub request : Asked
+    pub asks : (run : Run D) (so_far : List Entry) (next : Option Asked) → next ≡ once request so_far → AsksNext run old.entries so_far line next
+    pub answers : Answers on draws request old new
+
+  -- a call answered it
+  pub asked_once : (line kind : ScriptLine) → line ≡ kind → (request : Asked)
+      → ((run : Run D) (so_far : List Entry) (next : Option Asked) → next ≡ once request so_far → AsksNext run old.entries so_far kind next)
+      → (held : View D G R) → new ≡ held → (call : Result Unit NoMemory) (u : Unit {0}) → call ≡ Ok u → OnOk call (MovesBy on draws old held request)
+      → AsksOnce line
+  asked_once line kind is request asks held same call u ok moves = record {
+    request = request;
+    asks = subst
+        (λ line. (run : Run D) (so_far : List Entry) (next : Option Asked) → next ≡ once request so_far → AsksNext run old.entries so_far line next)
+        (sym is) asks;
+    answers = subst (λ new. Answers on draws request old new) (sym same)
+        (Answers-by on draws old held request (IfOk-at_ok (λ _. MovesBy on draws old held request) ok moves));
+  }
+
+-- ---- entry after entry
+
+module _ {D G V : Type 0} (on : Devices D G V) (by : Keying G) (line : ScriptLine) (before : List Entry) where
+  -- a line goes through one entry more
+  pub GoesThrough-then : (so_far : List Entry) (run : Run D) (more : List Entry) (middle : Run D) (entry : Entry) (after : Run D)
+      → any_ran_out more ≡ false → GoesThrough on by line before so_far run more middle
+      → AsksNext middle before (so_far ++ more) line (Some entry.asked) → Steps on by (before ++ (so_far ++ more)) middle entry after
+      → GoesThrough on by line before so_far run (more ++ entry ∷ []) after
+  GoesThrough-then so_far run [] middle entry after enough same asks step = (
+    subst (λ (run : Run D). AsksNext run before so_far line (Some entry.asked)) same
+        (subst (λ list. AsksNext middle before list line (Some entry.asked)) (append-nil so_far) asks),
+    inl refl,
+    after,
+    subst (λ (run : Run D). Steps on by (before ++ so_far) run entry after) same
+        (subst (λ list. Steps on by (before ++ list) middle entry after) (append-nil so_far) step),
+    refl,
+  )
+  GoesThrough-then so_far run (first ∷ more) middle entry after enough goes asks step =
+      let enough_memory = or_parts (ran_out first.answer) (any_ran_out more) enough in
+      let same = sym (append_assoc so_far (first ∷ []) more) in (
+        goes.0,
+        inr enough_memory.0,
+        goes.2,
+        goes.3,
+        GoesThrough-then (so_far ++ first ∷ []) goes.2 more middle entry after enough_memory.1 goes.4
+            (subst (λ list. AsksNext middle before list line (Some entry.asked)) same asks)
+            (subst (λ list. Steps on by (before ++ list) middle entry after) same step),
+      )
+
+-- one entry more, at which the report stopped
+until : (stop : Stop) (was seen now : Shown) (more : List Entry) (entry : Entry) → Puts was seen (entries_text more) → EntryStops stop seen now entry
+    → ReportsUntil stop was now (more ++ entry ∷ [])
+until stop was seen now more entry puts stops = by_stop stop stops
+  where
+    broken : (ending : Ending) → BreaksOff ending seen now (entry_text entry) → ReportBreaksOff ending was now (more ++ entry ∷ [])
+    broken ending h = ReportBreaksOff-last ending was seen now more entry puts h
+
+    by_stop : (stop : Stop) → EntryStops stop seen now entry → ReportsUntil stop was now (more ++ entry ∷ [])
+    by_stop Line h = absurd h
+    by_stop Source h = absurd h
+    by_stop Sink h = broken SinkEnding h
+    by_stop Memory h = Puts-entries was seen now more (entry ∷ []) puts (Puts-entry seen now entry h.0)
+    by_stop Unreported h = broken MemoryEnding h
+
+module _ {D G V R : Type 0} (on : Devices D G V) (draws : DrawGhosts R) (line : ScriptLine) where
+  -- A line has given entries so far, all of them reported, and memory did not run out. Whatever run it was before, these have made a run with such a property.
+  pub record Going (keeps : List Entry → Run D → Type 0) (more : List Entry) (old new : View D G R) (was now : Shown) : Type 0 where
+    pub grown : new.entries ≡ old.entries ++ more
+    pub enough : any_ran_out more ≡ false
+    pub each : (by : Keying G) (run : Run D) → Stands on.disks draws by old run
+        → (after : Run D) × BeginsToGive on by line old.entries run more after × Stands on.disks draws by new after × keeps more after
+    pub puts : Puts was now (entries_text more)
+
+  -- nothing was asked yet
+  pub Going-none : (keeps : List Entry → Run D → Type 0) (old : View D G R) (was : Shown)
+      → ((run : Run D) → Reflects on.disks draws old run → keeps [] run) → Going keeps [] old old was was
+  Going-none keeps old was begins = record {
+    grown = sym (append-nil old.entries);
+    enough = refl;
+    each = λ by run stands. (run, refl, stands, begins run stands.reflects);
+    puts = Puts-none was;
+  }
+
+  module _ (keeps : List Entry → Run D → Type 0) (more : List Entry) (old middle : View D G R) (was seen : Shown) (going : Going keeps more old middle was seen) where
+    -- nothing more is asked
+    pub Runs-all : ((run : Run D) → Reflects on.disks draws middle run → keeps more run → AsksNext run old.entries more line None)
+        → Runs on.disks draws (by_line on line) old middle was seen
+    Runs-all no_more = record {
+      more = more;
+      grown = going.grown;
+      each = λ by run stands.
+          let h = going.each by run stands in
+          (h.0, record { begins = h.1; no_more = no_more h.0 h.2.reflects h.3; enough_memory = going.enough }, h.2);
+      puts = going.puts;
+    }
+
+    -- there was no memory for a request
+    pub Stops-unasked : (new : View D G R) → new ≡ middle → StopsIn on draws line Memory old new was seen
+    Stops-unasked new same = subst (λ new. StopsIn on draws line Memory old new was seen) (sym same) (record {
+      stops = record {
+        more = more;
+        grown = going.grown;
+        each = λ by run stands. let h = going.each by run stands in (h.0, h.1, h.2);
+        reports = going.puts;
+      };
+      known = λ same. cc;
+    })
+
+    -- one request was answered
+    module _ (new : View D G R) (request : Asked) (answers : Answers on draws request middle new)
+        (asks : (run : Run D) → Reflects on.disks draws middle run → keeps more run → AsksNext run old.entries more line (Some request)) where
+      abbrev all_now : List Entry
+      all_now = more ++ answers.entry ∷ []
+
+      grown_now : new.entries ≡ old.entries ++ all_now
+      grown_now =
+          answers.added ∙ ap (λ entries. entries ++ answers.entry ∷ []) going.grown
+          ∙ append_assoc old.entries more (answers.entry ∷ [])
+
+      -- from the run that the entries so far have made
+      record Goes (by : Keying G) (run : Run D) : Type 0 where
+        middle_run : Run D
+        stood : Stands on.disks draws by middle middle_run
+        kept : keeps more middle_run
+        after : Run D
+        step : Steps on by middle.entries middle_run answers.entry after
+        gives : BeginsToGive on by line old.entries run all_now after
+        stands : Stands on.disks draws by new after
+
+      goes : (by : Keying G) (run : Run D) → Stands on.disks draws by old run → Goes by run
+      goes by run stands =
+          let h = going.each by run stands in
+          let next = answers.each by h.0 h.2 in
+          record {
+            middle_run = h.0;
+            stood = h.2;
+            kept = h.3;
+            after = next.0;
+            step = next.1;
+            gives = GoesThrough-then on by line old.entries [] run more h.0 answers.entry next.0 going.enough h.1
+                (subst (λ asked. AsksNext h.0 old.entries more line (Some asked)) (sym answers.asked) (asks h.0 h.2.reflects h.3))
+                (subst (λ entries. Steps on by entries h.0 answers.entry next.0) going.grown next.1);
+            stands = next.2;
+          }
+
+      -- and reported
+      pub Going-more : (keeps_now : List Entry → Run D → Type 0) (now : Shown)
+          → ((by : Keying G) (run next : Run D) → Stands on.disks draws by middle run → keeps more run
+          → Steps on by middle.entries run answers.entry next → keeps_now all_now next)
+          → Puts seen now (entry_text answers.entry) → ran_out answers.entry.answer ≡ false → Going keeps_now all_now old new was now
+      Going-more keeps_now now kept puts enough = record {
+        grown = grown_now;
+        enough = list_any-append (λ (entry : Entry). ran_out entry.answer) more (answers.entry ∷ []) ∙ (λ i. going.enough i || (enough i || false));
+        each = λ by run stands. let h = goes by run stands in (h.after, h.gives, h.stands, kept by h.middle_run h.after h.stood h.kept h.step);
+        puts = Puts-entries was seen now more (answers.entry ∷ []) going.puts (Puts-entry seen now answers.entry puts);
+      }
+
+      -- or there the run stopped
+      pub Stops-more : (now : Shown) (stop : Stop) → EntryStops stop seen now answers.entry → StopsIn on draws line stop old new was now
+      Stops-more now stop stops = record {
+        stops = record {
+          more = all_now;
+          grown = grown_now;
+          each = λ by run stands. let h = goes by run stands in (h.after, h.gives, h.stands);
+          reports = until stop was seen now more answers.entry going.puts stops;
+        };
+        known = λ same. subst (λ stop. EntryStops stop seen now answers.entry) same stops;
+      }
+
+-- ---- lines that ask once
+
+-- nothing has to be known of the runs of such a line
+abbrev pub any_run : {D : Type 0} → List Entry → Run D → Type 0
+any_run more run = Unit {0}
+
+module _ {D G V R : Type 0} (on : Devices D G V) (draws : DrawGhosts R) (old new : View D G R) (was now : Shown) where
+  -- the report of the last entry was put, and memory did not run out in it
+  abbrev pub IsReported : Type 0
+  IsReported = (front : List Entry) (entry : Entry) → new.entries ≡ front ++ entry ∷ [] → Puts was now (entry_text entry) × (ran_out entry.answer ≡ false)
+
+  -- or there the run stopped
+  abbrev pub IsStopped : Stop → Type 0
+  IsStopped stop = (front : List Entry) (entry : Entry) → new.entries ≡ front ++ entry ∷ [] → EntryStops stop was now entry
+
+  module _ (line : ScriptLine) (h : AsksOnce on draws old new line) where
+    begun : Going on draws line any_run [] old old was was
+    begun = Going-none on draws line any_run old was (λ run reflects. tt)
+
+    Runs-once : IsReported → Runs on.disks draws (by_line on line) old new was now
+    Runs-once reported =
+        let told = reported old.entries h.answers.entry h.answers.added in
+        Runs-all on draws line any_run (h.answers.entry ∷ []) old new was now
+        (Going-more on draws line any_run [] old old was was begun new h.request h.answers (λ run reflects kept. h.asks run [] (Some h.request) refl) any_run now
+        (λ by run next stands kept step. tt) told.0 told.1)
+        (λ run reflects kept. h.asks run (h.answers.entry ∷ []) None refl)
+
+    pub Ends-once : (result : Result Unit Stop) → OnOk result IsReported → IfErr result IsStopped
+        → MatchResult result (λ _. Runs on.disks draws (by_line on line) old new was now) (λ stop. StopsIn on draws line stop old new was now)
+    Ends-once (Ok u) reported stopped = Runs-once reported
+    Ends-once (Err stop) reported stopped =
+        Stops-more on draws line any_run [] old old was was begun new h.request h.answers (λ run reflects kept. h.asks run [] (Some h.request) refl) now stop
+        (stopped old.entries h.answers.entry h.answers.added)
+
+-- there was no memory for the first request of a line
+pub Stops-unbegun : {D G V R : Type 0} (on : Devices D G V) (draws : DrawGhosts R) (line : ScriptLine) (old new : View D G R) (was : Shown) → new ≡ old
+    → StopsIn on draws line Memory old new was was
+Stops-unbegun on draws line old new was same =
+    Stops-unasked on draws line any_run [] old old was was (Going-none on draws line any_run old was (λ run reflects. tt)) new same
+
+-- a line of nothing
+pub Runs-nothing : {D G V R : Type 0} (on : Devices D G V) (draws : DrawGhosts R) (held : View D G R) (out : Shown)
+    → Runs on.disks draws (by_line on lines.Nothing) held held out out
+Runs-nothing on draws held out =
+    Runs-all on draws lines.Nothing any_run [] held held out out (Going-none on draws lines.Nothing any_run held out (λ run reflects. tt))
+    (λ run reflects kept. refl)
+
+-- ---- texts
+
+module _ {D G V R : Type 0} (on : Devices D G V) (draws : DrawGhosts R) (text : List ℕ) (old new : View D G R) (was now : Shown) where
+  Runs-text : (line : ScriptLine) → line_of text ≡ Some line → Runs on.disks draws (by_line on line) old new was now
+      → Runs on.disks draws (by_text on text) old new was now
+  Runs-text line is run = record {
+    more = run.more;
+    grown = run.grown;
+    each = λ by start stands. let h = run.each by start stands in (h.0, (line, is, h.1), h.2);
+    puts = run.puts;
+  }
+
+  Stops-text : (line : ScriptLine) → line_of text ≡ Some line → (stop : Stop) → StopsIn on draws line stop old new was now
+      → Stops on.disks draws (begun_by_text on text) stop old new was now
+  Stops-text line is stop h = record {
+    more = h.stops.more;
+    grown = h.stops.grown;
+    each = λ by start stands. let each = h.stops.each by start stands in (each.0, inr (line, is, each.1), each.2);
+    reports = h.stops.reports;
+  }
+
+  -- a text is such a line
+  module _ (line : ScriptLine) (is : line_of text ≡ Some line) (result : Result Unit Stop)
+      (ends : MatchResult result (λ _. Runs on.disks draws (by_line on line) old new was now) (λ stop. StopsIn on draws line stop old new was now)) where
+    pub ok_by_text : OnOk result (Runs on.disks draws (by_text on text) old new was now)
+    ok_by_text = MatchResult-weaker result ends (λ _ run. Runs-text line is run) (λ stop h. tt)
+
+    pub stops_by_text : IfErr result (λ stop. Stops on.disks draws (begun_by_text on text) stop old new was now)
+    stops_by_text = MatchResult-weaker result ends (λ _ run. tt) (λ stop h. Stops-text line is stop h)
+
+  -- or it is none
+  pub Stops-faulty : new ≡ old → now ≡ was → Stops on.disks draws (begun_by_text on text) Line old new was now
+  Stops-faulty same put = record {
+    more = [];
+    grown = ap (λ (held : View D G R). held.entries) same ∙ sym (append-nil old.entries);
+    each = λ by run stands. (run, inl (refl, refl), subst (λ held. Stands on.disks draws by held run) (sym same) stands);
+    reports = (refl, subst (λ now. Puts was now []) (sym put) (Puts-none was));
+  }

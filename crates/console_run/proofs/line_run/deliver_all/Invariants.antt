@@ -1,0 +1,11 @@
+use Rattle.std.proofs.Common.{length}
+use Rattle.console_run.specs.Devices.{devices}
+use Rattle.console_run.proofs.DueLemmas.{IsGiving, left_after}
+use Rattle.console_run.proofs.line_run.deliver_all.Given as goal
+
+abbrev pub invariant-deliveries : goal.invariant-deliveries
+invariant-deliveries g l =
+    IsGiving (devices g.D.Disk g.G.Signer g.V.Verifier l.verifier) g.R.Draws l.last l.fn.group l.group (g.K.Sink.shows l.fn.out) (g.K.Sink.shows l.out)
+
+abbrev pub decreases-deliveries : goal.decreases-deliveries
+decreases-deliveries g l = left_after (length l.group.peers) l.last

@@ -1,0 +1,61 @@
+-- What a run has on its disk after an opening.
+use Rattle.std.proofs.Common.{◌≡◌, ◌∙◌, ℕ, ◌≤◌, List, [], Option, None, Some, sym, ap, subst}
+use Rattle.gd_disk.specs.Disks.{Knows, Only}
+use Rattle.gd_disk.specs.MomentLaws.{leaves_now, shown_before, weaker}
+use Rattle.gd_disk.specs.Moments.{Keeps, LeavesOnly, shown}
+use Rattle.gd_disk.specs.declared.disks.Disk.{Ghosts}
+use Rattle.group_values.specs.Values.{Made}
+use Rattle.group_model.specs.Servers.{MayHave, halted}
+use Rattle.tree_store.specs.Groups.{HasGroup, IsGroup}
+use Rattle.gcks_core.specs.Stored.{IsFileOf, stored_list}
+use Rattle.group_steps.specs.Disks.{HasJournal, LeavesJournal}
+use Rattle.group_steps.specs.Runs.{Run, with_disk, with_server}
+
+-- the octets that are shown are one list
+one_text : (shows : Option (List ℕ)) (was file : List ℕ) → shows ≡ Some was → shows ≡ Some file → was ≡ file
+one_text shows was file first second = ap octets (sym first ∙ second)
+  where
+    octets : Option (List ℕ) → List ℕ
+    octets None = []
+    octets (Some text) = text
+
+module _ {D : Type 0} (d : Ghosts D) where
+  -- it has what was read
+  pub has_read : (run : Run D) (list : List Made) → MayHave run.server list
+      → Knows (shown d run.disk) (λ file. IsGroup file run.head (stored_list run.head.depth list))
+      → Knows (shown d run.disk) (λ file. Only file (d.may_leave run.disk)) → HasJournal d run
+  has_read run list may reads only = record {
+    file = λ file is. (list, may, reads file is);
+    crash = λ file is c left.
+        (list, may, subst (λ text. IsGroup text run.head (stored_list run.head.depth list)) (sym (only file is c left)) (reads file is));
+  }
+
+  -- it has what was made
+  pub has_made : (old : D) (run : Run D) → Keeps d old run.disk → MayHave run.server []
+      → Knows (shown d old) (λ _. HasGroup (shown d run.disk) run.head [])
+      → Knows (shown d old) (λ _. (c : List ℕ) → d.may_leave run.disk c → IsGroup c run.head []) → HasJournal d run
+  has_made old run keeps may made durable = record {
+    file = λ file is.
+        let was = shown_before d old run.disk keeps file is in
+        let has = made was.0 was.1 in
+        ([], may, subst (λ text. IsGroup text run.head []) (one_text (shown d run.disk) has.0 file has.1 is) has.2);
+    crash = λ file is c left.
+        let was = shown_before d old run.disk keeps file is in
+        ([], may, durable was.0 was.1 c left);
+  }
+
+  module _ (run : Run D) (new : D) (shows : shown d new ≡ shown d run.disk) (has : HasJournal d run)
+      (moments : Knows (shown d run.disk) (λ _. LeavesOnly d run.disk new (d.may_leave run.disk))) where
+    -- it has what it had
+    pub has_still : ((t : ℕ) (c : List ℕ) → t ≤ d.moment new → d.may_leave new c → d.left_since new t c)
+        → HasJournal d (with_disk (with_server run (halted run.server)) new)
+    has_still counts_now = record {
+      file = λ file is. has.file file (sym shows ∙ is);
+      crash = λ file is c left.
+          let was = sym shows ∙ is in
+          has.crash file was c (leaves_now d run.disk new (d.may_leave run.disk) counts_now (moments file was) c left);
+    }
+
+    -- and so a crash leaves at any moment
+    pub leaves_still : LeavesJournal d run.disk run.head run.server new
+    leaves_still file is = weaker d run.disk new (d.may_leave run.disk) (IsFileOf run.head run.server) (has.crash file is) (moments file is)

@@ -1,0 +1,88 @@
+use Rattle.std.proofs.Common.{sym, ap, subst}
+use Rattle.std.specs.List.{All}
+use Rattle.std.specs.Prelude.{IfSome}
+use Rattle.group_terms.specs.Changes.{joiners}
+use Rattle.group_model.specs.Servers.{opened_server}
+use Rattle.group_model.specs.declared.entries.Answer.{Answer}
+use Rattle.group_model.specs.declared.entries.Asked.TheVariants.{Reopen}
+use Rattle.gcks_core.specs.Views.{View}
+use Rattle.group_steps.specs.Sent.{pair_by}
+use Rattle.group_run.specs.Entries.{noted}
+use Rattle.group_run.specs.Private.Kept.{IsPeer}
+use Rattle.group_run.proofs.OpenKeptLemmas.{nobody_waits, told_again}
+use Rattle.group_run.proofs.PairLemmas.{Fits}
+use Rattle.group_run.proofs.ReopenLemmas.{StepsAgain, goes_on_again, opens_again, opens_not_again}
+use Rattle.group_run.proofs.opening.open_again.Goals as goal
+
+pub returns-in-Ok-clause-each : goal.returns-in-Ok-clause-each
+returns-in-Ok-clause-each g c =
+    let V = View g.row.D.Denot g.row.G.Denot g.row.R.Denot in
+    let old : V = c.args.core.now in
+    let new : V = c.reopen.new.self in
+    let place = g.R.Draws.place_of old.draws in
+    let opens = c.in-Ok.ensures in
+    let read = opens.read in
+    let resent = c.in-Ok.resent in
+    let shown = c.answer_open.ensures in
+    let other = opens_again g.D.Disk g.G.Signer g.R.Draws old new c.a_file_has_one_group.ensures.one read.0 resent (record {
+      shallow = shown.shallow;
+      deep = shown.not_deep;
+      stands = read.1;
+      was_there = read.2;
+      pair = read.3;
+      only = opens.durable (λ is. cc is);
+      moments = opens.any_moment;
+      same_file = opens.same;
+      unfaulted = opens.stands (λ is. cc is);
+      keeps = opens.keeps;
+    }) in
+    subst (λ (answer : Answer). StepsAgain g.D.Disk g.G.Signer g.R.Draws old new (noted Reopen answer place))
+    (sym (shown.shows (opened_server new.head.depth new.head.limit read.0 place) read.1)) other
+
+pub returns-in-Err-clause-each : goal.returns-in-Err-clause-each
+returns-in-Err-clause-each g c =
+    let V = View g.row.D.Denot g.row.G.Denot g.row.R.Denot in
+    let new : V = c.reopen.new.self in
+    let refused = c.in-Err.ensures in
+    opens_not_again g.D.Disk g.G.Signer g.R.Draws c.args.core.now new c.a_file_has_one_group.ensures.or_none c.in-Err.why (record {
+      no_other = refused.no_other;
+      broken = λ file is at said. refused.broken file is at (cc said);
+      cause = λ said. refused.cause (cc said);
+      unfaulted = λ other. refused.stands (λ is. other (cc is));
+      moments = refused.any_moment;
+      same_file = refused.same;
+      keeps = refused.keeps;
+    })
+    (g.met.D.Disk.counts_now new.disk) refused.refused (ap (λ (core : V). core.head) refused.err)
+
+pub returns-in-Ok-clause-told : goal.returns-in-Ok-clause-told
+returns-in-Ok-clause-told g c names =
+    let is_open = c.answer_open.ensures.opened in
+    told_again names c.answer_open.result is_open.0 c.in-Ok.resent is_open.1
+
+pub returns-in-Ok-clause-fits : goal.returns-in-Ok-clause-fits
+returns-in-Ok-clause-fits g c =
+    let V = View g.row.D.Denot g.row.G.Denot g.row.R.Denot in
+    let old : V = c.args.core.now in
+    let new : V = c.reopen.new.self in
+    let read = c.in-Ok.ensures.read in
+    let server = opened_server new.head.depth new.head.limit read.0 (g.R.Draws.place_of old.draws) in
+    subst (λ (answer : Answer). IfSome (pair_by answer) Fits) (sym c.answer_open.ensures.opened.1)
+    (c.last_pair_fits.ensures old.signer server new.head.spi c.in-Ok.resent read.1 read.3)
+
+pub returns-in-Ok-clause-goes_on : goal.returns-in-Ok-clause-goes_on
+returns-in-Ok-clause-goes_on g c =
+    let rest = c.in-Ok.ensures.rest in
+    goes_on_again g.D.Disk g.G.Signer g.R.Draws c.args.core.now c.reopen.new.self rest.0 rest.1
+
+pub returns-in-Err-clause-goes_on : goal.returns-in-Err-clause-goes_on
+returns-in-Err-clause-goes_on g c =
+    let rest = c.in-Err.ensures.rest in
+    goes_on_again g.D.Disk g.G.Signer g.R.Draws c.args.core.now c.reopen.new.self rest.0 rest.1
+
+pub returns-in-Ok-clause-waits : goal.returns-in-Ok-clause-waits
+returns-in-Ok-clause-waits g c peers all = nobody_waits c.reopen.new.self.queue peers c.in-Ok.ensures.read.1.queue
+
+pub returns-in-Err-clause-waits : goal.returns-in-Err-clause-waits
+returns-in-Err-clause-waits g c peers all =
+    subst (λ (core : View g.row.D.Denot g.row.G.Denot g.row.R.Denot). All (IsPeer peers) (joiners core.queue)) (sym c.in-Err.ensures.err) all

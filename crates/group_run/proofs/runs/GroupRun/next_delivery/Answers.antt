@@ -1,0 +1,32 @@
+use Rattle.std.proofs.Common.{MatchOption, None, Some, sym, subst}
+use Rattle.group_run.specs.Deliveries.{IsFirstDue, NoneIsDue}
+use Rattle.group_run.specs.Views.{View}
+use Rattle.group_run.proofs.DueLemmas.{next_later, next_of_all}
+use Rattle.group_run.proofs.runs.GroupRun.next_delivery.Goals as goal
+
+pub returns-in-Some : goal.returns-in-Some
+returns-in-Some g c =
+    let run = c.self.inside in
+    let last = c.in-Some.last in
+    let view = c.args.self.now in
+    let found = c.first_due.result in
+    subst (λ at. MatchOption found (NoneIsDue view.core.tree.holders view.peers view.entries at) (IsFirstDue view.core.tree.holders view.peers view.entries at))
+    (sym c.in-Some.is)
+    (subst (λ (view : View g.row.D.Denot g.row.G.Denot g.row.R.Denot).
+    MatchOption found (NoneIsDue view.core.tree.holders view.peers view.entries (Some last)) (IsFirstDue view.core.tree.holders view.peers view.entries (Some last)))
+    c.self.view_is
+    (next_later run.core.tree.holders run.peers.items run.pushes.items run.entries.items c.self.invariant.noted c.self.invariant.sent_before last found
+    c.first_due.ensures))
+
+pub returns-in-None : goal.returns-in-None
+returns-in-None g c =
+    let run = c.self.inside in
+    let view = c.args.self.now in
+    let found = c.first_due-in-None.result in
+    subst (λ at. MatchOption found (NoneIsDue view.core.tree.holders view.peers view.entries at) (IsFirstDue view.core.tree.holders view.peers view.entries at))
+    (sym c.in-None.is)
+    (subst (λ (view : View g.row.D.Denot g.row.G.Denot g.row.R.Denot).
+    MatchOption found (NoneIsDue view.core.tree.holders view.peers view.entries None) (IsFirstDue view.core.tree.holders view.peers view.entries None))
+    c.self.view_is
+    (next_of_all run.core.tree.holders run.peers.items run.pushes.items run.entries.items c.self.invariant.noted c.self.invariant.sent_before found
+    c.first_due-in-None.ensures))

@@ -1,0 +1,10 @@
+//! What is given to a member.
+use group_model::MemberName;
+
+/// A push of this number that is given to the member at this place: the first that was granted a join has the place 0.
+#[derive(Clone, Copy, Debug, PartialEq, Eq)]
+pub struct Delivery {
+    pub place: usize,
+    pub member: MemberName,
+    pub number: u32,
+}

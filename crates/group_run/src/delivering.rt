@@ -1,0 +1,198 @@
+//! Pushes that are given to members.
+ghost use Rattle.std.specs.Prelude.{◌≡◌, true, length, MatchOption, OnOk, OnErr};
+ghost use Rattle.std.specs.Option.{option_map};
+ghost use Rattle.group_model.specs.declared.entries.Asked.TheVariants as requests;
+ghost use Rattle.group_steps.specs.Members.{IsDelivery, IsNoDelivery};
+ghost use Rattle.group_steps.specs.Sent.{SentPush, last_push};
+ghost use Rattle.group_run.specs.Deliveries.{IsFirstDue, NoneIsDue};
+ghost use Rattle.group_run.specs.Moves.{Moves};
+ghost use Rattle.group_run.specs.Private.Dues.{IsFirstAt, IsFirstFrom, IsWaiting, NobodyWaits, NoneIsAt, NoneIsFrom};
+ghost use Rattle.group_run.specs.Private.Given.{GivesIf, GivesTo, answer_if};
+ghost use Rattle.group_run.specs.Private.Noted.{AreNoted};
+
+use crate::entries::entry;
+use crate::sending::last_push;
+use crate::{Delivery, GroupRun};
+use gcks_core::{Core, Refusal};
+use gd_disk::Disk;
+use gd_edges::{Draws, Signer, Verifier};
+use group_model::{Answer, Asked, Entry, MemberName, NoMemory, PushRefusal};
+use group_peers::Peers;
+use member_store::Taken;
+use push_msg::Room;
+use sent_pushes::{SentPushes, the_next_number_is_the_least};
+use sym_closure::what_is_known_stays_known;
+
+impl<D: Disk, G: Signer, R: Draws> GroupRun<D, G, R> {
+    /// Gives a member the last push of this number that was sent; where it has no store, or there is no such push, nothing happens.
+    pub fn deliver<V: Verifier>(
+        &mut self,
+        verifier: &V,
+        member: &MemberName,
+        number: u32,
+    ) -> Result<(), NoMemory>
+        ensures ok { OnOk result (Moves D.Disk R.Draws (IsDelivery V.Verifier verifier.now self.old.entries member.now number)
+            (requests.Deliver member.now number) self.old self.new) }
+        ensures peers { length self.new.peers ≡ length self.old.peers }
+        ensures err { OnErr result (self.new ≡ self.old) }
+    {
+        what_is_known_stays_known();
+        self.entries.reserve(1)?;
+        let place = self.core.draws_at();
+        let answer = give_last(
+            self.entries.items(),
+            &self.pushes,
+            &mut self.peers,
+            member,
+            number,
+            verifier,
+            &mut self.room,
+        );
+        let asked = Asked::Deliver {
+            member: *member,
+            sequence: number,
+        };
+        self.entries.add(entry(asked, answer, place));
+        Ok(())
+    }
+
+    /// The next push that is due to a member after the last one given, where all members are given what they missed: each present member that has a store, in the
+    /// order in which their joins were first granted, by rising number.
+    pub fn next_delivery(&self, last: Option<Delivery>) -> Option<Delivery>
+        ensures { MatchOption result (NoneIsDue self.now.core.tree.holders self.now.peers self.now.entries last)
+            (IsFirstDue self.now.core.tree.holders self.now.peers self.now.entries last) }
+    {
+        match last {
+            Some(last) => first_due(
+                &self.core,
+                &self.peers,
+                &self.pushes,
+                last.place,
+                last.number,
+            ),
+            None => first_due(&self.core, &self.peers, &self.pushes, 0, 0),
+        }
+    }
+
+    /// Notes that no push is given to anybody, since the server has to be opened again.
+    pub fn refuse_deliveries(&mut self) -> Result<(), NoMemory>
+        requires { self.old.core.need ≡ true }
+        ensures ok { OnOk result (Moves D.Disk R.Draws IsNoDelivery requests.DeliverAll self.old self.new) }
+        ensures err { OnErr result (self.new ≡ self.old) }
+    {
+        what_is_known_stays_known();
+        self.entries.reserve(1)?;
+        let place = self.core.draws_at();
+        let why = Refusal::NeedsReopen;
+        self.entries
+            .add(entry(Asked::DeliverAll, Answer::Refused { why }, place));
+        Ok(())
+    }
+}
+
+/// The first push that is due at a place from this one on, where at this one only those count whose number is greater than this one.
+fn first_due<D: Disk, G: Signer, R: Draws>(
+    core: &Core<D, G, R>,
+    peers: &Peers,
+    pushes: &SentPushes,
+    from: usize,
+    number: u32,
+) -> Option<Delivery>
+    ensures { MatchOption result (NoneIsFrom core.now.tree.holders peers.now.items pushes.now.items from number)
+        (IsFirstFrom core.now.tree.holders peers.now.items pushes.now.items from number) }
+{
+    let mut after = number;
+    for place in from..peers.len() {
+        if let Some(delivery) = due_at(core, peers, pushes, place, after) {
+            return Some(delivery);
+        }
+        after = 0;
+    }
+    None
+}
+
+/// The first push that is due to the member at this place, and whose number is greater than this one.
+fn due_at<D: Disk, G: Signer, R: Draws>(
+    core: &Core<D, G, R>,
+    peers: &Peers,
+    pushes: &SentPushes,
+    place: usize,
+    after: u32,
+) -> Option<Delivery>
+    ensures { MatchOption result (NoneIsAt core.now.tree.holders peers.now.items pushes.now.items place after)
+        (IsFirstAt core.now.tree.holders peers.now.items pushes.now.items place after) }
+{
+    the_next_number_is_the_least();
+    let (member, last) = waiting_at(core, peers, place)?;
+    let number = pushes.next_after(last.max(after))?;
+    Some(Delivery {
+        place,
+        member,
+        number,
+    })
+}
+
+/// The present member at this place that has a store, and the number of the last push that this accepted.
+fn waiting_at<D: Disk, G: Signer, R: Draws>(
+    core: &Core<D, G, R>,
+    peers: &Peers,
+    place: usize,
+) -> Option<(MemberName, u32)>
+    ensures { MatchOption result (NobodyWaits core.now.tree.holders peers.now.items place)
+        (λ found. IsWaiting core.now.tree.holders peers.now.items place found.0 found.1) }
+{
+    if peers.len() <= place {
+        return None;
+    }
+    let member = peers.name_at(place);
+    if !core.is_member(&member) {
+        return None;
+    }
+    let store = peers.store(&member)?;
+    Some((member, store.last_sequence()))
+}
+
+/// Gives a member the last push of this number that was sent, if there is one.
+fn give_last<V: Verifier>(
+    entries: &[Entry],
+    pushes: &SentPushes,
+    peers: &mut Peers,
+    member: &MemberName,
+    number: u32,
+    verifier: &V,
+    room: &mut Room,
+) -> Answer
+    requires { AreNoted pushes.now.items entries.now }
+    ensures { GivesIf V.Verifier verifier.now member.now (option_map (λ (push : SentPush). push.datagram) (last_push entries.now number))
+        peers.old.items result peers.new.items }
+{
+    match last_push(entries, pushes, number) {
+        Some(datagram) => give(peers, member, datagram.as_slice(), verifier, room),
+        None => Answer::Nothing,
+    }
+}
+
+/// Gives a datagram to a member's store, if it has one.
+fn give<V: Verifier>(
+    peers: &mut Peers,
+    member: &MemberName,
+    datagram: &[u8],
+    verifier: &V,
+    room: &mut Room,
+) -> Answer
+    ensures { GivesTo V.Verifier verifier.now member.now datagram.now peers.old.items result peers.new.items }
+{
+    answer_if(peers.accept(member, datagram, verifier, room))
+}
+
+/// What is answered where a store answers so.
+fn answer_if(given: Option<Result<Taken, PushRefusal>>) -> Answer
+    ensures { result ≡ answer_if given }
+{
+    match given {
+        Some(Ok(Taken::Root { epoch })) => Answer::TookRoot { epoch },
+        Some(Ok(Taken::Traffic { epoch })) => Answer::TookTraffic { epoch },
+        Some(Err(why)) => Answer::PushRefused { why },
+        None => Answer::Nothing,
+    }
+}

@@ -1,0 +1,12 @@
+pub mod FrontLemmas
+pub mod GrowLemmas
+pub mod HistoryLemmas
+pub mod KeyedLemmas
+pub mod MomentLemmas
+pub mod NumberLemmas
+pub mod PeerLemmas
+pub mod PushLemmas
+pub mod SentLemmas
+pub mod StayLemmas
+pub mod StepLemmas
+pub mod TakenLemmas

@@ -1,0 +1,96 @@
+-- What follows of the steps of a run for the stores of its members, said of every history.
+use Rattle.std.specs.Prelude.{◌≡◌, ℕ, ◌+◌, ◌<◌, true, List, [], ◌∷◌, ◌++◌, Some, IsSome}
+use Rattle.gd_disk.specs.declared.disks.Disk.{Ghosts as DiskGhosts}
+use Rattle.gd_edges.specs.declared.signers.Signer.{Ghosts as SignerGhosts}
+use Rattle.gd_edges.specs.declared.verifiers.Verifier.{Ghosts as VerifierGhosts}
+use Rattle.group_terms.specs.Names.{Name}
+use Rattle.group_values.specs.Values.{batches_made}
+use Rattle.group_model.specs.Places.{Holders, holders_at, is_member}
+use Rattle.group_model.specs.Stayed.{sequence_at, stayed_at}
+use Rattle.group_model.specs.declared.entries.Answer.{Answer}
+use Rattle.group_model.specs.declared.entries.Answer.TheVariants.{TookRoot, TookTraffic}
+use Rattle.group_model.specs.declared.entries.Asked.TheVariants.{Deliver}
+use Rattle.group_model.specs.declared.entries.Entry.{Entry}
+use Rattle.group_model.specs.declared.entries.Outside.{Outside}
+use Rattle.group_peers.specs.Peers.{store_of}
+use Rattle.group_steps.specs.Laws.{IsSure}
+use Rattle.group_steps.specs.Runs.{Run, no_run}
+use Rattle.group_steps.specs.Sent.{last_push}
+use Rattle.group_steps.specs.Steps.{AreRunSteps, IsHistory, IsRunStep}
+use Rattle.member_roots.specs.Groups.{Checks, IsKeyedGroup}
+use Rattle.member_roots.specs.Roots.{HasTrafficOf, IsAtRoot}
+use Rattle.member_store.specs.Stores.{Store, root_epoch}
+use Rattle.store_steps.specs.Stores.{AreForOneRoot, AreStores}
+
+module _ {D : Type 0} where
+  -- the number of the last push up to an epoch, and who has which leaf then
+  abbrev pub number_at : Run D → ℕ → ℕ
+  number_at run epoch = sequence_at run.server.depth (batches_made run.server.list) epoch
+
+  abbrev pub holders_in : Run D → ℕ → Holders
+  holders_in run epoch = holders_at run.server.depth (batches_made run.server.list) epoch
+
+  -- a member has a store of which this holds
+  abbrev pub HasThen : Run D → Name → (Store → Type 0) → Type 0
+  HasThen run m P = (now : Store) × (store_of run.peers m ≡ Some now) × P now
+
+module _ {D G V : Type 0} (d : DiskGhosts D) (g : SignerGhosts G) (signer : G) (v : VerifierGhosts V) (verifier : V) (block : ℕ → List ℕ) where
+  -- a run after the first entries of a history
+  pub record IsMoment (start : Run D) (entries : List Entry) (after : Run D) (front : List Entry) (mid : Run D) : Type 0 where
+    pub later : List Entry
+    pub is : entries ≡ front ++ later
+    pub so_far : AreRunSteps d g signer v verifier block [] start front mid
+    pub goes_on : AreRunSteps d g signer v verifier block front mid later after
+
+  -- A history whose openings found the group that there was. Its group has values that fit, the verifier checks what the signer signs, and of no
+  -- push is a push read under the root of another epoch than that under which it was sent.
+  pub record IsKeyedHistory (entries : List Entry) (after : Run D) : Type 0 where
+    pub disk : D
+    pub name : Name
+    pub limit : ℕ
+    pub place : ℕ
+    pub history : IsHistory d g signer v verifier block (no_run disk name limit place) entries after
+    pub sure : IsSure d disk entries
+    pub checks : Checks g signer v verifier
+    pub group : IsKeyedGroup after.server.depth after.head.spi after.server.list
+    pub for_one : AreForOneRoot g signer (v.kind_of verifier) after.server.depth after.head.spi after.server.list
+
+  -- Each store is one of the group: so a member's keys are those of some epoch, whatever pushes came, in whatever order and how often.
+  abbrev pub StoresFollow : Type 0
+  StoresFollow = (entries : List Entry) (after : Run D) → IsKeyedHistory entries after → AreStores after
+
+  -- Each moment of such a history is the end of one, from the first request on.
+  abbrev pub MomentsAreKeyed : Type 0
+  MomentsAreKeyed =
+      (entries : List Entry) (after : Run D) (keyed : IsKeyedHistory entries after) (first : Entry) (front : List Entry) (mid : Run D)
+      → IsMoment (no_run keyed.disk keyed.name keyed.limit keyed.place) entries after (first ∷ front) mid
+      → IsKeyedHistory (first ∷ front) mid
+
+  -- After a history a member with this store is given the last push of a number; one at least was sent.
+  pub record IsGivenPush (before : List Entry) (run : Run D) (m : Name) (store : Store) (number : ℕ) (answer : Answer) (next : Run D) : Type 0 where
+    pub keyed : IsKeyedHistory before run
+    pub had : store_of run.peers m ≡ Some store
+    pub sent : IsSome (last_push before number)
+    pub outside : Outside
+    pub step : IsRunStep d g signer v verifier block before run
+        (record { asked = Deliver m number; outside = outside; answer = answer }) next
+
+  -- A member takes the membership push of the epoch after that of its store's root, if it stays over that epoch, and is then at the new root: whatever traffic
+  -- pushes it missed, and however late the push comes.
+  abbrev pub MembershipPushesAreTaken : Type 0
+  MembershipPushesAreTaken =
+      (before : List Entry) (run : Run D) (m : Name) (store : Store) (answer : Answer) (next : Run D)
+      → IsGivenPush before run m store (number_at run (root_epoch store) + 1) answer next
+      → is_member (holders_in run (root_epoch store + 1)) m ≡ true
+      → (answer ≡ TookRoot (root_epoch store + 1))
+      × HasThen next m (λ (now : Store). IsAtRoot run.server.depth run.head.spi run.server.list (root_epoch store + 1) m now)
+
+  -- It takes the traffic push of the epoch of its store's root, if the store has accepted none of that number, and has that traffic key then.
+  abbrev pub TrafficPushesAreTaken : Type 0
+  TrafficPushesAreTaken =
+      (before : List Entry) (run : Run D) (m : Name) (store : Store) (answer : Answer) (next : Run D)
+      → IsGivenPush before run m store (number_at run (root_epoch store)) answer next
+      → stayed_at run.server.depth (batches_made run.server.list) (root_epoch store) ≡ true
+      → store.sequence < number_at run (root_epoch store)
+      → (answer ≡ TookTraffic (root_epoch store))
+      × HasThen next m (λ (now : Store). HasTrafficOf run.server.list (root_epoch store) now)

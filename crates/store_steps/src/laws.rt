@@ -1,0 +1,40 @@
+//! What follows of the steps of a run for stores.
+ghost use Rattle.std.specs.Prelude.{ℕ, List};
+ghost use Rattle.store_steps.specs.Follow.{MembershipPushesAreTaken, MomentsAreKeyed, StoresFollow, TrafficPushesAreTaken};
+
+use gd_disk::Disk;
+use gd_edges::{Signer, Verifier};
+use group_model::first_epochs_stay;
+use member_roots::{
+    a_due_push_is_taken, a_reply_is_at_its_root, a_sent_push_leaves_a_store_of_its_group,
+    a_store_at_a_root_has_its_epoch,
+};
+
+/// Along a history each store is one of the group.
+pub fn each_store_is_one_of_the_group<D: Disk, G: Signer, V: Verifier>()
+    ensures { (signer : G) (verifier : V) (block : ℕ → List ℕ) → StoresFollow D.Disk G.Signer signer V.Verifier verifier block }
+{
+    a_reply_is_at_its_root();
+    a_store_at_a_root_has_its_epoch();
+    a_sent_push_leaves_a_store_of_its_group::<G, V>();
+}
+
+/// Each moment of a history whose group has keys is the end of one. So what holds after each history holds at each moment.
+pub fn each_moment_is_of_a_keyed_history<D: Disk, G: Signer, V: Verifier>()
+    ensures { (signer : G) (verifier : V) (block : ℕ → List ℕ) → MomentsAreKeyed D.Disk G.Signer signer V.Verifier verifier block }
+{
+    first_epochs_stay();
+}
+
+/// After a history a member takes the push that is due to its store: the membership push of the epoch after that of its root, over which it
+/// stays, and the traffic push of that of its root, if it accepted none of that number.
+pub fn a_due_push_is_taken_in_a_history<D: Disk, G: Signer, V: Verifier>()
+    ensures membership { (signer : G) (verifier : V) (block : ℕ → List ℕ) →
+        MembershipPushesAreTaken D.Disk G.Signer signer V.Verifier verifier block }
+    ensures traffic { (signer : G) (verifier : V) (block : ℕ → List ℕ) →
+        TrafficPushesAreTaken D.Disk G.Signer signer V.Verifier verifier block }
+{
+    first_epochs_stay();
+    each_store_is_one_of_the_group::<D, G, V>();
+    a_due_push_is_taken::<G, V>();
+}

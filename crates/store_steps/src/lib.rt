@@ -1,0 +1,9 @@
+//! What becomes of the stores of a group's members along the steps of its run (RFC 6407 section 4).
+#![tactic(auto)]
+
+pub use laws::{
+    a_due_push_is_taken_in_a_history, each_moment_is_of_a_keyed_history,
+    each_store_is_one_of_the_group,
+};
+
+mod laws;
