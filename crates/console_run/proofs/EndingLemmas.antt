@@ -111,12 +111,16 @@ module _ {D G V : Type 0} (on : Devices D G V) (by : Keying G) (request : Asked)
   pub ran_out_at_once : LastLineEnds Memory ending was now → entries ≡ [] → after ≡ start → RunsScript on by request start had had was now ending entries disk
   ran_out_at_once last none same = runs (inl (record {
     due = Memory;
-    cause = record { done = []; more = []; parts = none; up_to = inl (record { none_taken = refl; nothing = refl; begins = inl (refl, same) }) };
+    cause = inl (record { none_taken = refl; begins = inl (none, same) });
     source = refl;
     middle = was;
     report = subst (λ entries. Puts was was (entries_text entries)) (sym none) (Puts-none was);
     last = last;
   }))
+
+  no_other : (why other : Refusal) → why ≡ NoMemory → Refused why ≡ Refused other → CannotOpen other → ⊥
+  no_other why other memory same (inl fault) = cc
+  no_other why other memory same (inr journal) = cc
 
   module _ (first : IsOpeningEntry on by request start entries after) where
     abbrev in_parts : IsInParts on by nothing request start entries after
@@ -137,7 +141,7 @@ module _ {D G V : Type 0} (on : Devices D G V) (by : Keying G) (request : Asked)
     pub refused : (why : Refusal) → first.entry.answer ≡ Refused why → (why ≡ NoMemory) ⊎ CannotOpen why → RefusalEnds first.entry ending was now
         → RunsScript on by request start had had was now ending entries disk
     refused why is cause (inl ends) = elim cause [
-      | inl memory ↦ ended Memory ends.0 in_parts refl refl ends.1
+      | inl memory ↦ ended Memory ends.0 (inl (record { none_taken = refl; begins = inr (first, λ other refused. no_other why other memory (sym is ∙ refused)) })) refl refl ends.1
           (subst (λ due. LastLineEnds due ending ends.0 now) (ap due_after (is ∙ ap Refused memory)) ends.2)
       | inr cannot ↦ ended NotOpened ends.0 (record { none_taken = refl; first = first; why = why; refused = is; cause = cannot }) refl refl ends.1
           (subst (λ due. LastLineEnds due ending ends.0 now) (ap due_after is ∙ due_not_opened why cannot) ends.2)

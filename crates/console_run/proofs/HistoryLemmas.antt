@@ -176,5 +176,10 @@ module _ {D G V : Type 0} (on : Devices D G V) (by : Keying G) where
       cause_history (BadLine line) entries after h = whole _ entries after h.run
       cause_history Source entries after h = whole _ entries after h.run
       cause_history Sink entries after h = absurd h
-      cause_history Memory entries after h = parts_history entries after h
+      cause_history Memory entries after (inl h) = elim h.begins [
+        | inl none ↦ none_history entries after none.0 none.1
+        | inr first ↦ first_history entries after first.0
+      ]
+      cause_history Memory entries after (inr h) =
+          parts_history entries after (record { done = h.done; more = h.more; parts = h.parts; up_to = inr h.up_to })
       cause_history NotOpened entries after h = first_history entries after h.first

@@ -1,11 +1,12 @@
 -- Where and why a run stops.
 use Rattle.std.proofs.Common.{◌≡◌, ℕ, ◌+◌, ◌<◌, ◌≤◌, Bool, true, false, List, [], ◌∷◌, ◌++◌, length, take, drop, get_or, sym, refl, ap, ◌∙◌, subst, arith, append_assoc, inl, inr}
 use Rattle.std.specs.Prelude.{nat_lt}
-use Rattle.std.proofs.lemmas.Bool.{and_parts}
+use Rattle.std.proofs.lemmas.Bool.{and_parts, false≢true}
 use Rattle.std.proofs.lemmas.List.{append-nil, take_more, take-append-drop, length-drop}
 use Rattle.std.proofs.lemmas.List.Folds.{list_all-append}
 use Rattle.gd_edges.specs.Shown.{Shown}
 use Rattle.gd_edges.specs.declared.draws.Draws.{Ghosts as DrawGhosts}
+use Rattle.group_model.specs.Legal.{is_open}
 use Rattle.group_model.specs.declared.entries.Entry.{Entry}
 use Rattle.group_run.specs.Views.{View}
 use Rattle.group_steps.specs.Runs.{Run}
@@ -17,7 +18,7 @@ use Rattle.console_run.specs.declared.endings.Ending.TheVariants.{Whole, BadLine
 use Rattle.console_run.specs.Devices.{Devices, Keying}
 use Rattle.console_run.specs.Scripts.{are_octets, is_line}
 use Rattle.console_run.specs.Lines.{GoesThrough, LineBegins}
-use Rattle.console_run.specs.Causes.{EndsAtLine, Given, IsCut, IsFaulty, IsInParts, IsOver, IsUpTo}
+use Rattle.console_run.specs.Causes.{EndsAtLine, Given, IsCut, IsFaulty, IsInParts, IsOver, IsUpToLine}
 use Rattle.console_run.specs.Reports.{Puts, BreaksOff, ReportBreaksOff}
 use Rattle.console_run.specs.Private.Follows.{moment, IsOpened}
 use Rattle.console_run.specs.Private.Reports.{EntryStops}
@@ -64,8 +65,8 @@ module _ {D G V R : Type 0} (on : Devices D G V) (draws : DrawGhosts R) where
 
     -- the line was over, and began to give these entries
     up_to : (more : List Entry) (next : Run D) → LineBegins on start.by line held.entries so.now more next → IsOver ended after → count < 16384
-        → IsUpTo on start.by given start.request start.run held.entries more next
-    up_to more next begins over room = inr (record {
+        → IsUpToLine on start.by given start.request start.run held.entries more next
+    up_to more next begins over room = record {
       before = so.front;
       text = line;
       rest = after;
@@ -74,14 +75,14 @@ module _ {D G V R : Type 0} (on : Devices D G V) (draws : DrawGhosts R) where
       run = run_before on draws start before (moment held line count out) so;
       begins = begins;
       over = inr (over, omega (arith, room, count_before on draws start before (moment held line count out) so));
-    })
+    }
 
     module _ (stop : Stop) (new : View D G R) (now : Shown) (over : IsOver ended after) (room : count < 16384) (h : Stops on.disks draws (begun_by_text on line) stop held new out now) where
       abbrev next : (next : Run D) × LineBegins on start.by line held.entries so.now h.more next × Stands on.disks draws start.by new next
       next = h.each start.by so.now so.stands
 
       abbrev in_parts : IsInParts on start.by given start.request start.run new.entries next.0
-      in_parts = record { done = held.entries; more = h.more; parts = h.grown; up_to = up_to h.more next.0 next.1 over room }
+      in_parts = record { done = held.entries; more = h.more; parts = h.grown; up_to = inr (up_to h.more next.0 next.1 over room) }
 
       -- in what it gave the report broke off
       broken : (ending : Ending) → ReportBreaksOff ending out now h.more → IsBrokenOff on draws ending given start (moment new line count now)
@@ -92,7 +93,7 @@ module _ {D G V R : Type 0} (on : Devices D G V) (draws : DrawGhosts R) where
       reported puts = record {
         after = next.0;
         stands = next.2;
-        cause = in_parts;
+        cause = inr (record { done = held.entries; more = h.more; parts = h.grown; up_to = up_to h.more next.0 next.1 over room });
         report = subst (λ entries. Puts start.was now (entries_text entries)) (sym h.grown) (Puts-entries start.was out now held.entries h.more so.puts puts);
       }
 
@@ -171,7 +172,15 @@ module _ {D G V R : Type 0} (on : Devices D G V) (draws : DrawGhosts R) where
 
     -- there was no memory to go on
     pub no_memory_after_opening : Puts start.was now (entries_text held.entries) → IsReported on draws Memory (given_of [] false) start (moment held [] 0 now)
-    no_memory_after_opening puts = record { after = opened.opened; stands = opened.stands; cause = opening; report = puts }
+    no_memory_after_opening puts = record {
+      after = opened.opened;
+      stands = opened.stands;
+      cause = inl (record {
+        none_taken = refl;
+        begins = inr (opened.opens.first, λ why refused cannot. false≢true (sym (ap is_open refused) ∙ opened.opens.is_open));
+      });
+      report = puts;
+    }
 
     -- the report of that broke off
     opening_broken : (ending : Ending) → BreaksOff ending start.was now (entry_text opened.opens.first.entry) → IsBrokenOff on draws ending (given_of [] false) start (moment held [] 0 now)

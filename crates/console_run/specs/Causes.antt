@@ -113,6 +113,22 @@ module _ {D G V : Type 0} (on : Devices D G V) (by : Keying G) (given : Given) (
     pub parts : entries ≡ done ++ more
     pub up_to : IsUpTo done more after
 
+  -- Memory ran out before the opening was answered, in it, or after it: it was not refused for the disk, or for what that has. Nothing of the script was taken.
+  pub record RunsOutAtOpening (entries : List Entry) (after : Run D) : Type 0 where
+    pub none_taken : given.taken ≡ []
+    pub begins : ((entries ≡ []) × (after ≡ start))
+        ⊎ ((first : IsOpeningEntry on by request start entries after) × ((why : Refusal) → first.entry.answer ≡ Refused why → CannotOpen why → ⊥))
+
+  -- it ran out before a line, in it, or after it
+  pub record RunsOutInLines (entries : List Entry) (after : Run D) : Type 0 where
+    pub done : List Entry
+    pub more : List Entry
+    pub parts : entries ≡ done ++ more
+    pub up_to : IsUpToLine done more after
+
+  abbrev pub EndsForMemory : List Entry → Run D → Type 0
+  EndsForMemory entries after = RunsOutAtOpening entries after ⊎ RunsOutInLines entries after
+
   -- the whole script was run
   pub record IsWhole (entries : List Entry) (after : Run D) : Type 0 where
     pub ended : given.ended ≡ true
@@ -125,7 +141,7 @@ module _ {D G V : Type 0} (on : Devices D G V) (by : Keying G) (given : Given) (
   CauseOf (BadLine line) entries after = EndsAtLine line entries after
   CauseOf Source entries after = EndsAtSource entries after
   CauseOf Sink entries after = ⊥
-  CauseOf Memory entries after = IsInParts entries after
+  CauseOf Memory entries after = EndsForMemory entries after
   CauseOf NotOpened entries after = EndsUnopened entries after
 
 -- the source failed where that is the ending, and nowhere else
