@@ -4,11 +4,11 @@ use Rattle.group_terms.specs.Names.{Name}
 use Rattle.group_model.specs.declared.entries.Entry.{Entry}
 use Rattle.group_steps.specs.Laws.{IsSure}
 use Rattle.group_steps.specs.Runs.{Run, no_run}
-use Rattle.store_steps.specs.Follow.{IsKeyedHistory, IsMoment, MembershipPushesAreTaken, MomentsAreKeyed, StoresFollow as EachFollows, TrafficPushesAreTaken}
+use Rattle.store_steps.specs.Follow.{IsKeyedHistory, IsMoment, MembershipPushesAreTaken, MomentsAreKeyed, StoresAreOfTheGroup, TrafficPushesAreTaken}
 use Rattle.console_run.specs.Devices.{Devices, Keying, MakesHistory}
 use Rattle.console_run.specs.Promises.{AreKeysApart, StoresFollow}
 
-module _ {D G V : Type 0} (on : Devices D G V) (by : Keying G) (each : EachFollows on.disks on.signers by.signer on.verifiers on.verifier by.block)
+module _ {D G V : Type 0} (on : Devices D G V) (by : Keying G) (each : StoresAreOfTheGroup on.disks on.signers by.signer on.verifiers on.verifier by.block)
     (moments : MomentsAreKeyed on.disks on.signers by.signer on.verifiers on.verifier by.block)
     (membership : MembershipPushesAreTaken on.disks on.signers by.signer on.verifiers on.verifier by.block)
     (traffic : TrafficPushesAreTaken on.disks on.signers by.signer on.verifiers on.verifier by.block)

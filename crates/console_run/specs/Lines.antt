@@ -102,7 +102,7 @@ module _ {D G V : Type 0} (on : Devices D G V) (by : Keying G) where
     pub asked : entry.asked ≡ request
     pub step : Steps on by [] start entry after
 
-  -- and the group is open
+  -- the opening that is requested was answered, and the group is open
   pub record Opens (request : Asked) (start : Run D) (entries : List Entry) (after : Run D) : Type 0 where
     pub first : IsOpeningEntry request start entries after
     pub is_open : is_open first.entry.answer ≡ true

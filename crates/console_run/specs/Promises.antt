@@ -121,7 +121,7 @@ module _ {D G V : Type 0} (on : Devices D G V) (by : Keying G) where
   -- ---- the stores of members
 
   -- What is supposed of keys and signatures: the values of the group's keys fit, the verifier checks what the signer signs, and of no push is a push read under the
-  -- root of another epoch than that under which it was sent.
+  -- root of another epoch than that under which it was sent. That cannot hold where two epochs have the same root key, as draws that come again may bring about.
   pub record AreKeysApart (after : Run D) : Type 0 where
     pub checks : Checks on.signers by.signer on.verifiers on.verifier
     pub group : IsKeyedGroup after.server.depth after.head.spi after.server.list
@@ -139,9 +139,9 @@ module _ {D G V : Type 0} (on : Devices D G V) (by : Keying G) where
     pub outside : Outside
     pub step : Steps on by before middle (record { asked = Deliver m number; outside = outside; answer = answer }) next
 
-  -- At each moment each store is one of the group: its keys are those of one epoch, with the values that the server made. A member takes the membership push of the
-  -- epoch after that of its store's root, over which it stays, and is then at the new root; and the traffic push of the epoch of its root, if it accepted none of
-  -- that number, and has that traffic key then.
+  -- At each moment each store is one of the group: its path has the keys of one epoch, and its traffic key is that of this epoch or an earlier one, each with the
+  -- value that the server made. A member takes the membership push (RFC 6407 section 4) of the epoch after that of its store's root, over which it stays, and is then
+  -- at the new root; and the traffic push of the epoch of its root, if it accepted none of that number, and has that traffic key then.
   pub record StoresFollow (start : Run D) (entries : List Entry) (after : Run D) : Type 0 where
     pub stores : (first : Entry) (front : List Entry) (middle : Run D)
         → IsMoment on.disks on.signers by.signer on.verifiers on.verifier by.block start entries after (first ∷ front) middle → AreStores middle
@@ -189,7 +189,7 @@ module _ {D G V : Type 0} (on : Devices D G V) (by : Keying G) where
     -- its batches are a valid list
     pub valid : IsValid after.server.depth (batches_made after.server.list)
     -- From all that these batches could ever hand to names and send, no coalition derives the traffic key of an epoch at which none of it is
-    -- a member, and nobody that of an epoch to come.
+    -- a member, and nobody that of an epoch to come (RFC 6407 section 7.4).
     pub secrecy : NoOthersDerive after.server.depth (batches_made after.server.list)
     pub to_come : NobodyDerivesYet after.server.depth (batches_made after.server.list)
     -- a member at each epoch from one to another derives the traffic key of the second from what it may be told at the first, by the encryptions since

@@ -44,7 +44,7 @@ pub struct Finished<D> {
     pub disk: D,
 }
 
-/// Runs a group from a script, in its journal on the disk, and reports each entry of its history and then how the run ended.
+/// Runs a group (GDOI, RFC 6407) from a script, in its journal on the disk, and reports each entry of its history and then how the run ended.
 ///
 /// The words make a group, `--new DEPTH`, or open the one of the disk, `--open`; `--limit NUMBER` says how far epochs and sequence numbers of a group that is made may
 /// go; `--seed NUMBER` is for who makes the draws. Words of another form touch neither the source nor the disk. The script has lines of at most 200 octets, at most 16,384 of them; the lines before one of
@@ -251,7 +251,7 @@ fn due_after(entry: &Entry) -> Ending
     }
 }
 
-/// Puts the last line of the ending that is due.
+/// Ends a run that has no group.
 fn end<D, K: Sink>(
     alloc: Global,
     due: Ending,

@@ -3,7 +3,7 @@
 #![tactic(auto)]
 
 use command_words::seed_of;
-use console_run::console;
+use console_run::{Ending, console};
 use gd_disk::FileDisk;
 use gd_edges::{ChaChaDraws, StdSink, StdSource, TestSigner, TestVerifier};
 use std::alloc::AllocError;
@@ -20,7 +20,7 @@ const SERVER_STREAM: u8 = 0;
 fn main(rt: HostRuntime) -> ExitCode {
     match run(&rt) {
         Ok(status) => ExitCode::from(status),
-        Err(AllocError) => ExitCode::from(5),
+        Err(AllocError) => ExitCode::from(Ending::Memory.status()),
     }
 }
 

@@ -40,10 +40,11 @@ pub record IsRefusedBy {D : Type 0} (d : DiskGhosts D) (step : Run D → Answer 
   pub stepped : IsStepBy d step start entry after
   pub left : after.disk ≡ disk
 
--- or no memory was left before anything was done
+-- no memory was left before anything was done: there is no entry, and the disk is as it was
 pub record IsUntouched {D : Type 0} (start : Run D) (entries : List Entry) (disk : D) : Type 0 where
   pub nothing : entries ≡ []
   pub left : disk ≡ start.disk
 
+-- an opening failed: it was refused, or nothing was done
 abbrev pub FailsToOpen : {D : Type 0} → DiskGhosts D → (Run D → Answer → Outside → Run D → Type 0) → Asked → Run D → List Entry → D → Type 0
 FailsToOpen d step request start entries disk = IsRefusedBy d step request start entries disk ⊎ IsUntouched start entries disk

@@ -16,7 +16,7 @@ module _ {D G R : Type 0} (d : DiskGhosts D) (draws : DrawGhosts R) where
     pub stands : Stands draws core run.server
     pub journal : HasJournal d run
 
-  -- and the members are those of the run
+  -- a value is a run: its core is the server of it, and its members are those of it
   pub record Reflects (held : View D G R) (run : Run D) : Type 0 where
     pub server : IsServerOf held.core run
     pub peers : run.peers ≡ held.peers

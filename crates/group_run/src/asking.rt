@@ -32,7 +32,8 @@ impl<D: Disk, G: Signer, R: Draws> GroupRun<D, G, R> {
         Ok(())
     }
 
-    /// Asks whether names derive the traffic key of an epoch from what they were given and what was sent so far.
+    /// Asks whether names derive the traffic key of an epoch from what they were given and what was sent so far; they do not
+    /// where there is no such epoch.
     pub fn derive(
         &mut self,
         alloc: Global,

@@ -28,7 +28,7 @@ use std::alloc::Global;
 use sym_closure::what_is_known_stays_known;
 
 impl<D: Disk, G: Signer, R: Draws> GroupRun<D, G, R> {
-    /// Closes the batch: what waits makes the next epoch, is stored, and is sent. Where memory runs out, the history may have it as refused for that.
+    /// Closes the batch (RFC 6407 section 4): what waits makes the next epoch, is stored, and is sent; or is refused (`NeedsReopen`, `Spent`, `DiskFault`). Where memory runs out, the history may have it as refused for that.
     pub fn batch(&mut self, alloc: Global) -> Result<(), NoMemory>
         ensures ok { OnOk result (Moves D.Disk R.Draws (IsBatching D.Disk G.Signer self.old.core.signer (R.block_at self.old.core.draws)) requests.Batch
             self.old self.new) }

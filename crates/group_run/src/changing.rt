@@ -18,7 +18,8 @@ use group_peers::Peers;
 use sym_closure::what_is_known_stays_known;
 
 impl<D: Disk, G: Signer, R: Draws> GroupRun<D, G, R> {
-    /// Asks to let a name in with the next batch.
+    /// Asks to let a name in with the next batch. The entry says `Queued`, `Nothing` for a member, or the first reason against it: `NeedsReopen`, `AlreadyPending`,
+    /// `TreeFull`, `BatchFull`.
     pub fn join(&mut self, member: &MemberName) -> Result<(), NoMemory>
         ensures ok { OnOk result (Moves D.Disk R.Draws (IsJoining member.now) (requests.Join member.now) self.old self.new) }
         ensures err { OnErr result (self.new ≡ self.old) }
@@ -33,7 +34,7 @@ impl<D: Disk, G: Signer, R: Draws> GroupRun<D, G, R> {
         Ok(())
     }
 
-    /// Asks to take a member out with the next batch.
+    /// Asks to take a member out with the next batch. The entry says `Done`, or the first reason against it: `NeedsReopen`, `NotMember`, `AlreadyPending`, `BatchFull`.
     pub fn leave(&mut self, member: &MemberName) -> Result<(), NoMemory>
         ensures ok { OnOk result (Moves D.Disk R.Draws (IsLeaving member.now) (requests.Leave member.now) self.old self.new) }
         ensures err { OnErr result (self.new ≡ self.old) }

@@ -24,7 +24,7 @@ use sent_pushes::{SentPushes, the_next_number_is_the_least};
 use sym_closure::what_is_known_stays_known;
 
 impl<D: Disk, G: Signer, R: Draws> GroupRun<D, G, R> {
-    /// Gives a member the last push of this number that was sent; where it has no store, or there is no such push, nothing happens.
+    /// Gives a member the last push of this number that was sent (RFC 6407 section 4); where it has no store, or there is no such push, nothing happens.
     pub fn deliver<V: Verifier>(
         &mut self,
         verifier: &V,

@@ -54,7 +54,8 @@ struct Ready {
 }
 
 impl<D: Disk, G: Signer, R: Draws> GroupRun<D, G, R> {
-    /// Makes a group on the disk of these parts, whatever that held.
+    /// Makes a group (RFC 2627 section 5.4) on the disk of these parts, whatever that held: its depth is 1 to 9, and its limit at least 1. Where that is refused
+    /// (`DiskFault`, `NoMemory`), the parts come back with the entry that says so, or with none where nothing was done.
     pub fn create(
         alloc: Global,
         parts: Parts<D, G, R>,
@@ -82,7 +83,7 @@ impl<D: Disk, G: Signer, R: Draws> GroupRun<D, G, R> {
         }
     }
 
-    /// Opens the group on the disk of these parts.
+    /// Opens the group on the disk of these parts. Where that is refused (`DiskFault`, `NotAJournal` with its place, `NoMemory`), the parts come back as where none is made.
     pub fn open(alloc: Global, parts: Parts<D, G, R>) -> Result<Self, Unopened<D, G, R>>
         ensures ok { IfOk result (λ run. (name : Name) (limit : ℕ) → Opens D.Disk R.Draws (IsBeginning D.Disk G.Signer parts.signer) requests.Begin
             (no_run parts.disk name limit (R.place_of parts.draws)) run) }

@@ -58,6 +58,7 @@ impl<D: Disk, G: Signer, R: Draws> GroupRun<D, G, R> {
     pub fn into_parts(self) -> (List<Entry>, Parts<D, G, R>)
         ensures history { result.0 ≡ self.entries }
         ensures disk { result.1.disk ≡ self.core.disk }
+        ensures others { (result.1.signer ≡ self.core.signer) × (result.1.draws ≡ self.core.draws) }
     {
         let GroupRun {
             core,

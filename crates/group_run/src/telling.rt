@@ -25,7 +25,7 @@ use sha2::{Digest, Sha256};
 use sym_closure::what_is_known_stays_known;
 
 impl<D: Disk, G: Signer, R: Draws> GroupRun<D, G, R> {
-    /// Tells the next of those who came in with the last batch its keys of the present epoch, of which it makes its store, or makes it anew. `false` where each of
+    /// Tells the next of those who came in with the last batch its keys of the present epoch (RFC 6407 section 3.2), of which it makes its store, or makes it anew. `false` where each of
     /// them was told them before, and then nothing changes.
     pub fn tell_next(&mut self) -> Result<bool, NoMemory>
         ensures ok { IfOk result (λ told. MatchBool told (TellsNext D.Disk R.Draws self.old self.new) (AllWereTold D.Disk R.Draws self.old self.new)) }

@@ -67,7 +67,7 @@ pub(crate) struct Known {
     pub(crate) nr: Nonce,
 }
 
-pub(crate) fn known() -> Result<Known, Fail> {
+pub(crate) fn what_is_known() -> Result<Known, Fail> {
     Ok(Known {
         phase: phase()?,
         ni: nonce("000102030405060708090a0b0c0d0e0f")?,

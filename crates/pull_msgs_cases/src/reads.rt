@@ -1,6 +1,6 @@
 //! The same messages, read one after another: each is opened after the one before it.
 use crate::known::{
-    FIRST, FOURTH, Known, MESSAGE, SECOND, SPI, THIRD, known, octets, path, traffic,
+    FIRST, FOURTH, Known, MESSAGE, SECOND, SPI, THIRD, octets, path, traffic, what_is_known,
 };
 use group_terms::Keyed;
 use pull_msgs::{First, PullFault, Second, read_first, read_fourth, read_second, read_third};
@@ -9,7 +9,7 @@ use std::test::Fail;
 
 #[test]
 fn a_first_message_is_read(rt: HostRuntime) -> Result<(), Fail> {
-    let known = known()?;
+    let known = what_is_known()?;
     let first = first(rt.alloc(), &known)?;
     assert_eq!(rt; (first.message, first.id_type), (MESSAGE, 11));
     assert_eq!(rt; first.ni.octets(), known.ni.octets());
@@ -28,7 +28,7 @@ fn after_first(alloc: Global, known: &Known) -> Result<[u8; 16], Fail> {
 
 #[test]
 fn a_second_message_is_read(rt: HostRuntime) -> Result<(), Fail> {
-    let known = known()?;
+    let known = what_is_known()?;
     let second = second(rt.alloc(), &known)?;
     assert_eq!(rt; second.nr.octets(), known.nr.octets());
     Ok(())
@@ -65,7 +65,7 @@ fn a_fourth_message_is_read(rt: HostRuntime) -> Result<(), Fail> {
 
 /// What is read of the fourth message, for a Rekey SA.
 fn fourth(alloc: Global, spi: &[u8; 16]) -> Result<Result<Keyed, PullFault>, Fail> {
-    let known = known()?;
+    let known = what_is_known()?;
     let iv = after_third(alloc, &known)?;
     let text = octets::<332>(FOURTH)?;
     let Known { phase, ni, nr } = &known;

@@ -1,5 +1,7 @@
 //! Messages have the octets that another implementation writes.
-use crate::known::{FIRST, FOURTH, Known, MESSAGE, SECOND, SPI, THIRD, keyed, known, octets};
+use crate::known::{
+    FIRST, FOURTH, Known, MESSAGE, SECOND, SPI, THIRD, keyed, octets, what_is_known,
+};
 use group_terms::SignKind;
 use pull_msgs::{GroupName, Octets, write_first, write_fourth, write_second, write_third};
 use sa_wire::{KekPolicy, SaPolicy, TekPolicy};
@@ -8,7 +10,7 @@ use std::test::Fail;
 
 #[test]
 fn a_first_message_has_its_octets(rt: HostRuntime) -> Result<(), Fail> {
-    let written = first(rt.alloc(), &known()?)?;
+    let written = first(rt.alloc(), &what_is_known()?)?;
     assert_eq!(rt; written.as_slice(), octets::<108>(FIRST)?.as_slice());
     Ok(())
 }
@@ -20,7 +22,7 @@ fn first(alloc: Global, known: &Known) -> Result<Octets, Fail> {
 
 #[test]
 fn a_second_message_has_its_octets(rt: HostRuntime) -> Result<(), Fail> {
-    let written = second(rt.alloc(), &known()?)?;
+    let written = second(rt.alloc(), &what_is_known()?)?;
     assert_eq!(rt; written.as_slice(), octets::<236>(SECOND)?.as_slice());
     Ok(())
 }
@@ -52,7 +54,7 @@ fn tek() -> Result<TekPolicy, Fail> {
 
 #[test]
 fn a_third_message_has_its_octets(rt: HostRuntime) -> Result<(), Fail> {
-    let written = third(rt.alloc(), &known()?)?;
+    let written = third(rt.alloc(), &what_is_known()?)?;
     assert_eq!(rt; written.as_slice(), octets::<76>(THIRD)?.as_slice());
     Ok(())
 }
@@ -65,7 +67,7 @@ fn third(alloc: Global, known: &Known) -> Result<Octets, Fail> {
 
 #[test]
 fn a_fourth_message_has_its_octets(rt: HostRuntime) -> Result<(), Fail> {
-    let written = fourth(rt.alloc(), &known()?)?;
+    let written = fourth(rt.alloc(), &what_is_known()?)?;
     assert_eq!(rt; written.as_slice(), octets::<332>(FOURTH)?.as_slice());
     Ok(())
 }

@@ -1,5 +1,5 @@
 -- A list of batches that begins with those of a run: its first epochs are those of the run.
-use Rattle.std.proofs.Common.{◌≡◌, ◌∙◌, ap, arith, length-append, refl, subst, sym, ℕ, ◌-◌, ◌≤◌, true, List, ◌++◌, length, take}
+use Rattle.std.proofs.Common.{◌≡◌, ◌∙◌, ap, arith, length-append, subst, sym, ℕ, ◌-◌, ◌≤◌, true, List, ◌++◌, length, take}
 use Rattle.std.proofs.Math.Seq.{take-append_seam, take-length}
 use Rattle.std.proofs.lemmas.List.{length-map, map-append, take-append-le}
 use Rattle.gd_edges.specs.declared.signers.Signer.{Ghosts as SignerGhosts}
@@ -32,6 +32,10 @@ module _ (depth : ℕ) (list later : List Made) where
   holders_now : holders_at depth (batches_made list) (length list) ≡ holders_of depth (batches_made list)
   holders_now =
       ap (holders_of depth) (subst (λ n. take n (batches_made list) ≡ batches_made list) as_long (take-length (batches_made list)))
+
+  pub member_now : (m : Name) → is_member (holders_of depth (batches_made list)) m ≡ true
+      → is_member (holders_at depth (batches_made list) (length list)) m ≡ true
+  member_now m is = subst (λ holders. is_member holders m ≡ true) (sym holders_now) is
 
   pub member_early : (m : Name) → is_member (holders_of depth (batches_made list)) m ≡ true
       → is_member (holders_at depth (batches_made (list ++ later)) (length list)) m ≡ true

@@ -1,4 +1,5 @@
 pub mod FrontLemmas
+pub mod GivenLemmas
 pub mod GrowLemmas
 pub mod HistoryLemmas
 pub mod KeyedLemmas
@@ -6,6 +7,7 @@ pub mod MomentLemmas
 pub mod NumberLemmas
 pub mod PeerLemmas
 pub mod PushLemmas
+pub mod ReplyLemmas
 pub mod SentLemmas
 pub mod StayLemmas
 pub mod StepLemmas

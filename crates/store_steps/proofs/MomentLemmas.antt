@@ -1,5 +1,5 @@
 -- Each moment of a history is the end of one.
-use Rattle.std.proofs.Common.{◌≡◌, ◌∙◌, ◌⊎◌, ℕ, true, false, List, [], ◌∷◌, ◌++◌, refl, sym, ap, subst, inl, inr}
+use Rattle.std.proofs.Common.{◌≡◌, ◌∙◌, ◌⊎◌, ℕ, List, [], ◌∷◌, ◌++◌, refl, sym, subst, inl, inr}
 use Rattle.std.specs.List.{list_any}
 use Rattle.std.proofs.lemmas.Bool.{or_parts}
 use Rattle.std.proofs.lemmas.List.Folds.{list_any-append}
@@ -16,7 +16,7 @@ use Rattle.group_steps.specs.Laws.{IsSure, is_opened_again}
 use Rattle.group_steps.specs.Runs.{Run, no_run}
 use Rattle.group_steps.specs.Steps.{AreRunSteps, EndsWithoutMemory, IsHistory}
 use Rattle.member_roots.specs.Groups.{IsKeyedGroup}
-use Rattle.store_steps.specs.Follow.{IsKeyedHistory, IsMoment, MomentsAreKeyed}
+use Rattle.store_steps.specs.Follow.{IsKeyedHistory, MomentsAreKeyed}
 use Rattle.store_steps.specs.Stores.{AreForOneRoot}
 use Rattle.store_steps.proofs.GrowLemmas.{Grows, IsAtHead, head_still}
 use Rattle.store_steps.proofs.HistoryLemmas.{grows_after, grows_step, head_opened, sure_later}

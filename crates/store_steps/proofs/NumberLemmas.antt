@@ -1,5 +1,5 @@
 -- The numbers of the pushes of a group: those of each epoch are its own.
-use Rattle.std.proofs.Common.{◌≡◌, ◌∙◌, add-one, ap, arith, cond, inl, inr, refl, subst, sym, ℕ, zero, suc, ◌+◌, ◌-◌, ◌<◌, ◌≤◌, true, List, Some, take}
+use Rattle.std.proofs.Common.{◌≡◌, ◌∙◌, add-one, ap, arith, cond, inl, inr, refl, subst, sym, ℕ, zero, suc, ◌+◌, ◌-◌, ◌<◌, ◌≤◌, true, List, take}
 use Rattle.std.specs.List.{take-map}
 use Rattle.std.proofs.lemmas.Bool.{cases_eq, cases_lt}
 use Rattle.std.proofs.lemmas.List.{length-take-le}
@@ -64,7 +64,7 @@ module _ (holders_stay : HoldersStay) (depth : ℕ) where
       (two_more batches epoch (subst (λ now. stayed_at depth batches now ≡ true) (add-one epoch) stayed))
 
   module _ {G : Type 0} (g : SignerGhosts G) (signer : G) (spi : List ℕ) (list : List Made) where
-    last_number : (epoch : ℕ) (pair : PushPair) → IsPairAt g signer depth spi list epoch pair
+    pub last_number : (epoch : ℕ) (pair : PushPair) → IsPairAt g signer depth spi list epoch pair
         → pair.first + 1 ≡ sequence_at depth (batches_made list) epoch
     last_number epoch pair at =
         at.is_pair.first
@@ -72,10 +72,9 @@ module _ (holders_stay : HoldersStay) (depth : ℕ) where
         ∙ ap (λ batches. sequence_at depth batches epoch) (sym (take-map (λ (made : Made). made.changes) epoch list))
         ∙ numbers_stay epoch epoch (batches_made list) (omega arith)
 
-    -- the first number of a pair is greater than that of the last push before
-    pub first_greater : (epoch : ℕ) (pair : PushPair) → IsPairAt g signer depth spi list (epoch + 1) pair
-        → sequence_at depth (batches_made list) epoch < pair.first
-    first_greater epoch pair at =
+    pub first_number : (epoch : ℕ) (pair : PushPair) → IsPairAt g signer depth spi list (epoch + 1) pair
+        → pair.first ≡ sequence_at depth (batches_made list) epoch + 1
+    first_number epoch pair at =
         omega (arith, last_number (epoch + 1) pair at, two_more_after (batches_made list) epoch at.stayed)
 
     -- a push of the first number after an epoch is the membership push of the next one

@@ -1,8 +1,8 @@
 -- What holds of each peer's store while stores change.
 use Rattle.std.proofs.Common.{◌≡◌, ◌∙◌, ap, refl, subst, sym, true, false, Bool, List, [], ◌∷◌, Option, None, Some}
-use Rattle.std.specs.Prelude.{IfSome, if◌then◌else◌, option_and_then}
+use Rattle.std.specs.Prelude.{◌||◌, IfSome, if◌then◌else◌, option_and_then}
 use Rattle.std.specs.List.{All, find}
-use Rattle.std.proofs.lemmas.Bool.{cond_both}
+use Rattle.std.proofs.lemmas.Bool.{cond_both, false≢true}
 use Rattle.std.proofs.lemmas.List.Elements.{All-head, All-map, All-push, All-tail, All-weaker}
 use Rattle.std.proofs.lemmas.Option.{none-some}
 use Rattle.std.proofs.lemmas.Slice.Eq.{bytes_eq-Decides}
@@ -48,16 +48,25 @@ module _ (P : Name → Store → Type 0) where
       cond_both (is_peer peers m) peers _ (All Holds) (λ _. all)
       (λ _. All-push Holds peers (record { name = m; store = None }) all tt)
 
--- a store that was made anew is found
-pub found_anew : (peers : List Peer) (m : Name) (store now : Store) → store_of peers m ≡ Some store → store_of (with_store peers m now) m ≡ Some now
-found_anew [] m store now had = absurd (none-some store had)
-found_anew (peer ∷ peers) m store now had =
+-- who has a store is a peer
+peer_if : (m : Name) (store : Store) (peer : Peer) (peers : List Peer) (named : Bool) → (store_of peers m ≡ Some store → is_peer peers m ≡ true)
+    → option_and_then (λ (peer : Peer). peer.store) (if named then Some peer else find (is_named m) peers) ≡ Some store
+    → (named || is_peer peers m) ≡ true
+peer_if m store peer peers true later had = refl
+peer_if m store peer peers false later had = later had
+
+pub has_peer : (peers : List Peer) (m : Name) (store : Store) → store_of peers m ≡ Some store → is_peer peers m ≡ true
+has_peer [] m store had = absurd (none-some store had)
+has_peer (peer ∷ peers) m store had = peer_if m store peer peers (is_named m peer) (has_peer peers m store) had
+
+-- the store of a peer that was made anew is found
+pub found_anew : (peers : List Peer) (m : Name) (now : Store) → is_peer peers m ≡ true → store_of (with_store peers m now) m ≡ Some now
+found_anew [] m now is = absurd (false≢true is)
+found_anew (peer ∷ peers) m now is =
     let others = find (is_named m) (with_store peers m now) in
     cond_both (is_named m peer) (record peer { store = Some now }) peer
     (λ (one : Peer). option_and_then (λ (peer : Peer). peer.store) (if is_named m one then Some one else others) ≡ Some now)
     (λ same. ap (λ named. option_and_then (λ (peer : Peer). peer.store)
     (if named then Some (record peer { store = Some now }) else others)) same)
     (λ other. ap (λ named. option_and_then (λ (peer : Peer). peer.store) (if named then Some peer else others)) other
-    ∙ found_anew peers m store now
-    (sym (ap (λ named. option_and_then (λ (peer : Peer). peer.store) (if named then Some peer else find (is_named m) peers)) other)
-    ∙ had))
+    ∙ found_anew peers m now (sym (ap (λ named. named || is_peer peers m) other) ∙ is))

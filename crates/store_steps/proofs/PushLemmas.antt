@@ -1,5 +1,5 @@
 -- The pair that an answer sends is that of the last batch of the group after it.
-use Rattle.std.proofs.Common.{◌≡◌, ◌∙◌, ℕ, true, false, Bool, List, [], Option, None, Some, length, refl, sym, ap, subst, inl, inr}
+use Rattle.std.proofs.Common.{◌≡◌, ◌∙◌, ℕ, true, false, Bool, List, Option, None, Some, length, refl, sym, ap, subst, inl, inr}
 use Rattle.std.specs.Prelude.{MatchBool, Result, Ok, Err}
 use Rattle.std.proofs.lemmas.Bool.{cond_both}
 use Rattle.std.proofs.lemmas.Option.{none-some}
@@ -10,7 +10,7 @@ use Rattle.group_terms.specs.Names.{Name}
 use Rattle.group_terms.specs.declared.changes.Change.{Change}
 use Rattle.group_terms.specs.declared.paths.Keyed.{Keyed}
 use Rattle.group_terms.specs.declared.pushes.PushRefusal.{PushRefusal}
-use Rattle.group_values.specs.Values.{Made, batches_made}
+use Rattle.group_values.specs.Values.{batches_made}
 use Rattle.group_model.specs.Legal.{answer_to_join, answer_to_leave, unless_refused}
 use Rattle.group_model.specs.Places.{Holders, is_member}
 use Rattle.group_model.specs.Refusals.{why_no_join, why_no_leave}

@@ -1,5 +1,5 @@
 -- Each push that was sent is one of an epoch of the group.
-use Rattle.std.proofs.Common.{◌≡◌, ◌⊎◌, ℕ, zero, suc, ◌+◌, true, false, Bool, List, [], ◌∷◌, ◌++◌, Option, None, Some, take, length, reverse, refl, sym, ap, subst, inl, inr, arith}
+use Rattle.std.proofs.Common.{◌≡◌, ◌⊎◌, ℕ, zero, suc, ◌+◌, true, false, Bool, List, [], ◌∷◌, ◌++◌, Option, None, Some, length, reverse, refl, sym, subst, inl, inr, arith}
 use Rattle.std.specs.Prelude.{◌==◌, if◌then◌else◌}
 use Rattle.std.specs.List.{All, find}
 use Rattle.std.proofs.lemmas.Bool.{eqb-true}
@@ -7,12 +7,11 @@ use Rattle.std.proofs.lemmas.Grind.{flat_map-append, reverse_onto}
 use Rattle.std.proofs.lemmas.List.Elements.{All-append, All-cons, All-head, All-nil, All-push, All-tail}
 use Rattle.std.proofs.lemmas.Option.{none-some}
 use Rattle.gd_edges.specs.declared.signers.Signer.{Ghosts as SignerGhosts}
-use Rattle.group_values.specs.Values.{Made, batches_made}
+use Rattle.group_values.specs.Values.{Made}
 use Rattle.group_model.specs.Stayed.{sequence_at}
 use Rattle.group_model.specs.declared.entries.Answer.{Answer}
 use Rattle.group_model.specs.declared.entries.Entry.{Entry}
 use Rattle.group_model.specs.declared.entries.PushPair.{PushPair}
-use Rattle.group_pushes.specs.Pairs.{IsPairOf}
 use Rattle.member_roots.specs.Groups.{IsPairAt}
 use Rattle.group_steps.specs.Runs.{Run}
 use Rattle.group_steps.specs.Sent.{SentPush, last_push, pair_by, pushes_by, pushes_in, pushes_sent}

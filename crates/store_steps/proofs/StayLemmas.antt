@@ -1,5 +1,5 @@
 -- Over an epoch over which a member stays somebody stays.
-use Rattle.std.proofs.Common.{◌≡◌, ◌∙◌, arith, refl, subst, ℕ, ◌+◌, ◌-◌, ◌^◌, true, false, Bool, List, [], ◌∷◌, Option, None, Some, ◌||◌}
+use Rattle.std.proofs.Common.{◌≡◌, arith, refl, subst, ℕ, ◌+◌, ◌-◌, ◌^◌, true, false, Bool, List, [], ◌∷◌, Option, None, Some, ◌||◌}
 use Rattle.std.specs.List.{list_any, position}
 use Rattle.std.specs.Option.{option_map}
 use Rattle.std.proofs.lemmas.Bool.{false≢true}

@@ -1,6 +1,6 @@
 -- Each step of a run leaves stores of its group.
-use Rattle.std.proofs.Common.{◌≡◌, ℕ, ◌+◌, ◌≤◌, true, List, ◌∷◌, Option, None, Some, length, take, refl, sym, subst, inl, inr}
-use Rattle.std.specs.Prelude.{MatchBool, Result}
+use Rattle.std.proofs.Common.{◌≡◌, ℕ, ◌+◌, ◌≤◌, true, List, Option, None, Some, length, take, refl, sym, subst, inl, inr}
+use Rattle.std.specs.Prelude.{Result}
 use Rattle.std.specs.List.{All}
 use Rattle.std.proofs.lemmas.Bool.{false≢true}
 use Rattle.gd_disk.specs.declared.disks.Disk.{Ghosts as DiskGhosts}
@@ -34,7 +34,7 @@ use Rattle.group_steps.specs.Changes.{after_join, after_leave}
 use Rattle.group_steps.specs.Members.{Gets, Gives, IsOld, TakesReply}
 use Rattle.group_steps.specs.Openings.{IsBeginning, IsCreation, IsOpeningAgain}
 use Rattle.group_steps.specs.Runs.{Run}
-use Rattle.group_steps.specs.Sent.{SentPush, last_push, pushes_sent}
+use Rattle.group_steps.specs.Sent.{SentPush, last_push}
 use Rattle.group_steps.specs.Steps.{IsAnswered}
 use Rattle.store_steps.specs.Stores.{IsPeerOf}
 use Rattle.store_steps.proofs.FrontLemmas.{early, keyed_early, member_early}

@@ -1,15 +1,16 @@
--- What follows of the steps of a run for the stores of its members, said of every history.
-use Rattle.std.specs.Prelude.{◌≡◌, ℕ, ◌+◌, ◌<◌, true, List, [], ◌∷◌, ◌++◌, Some, IsSome}
+-- What follows of the steps of a run for the stores of its members (RFC 6407 section 4), said of every history.
+use Rattle.std.specs.Prelude.{◌≡◌, ℕ, ◌+◌, ◌<◌, ◌≤◌, true, false, List, [], ◌∷◌, ◌++◌, length, Some, IsSome}
 use Rattle.gd_disk.specs.declared.disks.Disk.{Ghosts as DiskGhosts}
 use Rattle.gd_edges.specs.declared.signers.Signer.{Ghosts as SignerGhosts}
 use Rattle.gd_edges.specs.declared.verifiers.Verifier.{Ghosts as VerifierGhosts}
 use Rattle.group_terms.specs.Names.{Name}
+use Rattle.group_terms.specs.declared.pushes.PushRefusal.{PushRefusal}
 use Rattle.group_values.specs.Values.{batches_made}
 use Rattle.group_model.specs.Places.{Holders, holders_at, is_member}
 use Rattle.group_model.specs.Stayed.{sequence_at, stayed_at}
 use Rattle.group_model.specs.declared.entries.Answer.{Answer}
-use Rattle.group_model.specs.declared.entries.Answer.TheVariants.{TookRoot, TookTraffic}
-use Rattle.group_model.specs.declared.entries.Asked.TheVariants.{Deliver}
+use Rattle.group_model.specs.declared.entries.Answer.TheVariants.{Kept, PushRefused, TookRoot, TookTraffic}
+use Rattle.group_model.specs.declared.entries.Asked.TheVariants.{Deliver, Keep}
 use Rattle.group_model.specs.declared.entries.Entry.{Entry}
 use Rattle.group_model.specs.declared.entries.Outside.{Outside}
 use Rattle.group_peers.specs.Peers.{store_of}
@@ -18,7 +19,7 @@ use Rattle.group_steps.specs.Runs.{Run, no_run}
 use Rattle.group_steps.specs.Sent.{last_push}
 use Rattle.group_steps.specs.Steps.{AreRunSteps, IsHistory, IsRunStep}
 use Rattle.member_roots.specs.Groups.{Checks, IsKeyedGroup}
-use Rattle.member_roots.specs.Roots.{HasTrafficOf, IsAtRoot}
+use Rattle.member_roots.specs.Roots.{HasKeysOf, HasTrafficOf, IsAtRoot}
 use Rattle.member_store.specs.Stores.{Store, root_epoch}
 use Rattle.store_steps.specs.Stores.{AreForOneRoot, AreStores}
 
@@ -55,9 +56,10 @@ module _ {D G V : Type 0} (d : DiskGhosts D) (g : SignerGhosts G) (signer : G) (
     pub group : IsKeyedGroup after.server.depth after.head.spi after.server.list
     pub for_one : AreForOneRoot g signer (v.kind_of verifier) after.server.depth after.head.spi after.server.list
 
-  -- Each store is one of the group: so a member's keys are those of some epoch, whatever pushes came, in whatever order and how often.
-  abbrev pub StoresFollow : Type 0
-  StoresFollow = (entries : List Entry) (after : Run D) → IsKeyedHistory entries after → AreStores after
+  -- Each store is one of the group: the keys of a member's path are those of some epoch, and its traffic key is that of this epoch or an earlier one, whatever
+  -- pushes came, in whatever order and how often.
+  abbrev pub StoresAreOfTheGroup : Type 0
+  StoresAreOfTheGroup = (entries : List Entry) (after : Run D) → IsKeyedHistory entries after → AreStores after
 
   -- Each moment of such a history is the end of one, from the first request on.
   abbrev pub MomentsAreKeyed : Type 0
@@ -65,6 +67,16 @@ module _ {D G V : Type 0} (d : DiskGhosts D) (g : SignerGhosts G) (signer : G) (
       (entries : List Entry) (after : Run D) (keyed : IsKeyedHistory entries after) (first : Entry) (front : List Entry) (mid : Run D)
       → IsMoment (no_run keyed.disk keyed.name keyed.limit keyed.place) entries after (first ∷ front) mid
       → IsKeyedHistory (first ∷ front) mid
+
+  -- What a member is told after a history is never older than what its store has: it is kept, and the member has the keys of the present epoch then (RFC 6407
+  -- section 3.2).
+  abbrev pub RepliesAreKept : Type 0
+  RepliesAreKept =
+      (before : List Entry) (run : Run D) (m : Name) (answer : Answer) (outside : Outside) (next : Run D)
+      → IsKeyedHistory before run
+      → IsRunStep d g signer v verifier block before run (record { asked = Keep m; outside = outside; answer = answer }) next
+      → (answer ≡ Kept (length run.server.list))
+      × HasThen next m (λ (now : Store). HasKeysOf run.server.depth run.head.spi run.server.list (length run.server.list) m now)
 
   -- After a history a member with this store is given the last push of a number; one at least was sent.
   pub record IsGivenPush (before : List Entry) (run : Run D) (m : Name) (store : Store) (number : ℕ) (answer : Answer) (next : Run D) : Type 0 where
@@ -94,3 +106,14 @@ module _ {D G V : Type 0} (d : DiskGhosts D) (g : SignerGhosts G) (signer : G) (
       → store.sequence < number_at run (root_epoch store)
       → (answer ≡ TookTraffic (root_epoch store))
       × HasThen next m (λ (now : Store). HasTrafficOf run.server.list (root_epoch store) now)
+
+  -- Any other push is refused, and leaves the store as it was: the membership push of the next epoch to a member that does not stay over it, the traffic push of
+  -- that of its root which it accepted before, and each push that was sent under another root.
+  abbrev pub OthersAreRefused : Type 0
+  OthersAreRefused =
+      (before : List Entry) (run : Run D) (m : Name) (store : Store) (number : ℕ) (answer : Answer) (next : Run D)
+      → IsGivenPush before run m store number answer next
+      → (number ≡ number_at run (root_epoch store) + 1 → is_member (holders_in run (root_epoch store + 1)) m ≡ false)
+      → (number ≡ number_at run (root_epoch store) → stayed_at run.server.depth (batches_made run.server.list) (root_epoch store) ≡ true
+      → number ≤ store.sequence)
+      → (why : PushRefusal) × (answer ≡ PushRefused why) × HasThen next m (λ (now : Store). now ≡ store)

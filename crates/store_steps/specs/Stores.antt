@@ -20,7 +20,8 @@ abbrev pub AreStores : {D : Type 0} → Run D → Type 0
 AreStores run = All (IsPeerOf run.server.depth run.head.spi run.server.list) run.peers
 
 -- Of no push that the group sends under the root of one epoch is a push read under that of another one. A membership push is sent under the root of the epoch
--- before its own, and a traffic push under that of its own. So it is supposed of the cipher, and of keys that are drawn; no clause here proves it.
+-- before its own, and a traffic push under that of its own. So it is supposed of the cipher, and of keys that are drawn; no clause here proves it. It
+-- cannot hold where two epochs have the same root key, as draws that come again may bring about.
 pub record AreForOneRoot {G : Type 0} (g : SignerGhosts G) (signer : G) (kind : SignKind) (depth : ℕ) (spi : List ℕ) (list : List Made) : Type 0 where
   pub membership : (sent : ℕ) (pair : PushPair) → IsPairAt g signer depth spi list (sent + 1) pair
       → IsForOneRoot spi kind list pair.membership sent
