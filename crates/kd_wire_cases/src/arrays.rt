@@ -127,16 +127,11 @@ fn seals_in(alloc: Global, keys: &[&str]) -> Result<List<Seal>, Fail> {
     let body = updates_with(alloc, &array_of(alloc, keys)?)?;
     let mut seals = List::new(alloc);
     for array in span_of(&body)?.arrays(body.as_slice()) {
-        push_seals(array.keys, &mut seals)?;
+        for key in array.keys {
+            seals.push((key.by, key.by_made, key.gives.id, key.gives.made))?;
+        }
     }
     Ok(seals)
-}
-
-fn push_seals(keys: SealedKeys<'_>, seals: &mut List<Seal>) -> Result<(), Fail> {
-    for key in keys {
-        seals.push((key.by, key.by_made, key.gives.id, key.gives.made))?;
-    }
-    Ok(())
 }
 
 /// A span has no arrays in a body out of which it leads.
