@@ -68,7 +68,7 @@ def opened(program, folder, seed):
     """The first line of the report of an opening, and its status."""
     done = subprocess.run([program, "--open", "--seed", str(seed + 1_000_000)], cwd=folder, input=b"show\n", stdout=subprocess.PIPE)
     lines = done.stdout.decode().splitlines()
-    return lines[0], done.returncode
+    return lines[0] if lines else "", done.returncode
 
 
 def main():
