@@ -30,6 +30,7 @@ use Rattle.group_steps.specs.Sent.{last_push}
 use Rattle.member_roots.specs.Groups.{Checks, IsKeyedGroup}
 use Rattle.member_roots.specs.Roots.{HasTrafficOf, IsAtRoot}
 use Rattle.member_store.specs.Stores.{Store, root_epoch}
+use Rattle.own_questions.specs.Questions.{OwnQuestionsAreAnsweredYes}
 use Rattle.store_steps.specs.Follow.{HasThen, IsMoment, holders_in, number_at}
 use Rattle.store_steps.specs.Stores.{AreForOneRoot, AreStores}
 use Rattle.sym_closure.specs.Secrecy.{MembersDerive, NoOthersDerive, NobodyDerivesYet, SendsItsWraps, IsPartOfWorld, NoOthersDeriveFrom, RepliedMembersDerive, YesIsOfMembers}
@@ -107,7 +108,7 @@ module _ {D G V : Type 0} (on : Devices D G V) (by : Keying G) where
 
   -- With what its openings found, the history is a legal one by key names, and leaves this group. What was handed to names and sent is part of what its batches
   -- could ever hand to them and send, and from it no coalition derives the traffic key of an epoch of which none of it is a member. For each epoch some entry sent all its encryptions. By them a member that was sent a reply derives the
-  -- traffic keys from that epoch on, while it stays. A question is answered yes only of members.
+  -- traffic keys from that epoch on, while it stays. A question is answered yes only of members, and of who was sent a reply and stayed since.
   pub record IsLegalRun (entries : List Entry) (after : Run D) : Type 0 where
     pub readings : List Reading
     pub legal : IsLegalHistory readings entries
@@ -117,6 +118,7 @@ module _ {D G V : Type 0} (on : Devices D G V) (by : Keying G) where
     pub wraps : SendsItsWraps readings entries
     pub members : RepliedMembersDerive readings entries
     pub yes : YesIsOfMembers readings entries
+    pub own : OwnQuestionsAreAnsweredYes readings entries
 
   -- ---- the stores of members
 

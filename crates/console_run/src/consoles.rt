@@ -24,6 +24,7 @@ use group_steps::{
     a_crash_leaves_a_moment_of_the_history, a_history_is_legal_by_names, faults_are_counted,
 };
 use group_terms::GroupName;
+use own_questions::questions_of_members_are_answered_yes;
 use script_text::end_line;
 use std::alloc::Global;
 use store_steps::{
@@ -83,6 +84,7 @@ pub fn console<S: Source, K: Sink, D: Disk, G: Signer + Drop, V: Verifier, R: Dr
     members_derive();
     a_history_is_part_of_its_world();
     a_history_serves_its_members_alone();
+    questions_of_members_are_answered_yes();
     match read_words(words) {
         Some(command) => {
             let parts = Parts {

@@ -55,6 +55,7 @@ returns-in-Some-clause-run g c =
                 wraps = c.a_history_is_part_of_its_world.ensures.wraps named.0 entries named.1;
                 members = c.a_history_serves_its_members_alone.ensures.members named.0 entries named.1;
                 yes = c.a_history_serves_its_members_alone.ensures.yes named.0 entries named.1;
+                own = c.questions_of_members_are_answered_yes.ensures named.0 entries named.1;
               };
           stores = λ sure apart.
               stores_follow on by (c.each_store_is_one_of_the_group.ensures by.signer on.verifier by.block)

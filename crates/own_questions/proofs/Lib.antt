@@ -1,0 +1,4 @@
+pub mod ContainLemmas
+pub mod KeyedLemmas
+pub mod QuestionLemmas
+pub mod QuietLemmas
