@@ -52,13 +52,16 @@ module _ {D G V R : Type 0} (on : Devices D G V) (draws : DrawGhosts R) (old new
           next.0,
           record {
             answered = subst
-                (λ asked. IsAnswered on.disks on.signers by.signer on.verifiers on.verifier by.block old.entries asked run moves.entry.answer moves.entry.outside next.0)
+                (λ asked. IsAnswered on.disks on.signers by.signer on.verifiers on.verifier by.block old.entries asked run moves.entry.answer
+                moves.entry.outside next.0)
                 (sym moves.asked)
                 (subst
-                (λ block. IsAnswered on.disks on.signers by.signer on.verifiers on.verifier block old.entries request run moves.entry.answer moves.entry.outside next.0)
+                (λ block. IsAnswered on.disks on.signers by.signer on.verifiers on.verifier block old.entries request run moves.entry.answer
+                moves.entry.outside next.0)
                 block
                 (subst
-                (λ signer. IsAnswered on.disks on.signers signer on.verifiers on.verifier (draws.block_at old.core.draws) old.entries request run moves.entry.answer moves.entry.outside next.0)
+                (λ signer. IsAnswered on.disks on.signers signer on.verifiers on.verifier
+                (draws.block_at old.core.draws) old.entries request run moves.entry.answer moves.entry.outside next.0)
                 stands.signer next.1.answered));
             keeps = next.1.keeps;
             counts = next.1.counts;
@@ -155,7 +158,8 @@ module _ {D G V R : Type 0} (on : Devices D G V) (draws : DrawGhosts R) (line : 
     puts = Puts-none was;
   }
 
-  module _ (keeps : List Entry → Run D → Type 0) (more : List Entry) (old middle : View D G R) (was seen : Shown) (going : Going keeps more old middle was seen) where
+  module _ (keeps : List Entry → Run D → Type 0) (more : List Entry) (old middle : View D G R) (was seen : Shown)
+      (going : Going keeps more old middle was seen) where
     -- nothing more is asked
     pub Runs-all : ((run : Run D) → Reflects on.disks draws middle run → keeps more run → AsksNext run old.entries more line None)
         → Runs on.disks draws (by_line on line) old middle was seen
@@ -264,7 +268,8 @@ module _ {D G V R : Type 0} (on : Devices D G V) (draws : DrawGhosts R) (old new
     Runs-once reported =
         let told = reported old.entries h.answers.entry h.answers.added in
         Runs-all on draws line any_run (h.answers.entry ∷ []) old new was now
-        (Going-more on draws line any_run [] old old was was begun new h.request h.answers (λ run reflects kept. h.asks run [] (Some h.request) refl) any_run now
+        (Going-more on draws line any_run [] old old was was begun new h.request h.answers
+        (λ run reflects kept. h.asks run [] (Some h.request) refl) any_run now
         (λ by run next stands kept step. tt) told.0 told.1)
         (λ run reflects kept. h.asks run (h.answers.entry ∷ []) None refl)
 

@@ -39,7 +39,9 @@ onto_more rest octet [] = refl
 onto_more rest octet (part ∷ parts) = ap (λ first. first ∷ parts) (append_assoc rest (octet ∷ []) part)
 
 -- octet by octet, and between the line ends, a text is cut alike
-cut_parts : (lines : List (List ℕ)) (rest octets : List ℕ) → (fold cut_more (record { lines = lines; rest = rest }) octets).lines ++ (fold cut_more (record { lines = lines; rest = rest }) octets).rest ∷ [] ≡ lines ++ parts_onto rest (slice_split ends_line octets)
+cut_parts : (lines : List (List ℕ)) (rest octets : List ℕ)
+    → (fold cut_more (record { lines = lines; rest = rest }) octets).lines ++ (fold cut_more (record { lines = lines; rest = rest }) octets).rest ∷ []
+    ≡ lines ++ parts_onto rest (slice_split ends_line octets)
 unfolding parts_onto
 cut_parts lines rest [] = ap (λ last. lines ++ last ∷ []) (sym (append-nil rest))
 cut_parts lines rest (octet ∷ octets) =
@@ -49,9 +51,12 @@ cut_parts lines rest (octet ∷ octets) =
     elim (cases_Bool (ends_line octet)) [
       | inl ends ↦ ap (λ (c : Cut). c.lines ++ c.rest ∷ []) (ap (λ b. fold cut_more (cond b ended kept) octets) ends) ∙ cut_parts (lines ++ rest ∷ []) [] octets
           ∙ ap (λ others. (lines ++ rest ∷ []) ++ others) (split_begun octets) ∙ append_assoc lines (rest ∷ []) after
-          ∙ ap (λ first. lines ++ first ∷ after) (sym (append-nil rest)) ∙ sym (ap (λ b. lines ++ parts_onto rest (cond b ([] ∷ after) (onto_first octet after))) ends)
-      | inr goes ↦ ap (λ (c : Cut). c.lines ++ c.rest ∷ []) (ap (λ b. fold cut_more (cond b ended kept) octets) goes) ∙ cut_parts lines (rest ++ octet ∷ []) octets
-          ∙ ap (λ others. lines ++ others) (onto_more rest octet after) ∙ sym (ap (λ b. lines ++ parts_onto rest (cond b ([] ∷ after) (onto_first octet after))) goes)
+          ∙ ap (λ first. lines ++ first ∷ after) (sym (append-nil rest))
+          ∙ sym (ap (λ b. lines ++ parts_onto rest (cond b ([] ∷ after) (onto_first octet after))) ends)
+      | inr goes ↦ ap (λ (c : Cut). c.lines ++ c.rest ∷ []) (ap (λ b. fold cut_more (cond b ended kept) octets) goes)
+          ∙ cut_parts lines (rest ++ octet ∷ []) octets
+          ∙ ap (λ others. lines ++ others) (onto_more rest octet after)
+          ∙ sym (ap (λ b. lines ++ parts_onto rest (cond b ([] ∷ after) (onto_first octet after))) goes)
     ]
 
 lines_and_last : (lines : List (List ℕ)) (last : List ℕ) → lines_of_parts (lines ++ last ∷ []) ≡ lines ++ unfinished last

@@ -1,5 +1,6 @@
 -- Pushes that are given to all, one after the other.
-use Rattle.std.proofs.Common.{◌≡◌, ℕ, ◌+◌, ◌-◌, ◌*◌, ◌<◌, true, false, cond, List, [], ◌∷◌, ◌++◌, map, length, Option, None, Some, Result, Ok, Err, sym, refl, ap, ◌∙◌, subst, inl, inr, arith}
+use Rattle.std.proofs.Common.{◌≡◌, ℕ, ◌+◌, ◌-◌, ◌*◌, ◌<◌, true, false, cond, List, [], ◌∷◌, ◌++◌, map, length, Option, None, Some, Result, Ok, Err}
+use Rattle.std.proofs.Common.{sym, refl, ap, ◌∙◌, subst, inl, inr, arith}
 use Rattle.std.specs.Prelude.{IfErr, IfSome, MatchBool, MatchResult, OnOk, slice_get}
 use Rattle.std.specs.Option.{option_map}
 use Rattle.std.proofs.lemmas.Option.{slice_get-map, slice_get_within}
@@ -86,7 +87,8 @@ module _ {D : Type 0} (run next : Run D) where
             | None ↦ λ gives. stays_same gives.1
             | Some push ↦ λ gives.
                 stays_changed (λ (peer : Peer). cond (is_named m peer) (record peer { store = Some gives.now }) peer)
-                (λ peer. elim (is_named m peer) as (λ b. (cond b (record peer { store = Some gives.now }) peer).name ≡ peer.name) [ true ↦ refl | false ↦ refl ])
+                (λ peer. elim (is_named m peer) as
+                (λ b. (cond b (record peer { store = Some gives.now }) peer).name ≡ peer.name) [ true ↦ refl | false ↦ refl ])
                 gives.after
           ]
         ] in
@@ -161,7 +163,8 @@ module _ {D G V R : Type 0} (on : Devices D G V) (draws : DrawGhosts R) where
       given by run next stands kept step =
           let stays = stays_given run next on.verifiers on.verifier middle.entries delivery.member delivery.number answers.entry.answer answers.entry.outside
           (subst
-          (λ asked. IsAnswered on.disks on.signers by.signer on.verifiers on.verifier by.block middle.entries asked run answers.entry.answer answers.entry.outside next)
+          (λ asked. IsAnswered on.disks on.signers by.signer on.verifiers on.verifier by.block middle.entries asked run answers.entry.answer
+          answers.entry.outside next)
           answers.asked step.answered) in
           let due = first.due in
           let there = stays.places delivery.place due.peer (ap (λ peers. slice_get peers delivery.place) stands.reflects.peers ∙ due.is_there) in (
@@ -174,7 +177,8 @@ module _ {D G V R : Type 0} (on : Devices D G V) (draws : DrawGhosts R) where
           let told = reported middle.entries answers.entry answers.added in
           record {
             more = more ++ answers.entry ∷ [];
-            going = Going-more on draws lines.DeliverAll (goes_on last) more old middle was seen giving.going new request answers asks (goes_on (Some delivery)) now given told.0 told.1;
+            going = Going-more on draws lines.DeliverAll (goes_on last) more old middle was seen giving.going new request answers asks
+                (goes_on (Some delivery)) now given told.0 told.1;
             small = number;
           }
 
@@ -204,10 +208,12 @@ module _ {D G V R : Type 0} (on : Devices D G V) (draws : DrawGhosts R) where
       Runs-refused reported =
           let told = reported old.entries answers_all.entry answers_all.added in
           Runs-all on draws lines.DeliverAll stopped (answers_all.entry ∷ []) old new was now
-          (Going-more on draws lines.DeliverAll stopped [] old old was was none new requests.DeliverAll answers_all (λ run reflects kept. asks_once [] run kept) stopped now
+          (Going-more on draws lines.DeliverAll stopped [] old old was was none new requests.DeliverAll answers_all
+          (λ run reflects kept. asks_once [] run kept) stopped now
           (λ by run next stands kept step.
           let answered = subst
-          (λ asked. IsAnswered on.disks on.signers by.signer on.verifiers on.verifier by.block old.entries asked run answers_all.entry.answer answers_all.entry.outside next)
+          (λ asked. IsAnswered on.disks on.signers by.signer on.verifiers on.verifier by.block old.entries asked run answers_all.entry.answer
+          answers_all.entry.outside next)
           answers_all.asked step.answered in
           ap (λ (run : Run D). run.server.need) answered.says.stays ∙ kept)
           told.0 told.1)
@@ -218,5 +224,6 @@ module _ {D G V R : Type 0} (on : Devices D G V) (draws : DrawGhosts R) where
           (λ stop. StopsIn on draws lines.DeliverAll stop old new was now)
       Ends-refused (Ok u) reported h = Runs-refused reported
       Ends-refused (Err stop) reported h =
-          Stops-more on draws lines.DeliverAll stopped [] old old was was none new requests.DeliverAll answers_all (λ run reflects kept. asks_once [] run kept) now stop
+          Stops-more on draws lines.DeliverAll stopped [] old old was was none new requests.DeliverAll answers_all
+          (λ run reflects kept. asks_once [] run kept) now stop
           (h old.entries answers_all.entry answers_all.added)

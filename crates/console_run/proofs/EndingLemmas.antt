@@ -17,7 +17,7 @@ use Rattle.console_run.specs.declared.endings.Ending.TheVariants.{BadLine, Sourc
 use Rattle.console_run.specs.Causes.{CannotOpen, CauseOf, Given, IsInParts, SourceAt}
 use Rattle.console_run.specs.Devices.{Devices, Keying}
 use Rattle.console_run.specs.Lines.{IsOpeningEntry}
-use Rattle.console_run.specs.Promises.{IsBroken, IsEnded, Streams}
+use Rattle.console_run.specs.Promises.{IsBroken, IsEnded, Streams, streams_of}
 use Rattle.console_run.specs.Reports.{LastLineEnds, Puts, ReportBreaksOff}
 use Rattle.console_run.specs.Private.Follows.{IsRunTo, IsRunUntil, RunsScript}
 use Rattle.console_run.specs.Private.Openings.{RefusalEnds, due_after}
@@ -46,7 +46,7 @@ module _ {D G V R : Type 0} (on : Devices D G V) (draws : DrawGhosts R) (start :
 
   -- a report that broke off
   broken : (ending : Ending) (given : Given) (h : IsBrokenOff on draws ending given start at) → left.faults ≡ had.faults
-      → IsBroken on start.by (record { given = given; source_before = had; source_after = left; sink_before = start.was; sink_after = at.out }) start.request start.run ending entries h.after
+      → IsBroken on start.by (streams_of given had left start.was at.out) start.request start.run ending entries h.after
   broken ending given h stands = record {
     history = record { done = h.history.done; more = h.history.more; parts = same ∙ h.history.parts; up_to = h.history.up_to };
     source = stands;
@@ -55,7 +55,8 @@ module _ {D G V R : Type 0} (on : Devices D G V) (draws : DrawGhosts R) (start :
     breaks = h.breaks;
   }
 
-  pub ran_into_sink : IsRunUntil on draws SinkStop start had left at → RunsScript on start.by start.request start.run had left start.was at.out Sink entries disk
+  pub ran_into_sink : IsRunUntil on draws SinkStop start had left at
+      → RunsScript on start.by start.request start.run had left start.was at.out Sink entries disk
   ran_into_sink h = record {
     given = h.given;
     came = h.came;
@@ -95,7 +96,7 @@ nothing = record { taken = []; ended = false }
 module _ {D G V : Type 0} (on : Devices D G V) (by : Keying G) (request : Asked) (start : Run D) (had was now : Shown) (ending : Ending) (entries : List Entry)
     (after : Run D) (disk : D) (left : after.disk ≡ disk) where
   abbrev untouched : Streams
-  untouched = record { given = nothing; source_before = had; source_after = had; sink_before = was; sink_after = now }
+  untouched = streams_of nothing had had was now
 
   runs : IsEnded on by untouched request start ending entries after ⊎ IsBroken on by untouched request start ending entries after
       → RunsScript on by request start had had was now ending entries disk
@@ -126,7 +127,8 @@ module _ {D G V : Type 0} (on : Devices D G V) (by : Keying G) (request : Asked)
     abbrev in_parts : IsInParts on by nothing request start entries after
     in_parts = record { done = []; more = entries; parts = refl; up_to = inl (record { none_taken = refl; nothing = refl; begins = inr first }) }
 
-    ended : (due : Ending) (middle : Shown) → CauseOf on by nothing request start due entries after → had.faults ≡ had.faults → SourceAt due had.faults had.faults
+    ended : (due : Ending) (middle : Shown) → CauseOf on by nothing request start due entries after → had.faults ≡ had.faults
+        → SourceAt due had.faults had.faults
         → Puts was middle (entry_text first.entry) → LastLineEnds due ending middle now → RunsScript on by request start had had was now ending entries disk
     ended due middle cause same source puts last = runs (inl (record {
       due = due;
@@ -141,7 +143,8 @@ module _ {D G V : Type 0} (on : Devices D G V) (by : Keying G) (request : Asked)
     pub refused : (why : Refusal) → first.entry.answer ≡ Refused why → (why ≡ NoMemory) ⊎ CannotOpen why → RefusalEnds first.entry ending was now
         → RunsScript on by request start had had was now ending entries disk
     refused why is cause (inl ends) = elim cause [
-      | inl memory ↦ ended Memory ends.0 (inl (record { none_taken = refl; begins = inr (first, λ other refused. no_other why other memory (sym is ∙ refused)) })) refl refl ends.1
+      | inl memory ↦ ended Memory ends.0
+          (inl (record { none_taken = refl; begins = inr (first, λ other refused. no_other why other memory (sym is ∙ refused)) })) refl refl ends.1
           (subst (λ due. LastLineEnds due ending ends.0 now) (ap due_after (is ∙ ap Refused memory)) ends.2)
       | inr cannot ↦ ended NotOpened ends.0 (record { none_taken = refl; first = first; why = why; refused = is; cause = cannot }) refl refl ends.1
           (subst (λ due. LastLineEnds due ending ends.0 now) (ap due_after is ∙ due_not_opened why cannot) ends.2)

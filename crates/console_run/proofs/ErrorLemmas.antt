@@ -12,7 +12,8 @@ if_error P (Ok u) error h holds = absurd h
 if_error P (Err e) error h holds = subst P (sym h) holds
 
 -- what each error makes of what is known of it
-pub at_error : {E : Type 0} (P Q : E → Type 0) (result : Result Unit E) → ((error : E) → result ≡ Err error → P error → Q error) → IfErr result P → IfErr result Q
+pub at_error : {E : Type 0} (P Q : E → Type 0) (result : Result Unit E) → ((error : E) → result ≡ Err error → P error → Q error) → IfErr result P
+    → IfErr result Q
 at_error P Q (Ok u) step h = tt
 at_error P Q (Err e) step h = step e refl h
 

@@ -23,7 +23,8 @@ abbrev lines_at : Cut → List (List ℕ)
 lines_at cut = cut.lines ++ unfinished cut.rest
 
 -- octets add lines to those there are
-more_lines : (lines : List (List ℕ)) (rest octets : List ℕ) → (more : List (List ℕ)) × ((fold cut_more (record { lines = lines; rest = rest }) octets).lines ≡ lines ++ more)
+more_lines : (lines : List (List ℕ)) (rest octets : List ℕ)
+    → (more : List (List ℕ)) × ((fold cut_more (record { lines = lines; rest = rest }) octets).lines ≡ lines ++ more)
 more_lines lines rest [] = ([], sym (append-nil lines))
 more_lines lines rest (octet ∷ octets) =
     let ended : Cut = record { lines = lines ++ rest ∷ []; rest = [] } in
@@ -40,31 +41,45 @@ more_lines lines rest (octet ∷ octets) =
     ]
 
 -- a line that ends here is among them
-ended_line : (lines : List (List ℕ)) (rest octets : List ℕ) → (more : List (List ℕ)) × (lines_at (fold cut_more (record { lines = lines; rest = rest }) (10 ∷ octets)) ≡ lines ++ rest ∷ more)
+ended_line : (lines : List (List ℕ)) (rest octets : List ℕ)
+    → (more : List (List ℕ)) × (lines_at (fold cut_more (record { lines = lines; rest = rest }) (10 ∷ octets)) ≡ lines ++ rest ∷ more)
 ended_line lines rest octets =
     let cut = fold cut_more (record { lines = lines ++ rest ∷ []; rest = [] }) octets in
-    let others = more_lines (lines ++ rest ∷ []) [] octets in
-    (others.0 ++ unfinished cut.rest, ap (λ ls. ls ++ unfinished cut.rest) (others.1 ∙ append_assoc lines (rest ∷ []) others.0) ∙ append_assoc lines (rest ∷ others.0) (unfinished cut.rest))
+    let others = more_lines (lines ++ rest ∷ []) [] octets in (
+      others.0 ++ unfinished cut.rest,
+      ap (λ ls. ls ++ unfinished cut.rest) (others.1 ∙ append_assoc lines (rest ∷ []) others.0)
+          ∙ append_assoc lines (rest ∷ others.0) (unfinished cut.rest),
+    )
 
 -- and so is one with octets, however it goes on
-begun_line : (lines : List (List ℕ)) (rest octets : List ℕ) → 0 < length rest → (others : List ℕ) × (more : List (List ℕ)) × (lines_at (fold cut_more (record { lines = lines; rest = rest }) octets) ≡ lines ++ (rest ++ others) ∷ more)
+begun_line : (lines : List (List ℕ)) (rest octets : List ℕ) → 0 < length rest
+    → (others : List ℕ) × (more : List (List ℕ)) × (lines_at (fold cut_more (record { lines = lines; rest = rest }) octets) ≡ lines ++ (rest ++ others) ∷ more)
 begun_line lines rest [] some = ([], [], ap (λ last. lines ++ last) (unfinished-some rest some ∙ ap (λ line. line ∷ []) (sym (append-nil rest))))
 begun_line lines rest (octet ∷ octets) some =
     let ended : Cut = record { lines = lines ++ rest ∷ []; rest = [] } in
     let kept : Cut = record { lines = lines; rest = rest ++ octet ∷ [] } in
     elim (cases_Bool (ends_line octet)) [
       | inl ends ↦ (
-          let others = ended_line lines rest octets in
-          ([], others.0, ap (λ b. lines_at (fold cut_more (cond b ended kept) octets)) ends ∙ others.1 ∙ ap (λ line. lines ++ line ∷ others.0) (sym (append-nil rest)))
+          let others = ended_line lines rest octets in (
+            [],
+            others.0,
+            ap (λ b. lines_at (fold cut_more (cond b ended kept) octets)) ends ∙ others.1
+                ∙ ap (λ line. lines ++ line ∷ others.0) (sym (append-nil rest)),
+          )
           )
       | inr goes ↦ (
-          let others = begun_line lines (rest ++ octet ∷ []) octets (omega (arith, length-append rest (octet ∷ []))) in
-          (octet ∷ others.0, others.1, ap (λ b. lines_at (fold cut_more (cond b ended kept) octets)) goes ∙ others.2 ∙ ap (λ line. lines ++ line ∷ others.1) (append_assoc rest (octet ∷ []) others.0))
+          let others = begun_line lines (rest ++ octet ∷ []) octets (omega (arith, length-append rest (octet ∷ []))) in (
+            octet ∷ others.0,
+            others.1,
+            ap (λ b. lines_at (fold cut_more (cond b ended kept) octets)) goes ∙ others.2
+                ∙ ap (λ line. lines ++ line ∷ others.1) (append_assoc rest (octet ∷ []) others.0),
+          )
           )
     ]
 
 -- with octets there is a line more
-one_more_line : (lines : List (List ℕ)) (rest octets : List ℕ) → 0 < length octets → length lines + 1 ≤ length (lines_at (fold cut_more (record { lines = lines; rest = rest }) octets))
+one_more_line : (lines : List (List ℕ)) (rest octets : List ℕ) → 0 < length octets
+    → length lines + 1 ≤ length (lines_at (fold cut_more (record { lines = lines; rest = rest }) octets))
 one_more_line lines rest [] some = absurd (omega (arith, some))
 one_more_line lines rest (octet ∷ octets) some =
     let ended : Cut = record { lines = lines ++ rest ∷ []; rest = [] } in
@@ -83,7 +98,8 @@ one_more_line lines rest (octet ∷ octets) some =
     ]
 
 -- octets that end no line are kept
-kept_octets : (lines : List (List ℕ)) (rest text : List ℕ) → list_any ends_line text ≡ false → fold cut_more (record { lines = lines; rest = rest }) text ≡ record { lines = lines; rest = rest ++ text }
+kept_octets : (lines : List (List ℕ)) (rest text : List ℕ) → list_any ends_line text ≡ false
+    → fold cut_more (record { lines = lines; rest = rest }) text ≡ record { lines = lines; rest = rest ++ text }
 kept_octets lines rest [] h = ap (λ rest. record { lines = lines; rest = rest }) (sym (append-nil rest))
 kept_octets lines rest (octet ∷ text) h =
     let ended : Cut = record { lines = lines ++ rest ∷ []; rest = [] } in
@@ -103,10 +119,12 @@ nothing_left before h = elim h [
 ]
 
 -- the lines of a script that has come to some text
-lines_from : (before text others : List ℕ) → EndsLine before → list_any ends_line text ≡ false → script_lines (before ++ (text ++ others)) ≡ lines_at (fold cut_more (record { lines = script_lines before; rest = text }) others)
+lines_from : (before text others : List ℕ) → EndsLine before → list_any ends_line text ≡ false
+    → script_lines (before ++ (text ++ others)) ≡ lines_at (fold cut_more (record { lines = script_lines before; rest = text }) others)
 lines_from before text others ends one_line =
     let none = nothing_left before ends in
-    let lines : script_lines before ≡ (cut_of before).lines = lines_cut before ∙ ap (λ rest. (cut_of before).lines ++ unfinished rest) none ∙ append-nil (cut_of before).lines in
+    let lines : script_lines before ≡ (cut_of before).lines =
+    lines_cut before ∙ ap (λ rest. (cut_of before).lines ++ unfinished rest) none ∙ append-nil (cut_of before).lines in
     let cut : cut_of before ≡ record { lines = script_lines before; rest = [] } =
     ap (λ rest. record { lines = (cut_of before).lines; rest = rest }) none ∙ ap (λ lines. record { lines = lines; rest = [] }) (sym lines) in
     lines_cut (before ++ (text ++ others))
@@ -128,9 +146,12 @@ unfolding line_of words_of
 empty_line = refl
 
 good_line : (lines more : List (List ℕ)) (line : List ℕ) → list_all is_line (lines ++ line ∷ more) ≡ true → is_line line ≡ true
-good_line lines more line h = (and_parts (is_line line) (list_all is_line more) (and_parts (list_all is_line lines) (list_all is_line (line ∷ more)) (sym (list_all-append is_line lines (line ∷ more)) ∙ h)).1).0
+good_line lines more line h =
+    (and_parts (is_line line) (list_all is_line more)
+    (and_parts (list_all is_line lines) (list_all is_line (line ∷ more)) (sym (list_all-append is_line lines (line ∷ more)) ∙ h)).1).0
 
-module _ (octets before text after : List ℕ) (ended : Bool) (ends : EndsLine before) (one_line : list_any ends_line text ≡ false) (good : are_lines (script_lines octets) ≡ true) where
+module _ (octets before text after : List ℕ) (ended : Bool) (ends : EndsLine before) (one_line : list_any ends_line text ≡ false)
+    (good : are_lines (script_lines octets) ≡ true) where
   all_good : (nat_le (length (script_lines octets)) 16384 ≡ true) × (list_all is_line (script_lines octets) ≡ true)
   all_good = and_parts (nat_le (length (script_lines octets)) 16384) (list_all is_line (script_lines octets)) good
 
@@ -138,10 +159,12 @@ module _ (octets before text after : List ℕ) (ended : Bool) (ends : EndsLine b
   not_bad lines more line same = good_line lines more line (ap (list_all is_line) (sym same) ∙ all_good.1)
 
   -- the text is a line, which was over
-  no_bad_line : IsOver ended after → (ended ≡ true → octets ≡ before ++ (text ++ after)) → (others : List ℕ) → octets ≡ before ++ (text ++ (after ++ others)) → is_line text ≡ false → ⊥
+  no_bad_line : IsOver ended after → (ended ≡ true → octets ≡ before ++ (text ++ after)) → (others : List ℕ) → octets ≡ before ++ (text ++ (after ++ others))
+      → is_line text ≡ false → ⊥
   no_bad_line over taken others whole bad = elim over [
     | inl here ↦ (
-        let from = lines_from before text (after ++ others) ends one_line ∙ ap (λ octets. lines_at (fold cut_more (record { lines = script_lines before; rest = text }) (octets ++ others))) here.1 in
+        let from = lines_from before text (after ++ others) ends one_line
+        ∙ ap (λ octets. lines_at (fold cut_more (record { lines = script_lines before; rest = text }) (octets ++ others))) here.1 in
         let more = ended_line (script_lines before) text (here.0 ++ others) in
         false≢true (sym bad ∙ not_bad (script_lines before) more.0 text (ap script_lines whole ∙ from ∙ more.1))
         )
@@ -149,7 +172,8 @@ module _ (octets before text after : List ℕ) (ended : Bool) (ends : EndsLine b
       | inl none ↦ false≢true (sym bad ∙ ap is_line none ∙ empty_line)
       | inr some ↦ (
           let all : octets ≡ before ++ (text ++ []) = taken end.1 ∙ ap (λ after. before ++ (text ++ after)) end.0 in
-          false≢true (sym bad ∙ not_bad (script_lines before) [] text (ap script_lines all ∙ lines_from before text [] ends one_line ∙ ap (λ last. script_lines before ++ last) (unfinished-some text some)))
+          false≢true (sym bad ∙ not_bad (script_lines before) [] text
+          (ap script_lines all ∙ lines_from before text [] ends one_line ∙ ap (λ last. script_lines before ++ last) (unfinished-some text some)))
           )
     ]
   ]
@@ -163,7 +187,13 @@ module _ (octets before text after : List ℕ) (ended : Bool) (ends : EndsLine b
       let more = begun_line lines (text ++ octet ∷ []) later (omega (arith, length-append text (octet ∷ []))) in
       let from = lines_from before text (octet ∷ later) ends one_line ∙ ap (λ b. lines_at (fold cut_more (cond b ended kept) later)) (ne_eqb octet 10 other) in
       let line = (text ++ octet ∷ []) ++ more.0 in
-      omega (arith, long, length-append text (octet ∷ []), length-append (text ++ octet ∷ []) more.0, short_line line (not_bad lines more.1 line (ap script_lines whole ∙ from ∙ more.2)))
+      omega (
+        arith,
+        long,
+        length-append text (octet ∷ []),
+        length-append (text ++ octet ∷ []) more.0,
+        short_line line (not_bad lines more.1 line (ap script_lines whole ∙ from ∙ more.2)),
+      )
 
   -- there are no more lines than there may be
   no_late_line : (others : List ℕ) → 0 < length others → octets ≡ before ++ (text ++ others) → length (script_lines before) < 16384
@@ -174,7 +204,8 @@ module _ (octets before text after : List ℕ) (ended : Bool) (ends : EndsLine b
       omega (arith, more, same, leb-true (length (script_lines octets)) 16384 all_good.0)
 
 -- no line of such a script is faulty
-module _ {D G V : Type 0} (on : Devices D G V) (by : Keying G) (given : Given) (request : Asked) (start : Run D) (number : ℕ) (entries : List Entry) (after : Run D) where
+module _ {D G V : Type 0} (on : Devices D G V) (by : Keying G) (given : Given) (request : Asked) (start : Run D) (number : ℕ) (entries : List Entry)
+    (after : Run D) where
   pub no_faulty_line : (had left : Option (List ℕ)) → ShowsScript had → CameFrom had left given → EndsAtLine on by given request start number entries after → ⊥
   no_faulty_line None left good came h = good
   no_faulty_line (Some octets) None good came h = came.consumed
@@ -183,10 +214,18 @@ module _ {D G V : Type 0} (on : Devices D G V) (by : Keying G) (given : Given) (
       let whole : octets ≡ h.before ++ (h.text ++ (h.rest ++ others)) =
       taken ∙ append_assoc h.before (h.text ++ h.rest) others ∙ ap (λ octets. h.before ++ octets) (append_assoc h.text h.rest others) in
       elim h.faulty [
-        | inl late ↦ omega (arith, late.0, h.counted, no_late_line octets h.before h.text h.rest given.ended h.cut.whole_lines h.cut.one_line good (h.rest ++ others) (omega (arith, late.1, length-append h.rest others)) whole)
+        | inl late ↦ omega (
+          arith,
+          late.0,
+          h.counted,
+          no_late_line octets h.before h.text h.rest given.ended h.cut.whole_lines h.cut.one_line good (h.rest ++ others)
+              (omega (arith, late.1, length-append h.rest others)) whole,
+        )
         | inr (inl long) ↦ (
             let next = long.1 in
-            no_long_line octets h.before h.text h.rest given.ended h.cut.whole_lines h.cut.one_line good long.0 next.0 (next.1 ++ others) next.3 (whole ∙ ap (λ rest. h.before ++ (h.text ++ (rest ++ others))) next.2)
+            no_long_line octets h.before h.text h.rest given.ended h.cut.whole_lines h.cut.one_line good long.0 next.0 (next.1 ++ others) next.3
+            (whole ∙ ap (λ rest. h.before ++ (h.text ++ (rest ++ others))) next.2)
             )
-        | inr (inr bad) ↦ no_bad_line octets h.before h.text h.rest given.ended h.cut.whole_lines h.cut.one_line good bad.1 (λ all. came.whole all ∙ h.cut.parts) others whole bad.0
+        | inr (inr bad) ↦ no_bad_line octets h.before h.text h.rest given.ended h.cut.whole_lines h.cut.one_line good bad.1
+            (λ all. came.whole all ∙ h.cut.parts) others whole bad.0
       ]

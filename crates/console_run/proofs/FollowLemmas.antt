@@ -40,7 +40,8 @@ module _ {D G V R : Type 0} (on : Devices D G V) (draws : DrawGhosts R) (start :
   same_moment = λ i. moment held (sym none i) (sym zeroth i) out
 
   -- the report of the opening broke off
-  pub run_stopped_at_opening : (had : Shown) (stop : Stop) → ((front : List Entry) (entry : Entry) → held.entries ≡ front ++ entry ∷ [] → EntryStops stop was out entry)
+  pub run_stopped_at_opening : (had : Shown) (stop : Stop)
+      → ((front : List Entry) (entry : Entry) → held.entries ≡ front ++ entry ∷ [] → EntryStops stop was out entry)
       → IsRunUntil on draws stop start had had (moment held line count out)
   run_stopped_at_opening had stop stops =
       let first = opened.opens.first in
@@ -52,11 +53,13 @@ module _ {D G V R : Type 0} (on : Devices D G V) (draws : DrawGhosts R) (start :
         stopped = subst (IsStoppedAt on draws stop (given_of [] false) start) same_moment (stopped_at_opening on draws start held out opened stop here);
       }
 
-  module _ (reported : (front : List Entry) (entry : Entry) → held.entries ≡ front ++ entry ∷ [] → Puts was out (entry_text entry) × (ran_out entry.answer ≡ false)) where
+  module _ (reported : (front : List Entry) (entry : Entry) → held.entries ≡ front ++ entry ∷ []
+      → Puts was out (entry_text entry) × (ran_out entry.answer ≡ false)) where
     all_reported : Puts start.was out (entries_text held.entries)
     all_reported =
         let first = opened.opens.first in
-        opening_reported on draws start held out opened (subst (λ was. Puts was out (entry_text first.entry)) (sym same) (reported [] first.entry first.alone).0)
+        opening_reported on draws start held out opened
+        (subst (λ was. Puts was out (entry_text first.entry)) (sym same) (reported [] first.entry first.alone).0)
 
     -- there was no memory to go on
     pub run_out_of_memory : (had : Shown) → IsRunUntil on draws MemoryStop start had had (moment held line count out)
@@ -64,14 +67,16 @@ module _ {D G V R : Type 0} (on : Devices D G V) (draws : DrawGhosts R) (start :
       given = given_of [] false;
       came = nothing_came had;
       source = refl;
-      stopped = subst (IsStoppedAt on draws MemoryStop (given_of [] false) start) same_moment (no_memory_after_opening on draws start held out opened all_reported);
+      stopped = subst (IsStoppedAt on draws MemoryStop (given_of [] false) start) same_moment
+          (no_memory_after_opening on draws start held out opened all_reported);
     }
 
     so_far : IsSoFar on draws start [] (moment held line count out)
     so_far = subst (IsSoFar on draws start []) same_moment (first_so_far on draws start held out opened all_reported)
 
     -- the script was taken up to where the run stopped
-    pub run_stopped : (had left : Shown) (stop : Stop) (new : Moment D G R) → TakesAndStops on draws stop had left (moment held line count out) new → IsRunUntil on draws stop start had left new
+    pub run_stopped : (had left : Shown) (stop : Stop) (new : Moment D G R) → TakesAndStops on draws stop had left (moment held line count out) new
+        → IsRunUntil on draws stop start had left new
     run_stopped had left stop new h = record {
       given = given_of h.taken false;
       came = record { consumed = h.consumed; octets = h.small; whole = λ ended. absurd (false≢true ended) };
@@ -91,5 +96,7 @@ module _ {D G V R : Type 0} (on : Devices D G V) (draws : DrawGhosts R) (start :
       run_whole new ends = record { given = given_of taken.taken true; came = came; source = taken.stands; reported = ends start taken.taken all_so_far }
 
       -- or the run stopped there
-      pub run_stopped_at_end : (stop : Stop) (new : Moment D G R) → SourceFails stop had.faults left.faults → StopsAtEnd on draws stop middle new → IsRunUntil on draws stop start had left new
-      run_stopped_at_end stop new source stops = record { given = given_of taken.taken true; came = came; source = source; stopped = stops start taken.taken all_so_far }
+      pub run_stopped_at_end : (stop : Stop) (new : Moment D G R) → SourceFails stop had.faults left.faults → StopsAtEnd on draws stop middle new
+          → IsRunUntil on draws stop start had left new
+      run_stopped_at_end stop new source stops =
+          record { given = given_of taken.taken true; came = came; source = source; stopped = stops start taken.taken all_so_far }

@@ -151,7 +151,8 @@ module _ {D G V : Type 0} (on : Devices D G V) (by : Keying G) where
         history_then start given middle more after h
         (subst (λ (more : List Entry). StepsAlong on by given middle more after) (sym none.0) none.1) (subst EndsWithoutMemory (sym none.0) tt)
     text_history given middle text more after h (inr line) =
-        history_then start given middle more after h (begun_steps line.0 given middle more after line.2) (through_memory line.0 given [] middle more after line.2)
+        history_then start given middle more after h (begun_steps line.0 given middle more after line.2)
+        (through_memory line.0 given [] middle more after line.2)
 
     module _ (given : Given) where
       up_to : (done more : List Entry) (after : Run D) → IsUpTo on by given request start done more after → MakesHistory on by start (done ++ more) after

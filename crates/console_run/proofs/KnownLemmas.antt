@@ -19,7 +19,8 @@ pub Puts-then : (u v w : Shown) (a b : List ℕ) → Puts u v a → Puts v w b �
 Puts-then u v w a b h k = record { appended = Appends-trans u.octets v.octets w.octets a b h.appended k.appended; stands = k.stands ∙ h.stands }
 
 -- the reports of entries, and of more after them
-pub Puts-entries : (u v w : Shown) (entries more : List Entry) → Puts u v (entries_text entries) → Puts v w (entries_text more) → Puts u w (entries_text (entries ++ more))
+pub Puts-entries : (u v w : Shown) (entries more : List Entry) → Puts u v (entries_text entries) → Puts v w (entries_text more)
+    → Puts u w (entries_text (entries ++ more))
 Puts-entries u v w entries more h k =
     subst (Puts u w) (sym (flat_map-append entry_text entries more)) (Puts-then u v w (entries_text entries) (entries_text more) h k)
 
@@ -27,24 +28,28 @@ pub Puts-entry : (u v : Shown) (entry : Entry) → Puts u v (entry_text entry) �
 Puts-entry u v entry h = subst (Puts u v) (sym (append-nil (entry_text entry))) h
 
 -- a part of a text whose front was put before
-AppendsPart-after : (was known now : Option (List ℕ)) (front line others text : List ℕ) → Appends was known front → text ≡ front ++ (line ++ others) → AppendsPart known now line → AppendsPart was now text
+AppendsPart-after : (was known now : Option (List ℕ)) (front line others text : List ℕ) → Appends was known front → text ≡ front ++ (line ++ others)
+    → AppendsPart known now line → AppendsPart was now text
 AppendsPart-after was known now front line others text told parts h = record {
   part = front ++ h.part;
   missing = h.missing ++ others;
-  parts = parts ∙ ap (λ line. front ++ (line ++ others)) h.parts ∙ ap (λ rest. front ++ rest) (append_assoc h.part h.missing others) ∙ sym (append_assoc front h.part (h.missing ++ others));
+  parts = parts ∙ ap (λ line. front ++ (line ++ others)) h.parts ∙ ap (λ rest. front ++ rest) (append_assoc h.part h.missing others)
+      ∙ sym (append_assoc front h.part (h.missing ++ others));
   some = omega (arith, h.some, length-append h.missing others);
   appended = Appends-trans was known now front h.part told h.appended;
 }
 
 -- a text whose front was put, and whose next piece broke off
-pub BreaksOff-after : (was known now : Shown) (front line others text : List ℕ) → Puts was known front → text ≡ front ++ (line ++ others) → BreaksOff Sink known now line → BreaksOff Sink was now text
+pub BreaksOff-after : (was known now : Shown) (front line others text : List ℕ) → Puts was known front → text ≡ front ++ (line ++ others)
+    → BreaksOff Sink known now line → BreaksOff Sink was now text
 BreaksOff-after was known now front line others text puts parts h = (
   subst (λ faults. Rose faults now.faults) puts.stands h.0,
   AppendsPart-after was.octets known.octets now.octets front line others text puts.appended parts h.1,
 )
 
 -- the report of one entry broke off
-pub ReportBreaksOff-one : (ending : Ending) (was now : Shown) (entry : Entry) → BreaksOff ending was now (entry_text entry) → ReportBreaksOff ending was now (entry ∷ [])
+pub ReportBreaksOff-one : (ending : Ending) (was now : Shown) (entry : Entry) → BreaksOff ending was now (entry_text entry)
+    → ReportBreaksOff ending was now (entry ∷ [])
 ReportBreaksOff-one ending was now entry h = record { reported = []; last = entry; parts = refl; middle = was; puts = Puts-none was; breaks = h }
 
 -- that of the last of some entries

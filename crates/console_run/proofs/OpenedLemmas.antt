@@ -41,7 +41,8 @@ module _ {D G V : Type 0} (on : Devices D G V) (by : Keying G) where
   pub opening_step : (opening : Opening) (start : Run D) (entry : Entry) (after : Run D) → entry.asked ≡ request_of opening
       → IsStepBy on.disks (step_of on.disks on.signers by opening) start entry after → Steps on by [] start entry after
   opening_step opening start entry after asked h = record {
-    answered = subst (λ asked. IsAnswered on.disks on.signers by.signer on.verifiers on.verifier by.block [] asked start entry.answer entry.outside after) (sym asked)
+    answered = subst
+        (λ asked. IsAnswered on.disks on.signers by.signer on.verifiers on.verifier by.block [] asked start entry.answer entry.outside after) (sym asked)
         (answered opening start entry.answer entry.outside after h.answered);
     keeps = h.keeps;
     counts = h.counts;

@@ -88,13 +88,16 @@ module _ {D G V : Type 0} (on : Devices D G V) (by : Keying G) where
       → CanOpen on by opening start.disk
       → IsAnswered on.disks on.signers by.signer on.verifiers on.verifier by.block [] (request_of opening) start entry.answer entry.outside after
       → Counts on.disks entry.outside.disk_failed start.disk after.disk → Rose (on.disks.faults start.disk) (on.disks.faults after.disk)
-  fails other (New depth) start entry after why refused cannot can h counts = create_fails depth start entry.answer entry.outside after why refused cannot h.1 counts
-  fails other Open start entry after why refused cannot can h counts = begin_fails other start entry.answer entry.outside after why refused cannot can h.1 counts
+  fails other (New depth) start entry after why refused cannot can h counts =
+      create_fails depth start entry.answer entry.outside after why refused cannot h.1 counts
+  fails other Open start entry after why refused cannot can h counts =
+      begin_fails other start entry.answer entry.outside after why refused cannot can h.1 counts
 
   -- ---- completeness
 
   module _ (other : IsOneOrOther) (streams : Streams) (command : Command) (place : ℕ) (old new : D) (entries : List Entry) (after : Run D)
-      (left : after.disk ≡ new) (came : CameFrom streams.source_before.octets streams.source_after.octets streams.given) (can : CanRun on by streams command.opening old new) where
+      (left : after.disk ≡ new) (came : CameFrom streams.source_before.octets streams.source_after.octets streams.given)
+      (can : CanRun on by streams command.opening old new) where
     breaks : (ending : Ending) (middle : Shown) (text : List ℕ) → middle.faults ≡ streams.sink_before.faults → BreaksOff ending middle streams.sink_after text
         → (ending ≡ Whole) ⊎ (ending ≡ Memory)
     breaks Whole middle text same h = inl refl
@@ -107,7 +110,8 @@ module _ {D G V : Type 0} (on : Devices D G V) (by : Keying G) where
 
     not_opened : EndsUnopened on by streams.given (request_of command.opening) (start_of command old place) entries after → ⊥
     not_opened h =
-        can.disk (subst (λ disk. Rose (on.disks.faults old) (on.disks.faults disk)) left (fails other command.opening (start_of command old place) h.first.entry after h.why
+        can.disk (subst (λ disk. Rose (on.disks.faults old) (on.disks.faults disk)) left
+        (fails other command.opening (start_of command old place) h.first.entry after h.why
         h.refused h.cause can.group
         (subst (λ asked. IsAnswered on.disks on.signers by.signer on.verifiers on.verifier by.block [] asked (start_of command old place) h.first.entry.answer
         h.first.entry.outside after) h.first.asked h.first.step.answered)
@@ -118,7 +122,8 @@ module _ {D G V : Type 0} (on : Devices D G V) (by : Keying G) where
     due_whole Whole cause faults = inl refl
     due_whole NoGroup cause faults = absurd cause
     due_whole (BadLine line) cause faults =
-        absurd (no_faulty_line on by streams.given (request_of command.opening) (start_of command old place) line entries after streams.source_before.octets streams.source_after.octets
+        absurd (no_faulty_line on by streams.given (request_of command.opening)
+        (start_of command old place) line entries after streams.source_before.octets streams.source_after.octets
         can.script came cause)
     due_whole Source cause faults = absurd (can.source faults)
     due_whole Sink cause faults = absurd cause

@@ -20,7 +20,8 @@ use Rattle.console_run.specs.Devices.{Devices}
 use Rattle.console_run.specs.Lines.{AsksNext}
 use Rattle.console_run.specs.Private.Asks.{Answers, StopsIn}
 use Rattle.console_run.specs.Private.Runs.{Runs, by_line}
-use Rattle.console_run.proofs.AskLemmas.{Answers-by, Going, Going-more, Going-none, IsReported, IsStopped, MovesBy, Runs-all, Stops-more, Stops-unasked, any_run}
+use Rattle.console_run.proofs.AskLemmas.{Answers-by, Going, Going-more, Going-none, IsReported, IsStopped, MovesBy, Runs-all, Stops-more}
+use Rattle.console_run.proofs.AskLemmas.{Stops-unasked, any_run}
 
 -- who comes in is told its keys, so one less is left
 pub fewer_left : {D G R : Type 0} (d : DiskGhosts D) (draws : DrawGhosts R) (old new : View D G R) (tells : TellsNext d draws old new)

@@ -27,15 +27,20 @@ module _ {D G V R : Type 0} (on : Devices D G V) (draws : DrawGhosts R) where
   pub GoesOn-none : (now : Moment D G R) → GoesOn on draws [] now now
   GoesOn-none now start before h = subst (λ octets. IsSoFar on draws start octets now) (sym (append-nil before)) h
 
-  pub GoesOn-then : (a b : List ℕ) (first second third : Moment D G R) → GoesOn on draws a first second → GoesOn on draws b second third → GoesOn on draws (a ++ b) first third
-  GoesOn-then a b first second third h k start before so = subst (λ octets. IsSoFar on draws start octets third) (append_assoc before a b) (k start (before ++ a) (h start before so))
+  pub GoesOn-then : (a b : List ℕ) (first second third : Moment D G R) → GoesOn on draws a first second → GoesOn on draws b second third
+      → GoesOn on draws (a ++ b) first third
+  GoesOn-then a b first second third h k start before so =
+      subst (λ octets. IsSoFar on draws start octets third) (append_assoc before a b) (k start (before ++ a) (h start before so))
 
   module _ (held : View D G R) (line : List ℕ) (count : ℕ) (out : Shown) where
     -- an octet that ends no line is kept
-    pub GoesOn-octet : (octet : ℕ) → octet < 256 → (octet ≡ 10 → ⊥) → GoesOn on draws (octet ∷ []) (moment held line count out) (moment held (line ++ octet ∷ []) count out)
+    pub GoesOn-octet : (octet : ℕ) → octet < 256 → (octet ≡ 10 → ⊥)
+        → GoesOn on draws (octet ∷ []) (moment held line count out) (moment held (line ++ octet ∷ []) count out)
     GoesOn-octet octet low other start before h =
-        let cut : cut_of (before ++ octet ∷ []) ≡ record { lines = (cut_of before).lines; rest = (cut_of before).rest ++ octet ∷ [] } =
-        cut_of-more before octet ∙ ap (λ ends. cond ends (record { lines = (cut_of before).lines ++ (cut_of before).rest ∷ []; rest = [] }) (record { lines = (cut_of before).lines; rest = (cut_of before).rest ++ octet ∷ [] })) (ne_eqb octet 10 other) in
+        let so_far = cut_of before in
+        let ended : Cut = record { lines = so_far.lines ++ so_far.rest ∷ []; rest = [] } in
+        let kept : Cut = record { lines = so_far.lines; rest = so_far.rest ++ octet ∷ [] } in
+        let cut : cut_of (before ++ octet ∷ []) ≡ kept = cut_of-more before octet ∙ ap (λ ends. cond ends ended kept) (ne_eqb octet 10 other) in
         record {
           small = small_more before octet h.small low;
           rest = ap (λ (c : Cut). c.rest) cut ∙ ap (λ rest. rest ++ octet ∷ []) h.rest;
@@ -52,7 +57,8 @@ module _ {D G V R : Type 0} (on : Devices D G V) (draws : DrawGhosts R) where
         }
 
     -- octet 10 ends the line, which is run
-    pub GoesOn-line : (new : View D G R) (now : Shown) → count < 16384 → Runs on.disks draws (by_text on line) held new out now → GoesOn on draws (10 ∷ []) (moment held line count out) (moment new [] (count + 1) now)
+    pub GoesOn-line : (new : View D G R) (now : Shown) → count < 16384 → Runs on.disks draws (by_text on line) held new out now
+        → GoesOn on draws (10 ∷ []) (moment held line count out) (moment new [] (count + 1) now)
     GoesOn-line new now room run start before h =
         let lines = (cut_of before).lines in
         let next = run.each start.by h.now h.stands in
@@ -67,7 +73,8 @@ module _ {D G V R : Type 0} (on : Devices D G V) (draws : DrawGhosts R) where
               (subst (λ entries. IsRunOf on start.by start.request start.run (lines ++ line ∷ []) entries next.0) (sym run.grown)
               (IsRunOf-more on start.by start.request start.run lines line held.entries h.now run.more next.0 h.run (omega (arith, room, h.counted)) next.1));
           stands = next.2;
-          puts = subst (λ entries. Puts start.was now (entries_text entries)) (sym run.grown) (Puts-entries start.was out now held.entries run.more h.puts run.puts);
+          puts = subst (λ entries. Puts start.was now (entries_text entries)) (sym run.grown)
+              (Puts-entries start.was out now held.entries run.more h.puts run.puts);
           front = before ++ 10 ∷ [];
           parts = sym (append-nil (before ++ 10 ∷ []));
           ended = inr (before, refl);
@@ -76,7 +83,8 @@ module _ {D G V R : Type 0} (on : Devices D G V) (draws : DrawGhosts R) where
         }
 
   -- the same, as the code has it
-  pub GoesOn-ended : (held new : View D G R) (line text next : List ℕ) (count octet : ℕ) (out now : Shown) → octet ≡ 10 → text ≡ line → next ≡ [] → count < 16384
+  pub GoesOn-ended : (held new : View D G R) (line text next : List ℕ) (count octet : ℕ) (out now : Shown) → octet ≡ 10 → text ≡ line → next ≡ []
+      → count < 16384
       → Runs on.disks draws (by_text on text) held new out now → GoesOn on draws (octet ∷ []) (moment held line count out) (moment new next (count + 1) now)
   GoesOn-ended held new line text next count octet out now ends same cleared room run =
       subst (λ o. GoesOn on draws (o ∷ []) (moment held line count out) (moment new next (count + 1) now)) (sym ends)
@@ -86,7 +94,8 @@ module _ {D G V R : Type 0} (on : Devices D G V) (draws : DrawGhosts R) where
   pub GoesOn-kept : (held : View D G R) (line next : List ℕ) (count octet : ℕ) (out : Shown) → octet < 256 → (octet ≡ 10 → ⊥) → next ≡ line ++ octet ∷ []
       → GoesOn on draws (octet ∷ []) (moment held line count out) (moment held next count out)
   GoesOn-kept held line next count octet out low other kept =
-      subst (λ rest. GoesOn on draws (octet ∷ []) (moment held line count out) (moment held rest count out)) (sym kept) (GoesOn-octet held line count out octet low other)
+      subst (λ rest. GoesOn on draws (octet ∷ []) (moment held line count out) (moment held rest count out)) (sym kept)
+      (GoesOn-octet held line count out octet low other)
 
   -- a group that was just opened has run no line
   pub first_so_far : (start : Start D G) (held : View D G R) (out : Shown) → IsOpened on draws start held → Puts start.was out (entries_text held.entries)
@@ -118,7 +127,8 @@ module _ {D G V R : Type 0} (on : Devices D G V) (draws : DrawGhosts R) where
     pub run_before : IsRunOf on start.by start.request start.run (script_lines so.front) now.held.entries so.now
     run_before = subst (λ lines. IsRunOf on start.by start.request start.run lines now.held.entries so.now) (sym lines_before) so.run
 
-    pub IsCut-from : (after : List ℕ) → length now.line ≤ 200 → length after ≤ 4096 → (0 < length now.line → now.count < 16384) → IsCut (before ++ after) so.front now.line after
+    pub IsCut-from : (after : List ℕ) → length now.line ≤ 200 → length after ≤ 4096 → (0 < length now.line → now.count < 16384)
+        → IsCut (before ++ after) so.front now.line after
     IsCut-from after short near within = record {
       parts = ap (λ octets. octets ++ after) so.parts ∙ append_assoc so.front now.line after;
       whole_lines = so.ended;
@@ -131,16 +141,20 @@ module _ {D G V R : Type 0} (on : Devices D G V) (draws : DrawGhosts R) where
     -- a script that ends with its last line
     pub whole_lines : now.line ≡ [] → IsRunOf on start.by start.request start.run (script_lines before) now.held.entries so.now
     whole_lines none =
-        let whole : script_lines before ≡ (cut_of before).lines = lines_cut before ∙ ap (λ rest. (cut_of before).lines ++ unfinished rest) (so.rest ∙ none) ∙ append-nil (cut_of before).lines in
+        let whole : script_lines before ≡ (cut_of before).lines =
+        lines_cut before ∙ ap (λ rest. (cut_of before).lines ++ unfinished rest) (so.rest ∙ none) ∙ append-nil (cut_of before).lines in
         subst (λ lines. IsRunOf on start.by start.request start.run lines now.held.entries so.now) (sym whole) so.run
 
     -- and one that ends in the middle of a line, which was run
-    pub whole_with_line : (new : View D G R) (out : Shown) → 0 < length now.line → now.count < 16384 → (run : Runs on.disks draws (by_text on now.line) now.held new now.out out)
+    pub whole_with_line : (new : View D G R) (out : Shown) → 0 < length now.line → now.count < 16384
+        → (run : Runs on.disks draws (by_text on now.line) now.held new now.out out)
         → IsRunOf on start.by start.request start.run (script_lines before) new.entries (run.each start.by so.now so.stands).0
     whole_with_line new out some room run =
         let lines = (cut_of before).lines in
         let next = run.each start.by so.now so.stands in
-        let whole : script_lines before ≡ lines ++ now.line ∷ [] = lines_cut before ∙ ap (λ rest. lines ++ unfinished rest) so.rest ∙ ap (λ last. lines ++ last) (unfinished-some now.line some) in
+        let whole : script_lines before ≡ lines ++ now.line ∷ [] =
+        lines_cut before ∙ ap (λ rest. lines ++ unfinished rest) so.rest ∙ ap (λ last. lines ++ last) (unfinished-some now.line some) in
         subst (λ lines. IsRunOf on start.by start.request start.run lines new.entries next.0) (sym whole)
         (subst (λ entries. IsRunOf on start.by start.request start.run (lines ++ now.line ∷ []) entries next.0) (sym run.grown)
-        (IsRunOf-more on start.by start.request start.run lines now.line now.held.entries so.now run.more next.0 so.run (omega (arith, room, so.counted)) next.1))
+        (IsRunOf-more on start.by start.request start.run lines now.line now.held.entries so.now run.more next.0 so.run
+        (omega (arith, room, so.counted)) next.1))

@@ -1,5 +1,6 @@
 -- Where and why a run stops.
-use Rattle.std.proofs.Common.{◌≡◌, ℕ, ◌+◌, ◌<◌, ◌≤◌, Bool, true, false, List, [], ◌∷◌, ◌++◌, length, take, drop, get_or, sym, refl, ap, ◌∙◌, subst, arith, append_assoc, inl, inr}
+use Rattle.std.proofs.Common.{◌≡◌, ℕ, ◌+◌, ◌<◌, ◌≤◌, Bool, true, false, List, [], ◌∷◌, ◌++◌, length, take, drop, get_or, sym, refl, ap, ◌∙◌, subst}
+use Rattle.std.proofs.Common.{arith, append_assoc, inl, inr}
 use Rattle.std.specs.Prelude.{nat_lt}
 use Rattle.std.proofs.lemmas.Bool.{and_parts, false≢true}
 use Rattle.std.proofs.lemmas.List.{append-nil, take_more, take-append-drop, length-drop}
@@ -22,7 +23,8 @@ use Rattle.console_run.specs.Causes.{EndsAtLine, Given, IsCut, IsFaulty, IsInPar
 use Rattle.console_run.specs.Reports.{Puts, BreaksOff, ReportBreaksOff}
 use Rattle.console_run.specs.Private.Follows.{moment, IsOpened}
 use Rattle.console_run.specs.Private.Reports.{EntryStops}
-use Rattle.console_run.specs.Private.Runs.{Runs, Stops, by_text, begun_by_text, Start, Moment, IsSoFar, IsBrokenOff, IsReported, IsStoppedAt, Stands, StopsWithin, GoesOn, StopsAt, SourceFails, given_of}
+use Rattle.console_run.specs.Private.Runs.{Runs, Stops, by_text, begun_by_text, Start, Moment, IsSoFar, IsBrokenOff, IsReported, IsStoppedAt, Stands}
+use Rattle.console_run.specs.Private.Runs.{StopsWithin, GoesOn, StopsAt, SourceFails, given_of}
 use Rattle.console_run.proofs.KnownLemmas.{Puts-none, Puts-entries, Puts-entry, ReportBreaksOff-one}
 use Rattle.console_run.proofs.SoFarLemmas.{IsCut-from, count_before, run_before, whole_lines, whole_with_line}
 
@@ -36,7 +38,8 @@ SourceFails-other Unreported old new other same = same
 
 module _ {D G V R : Type 0} (on : Devices D G V) (draws : DrawGhosts R) where
   -- a line that begins to give nothing leaves the run as it is
-  nothing_given : (by : Keying G) (text : List ℕ) (before more : List Entry) (run after : Run D) → more ≡ [] → LineBegins on by text before run more after → after ≡ run
+  nothing_given : (by : Keying G) (text : List ℕ) (before more : List Entry) (run after : Run D) → more ≡ [] → LineBegins on by text before run more after
+      → after ≡ run
   nothing_given by text before more run after none h = elim h [
     | inl same ↦ same.1
     | inr begins ↦ subst (λ more. GoesThrough on by begins.0 before [] run more after) none begins.2
@@ -44,7 +47,8 @@ module _ {D G V R : Type 0} (on : Devices D G V) (draws : DrawGhosts R) where
 
   -- what is known of a run up to a place, and what came after it
   module _ (start : Start D G) (before after : List ℕ) (ended : Bool) (held : View D G R) (line : List ℕ) (count : ℕ) (out : Shown)
-      (so : IsSoFar on draws start before (moment held line count out)) (short : length line ≤ 200) (near : length after ≤ 4096) (within : 0 < length line → count < 16384) where
+      (so : IsSoFar on draws start before (moment held line count out)) (short : length line ≤ 200) (near : length after ≤ 4096)
+      (within : 0 < length line → count < 16384) where
     abbrev given : Given
     given = given_of (before ++ after) ended
 
@@ -77,7 +81,8 @@ module _ {D G V R : Type 0} (on : Devices D G V) (draws : DrawGhosts R) where
       over = inr (over, omega (arith, room, count_before on draws start before (moment held line count out) so));
     }
 
-    module _ (stop : Stop) (new : View D G R) (now : Shown) (over : IsOver ended after) (room : count < 16384) (h : Stops on.disks draws (begun_by_text on line) stop held new out now) where
+    module _ (stop : Stop) (new : View D G R) (now : Shown) (over : IsOver ended after) (room : count < 16384)
+        (h : Stops on.disks draws (begun_by_text on line) stop held new out now) where
       abbrev next : (next : Run D) × LineBegins on start.by line held.entries so.now h.more next × Stands on.disks draws start.by new next
       next = h.each start.by so.now so.stands
 
@@ -98,7 +103,8 @@ module _ {D G V R : Type 0} (on : Devices D G V) (draws : DrawGhosts R) where
       }
 
       -- it gave nothing, for it is faulty
-      faulty_line : IsFaulty ended (count + 1) line after → h.more ≡ [] → Puts out now [] → IsReported on draws (BadLine (count + 1)) given start (moment new line count now)
+      faulty_line : IsFaulty ended (count + 1) line after → h.more ≡ [] → Puts out now []
+          → IsReported on draws (BadLine (count + 1)) given start (moment new line count now)
       faulty_line faulty none puts =
           let same : new.entries ≡ held.entries = h.grown ∙ ap (λ more. held.entries ++ more) none ∙ append-nil held.entries in
           let stays : next.0 ≡ so.now = nothing_given start.by line held.entries h.more so.now next.0 none next.1 in
@@ -107,7 +113,8 @@ module _ {D G V R : Type 0} (on : Devices D G V) (draws : DrawGhosts R) where
             stands = next.2;
             cause = subst (λ entries. EndsAtLine on start.by given start.request start.run (count + 1) entries next.0) (sym same)
                 (subst (EndsAtLine on start.by given start.request start.run (count + 1) held.entries) (sym stays) (stopped faulty));
-            report = subst (λ entries. Puts start.was now (entries_text entries)) (sym (same ∙ sym (append-nil held.entries))) (Puts-entries start.was out now held.entries [] so.puts puts);
+            report = subst (λ entries. Puts start.was now (entries_text entries)) (sym (same ∙ sym (append-nil held.entries)))
+                (Puts-entries start.was out now held.entries [] so.puts puts);
           }
 
     -- the run stopped in it
@@ -120,7 +127,8 @@ module _ {D G V R : Type 0} (on : Devices D G V) (draws : DrawGhosts R) where
     stopped_in_line Unreported new now over room faulty h = broken Unreported new now over room h Memory h.reports
 
   -- the source failed, so nothing came after the octets so far
-  lost : (start : Start D G) (before : List ℕ) (now : Moment D G R) → IsSoFar on draws start before now → length now.line ≤ 200 → (0 < length now.line → now.count < 16384)
+  lost : (start : Start D G) (before : List ℕ) (now : Moment D G R) → IsSoFar on draws start before now → length now.line ≤ 200
+      → (0 < length now.line → now.count < 16384)
       → IsReported on draws Source (given_of before false) start now
   lost start before now so short within = record {
     after = so.now;
@@ -135,7 +143,8 @@ module _ {D G V R : Type 0} (on : Devices D G V) (draws : DrawGhosts R) where
   }
 
   -- the script was run to its end
-  pub whole_script : (start : Start D G) (before : List ℕ) (now : Moment D G R) → IsSoFar on draws start before now → now.line ≡ [] → IsReported on draws Whole (given_of before true) start now
+  pub whole_script : (start : Start D G) (before : List ℕ) (now : Moment D G R) → IsSoFar on draws start before now → now.line ≡ []
+      → IsReported on draws Whole (given_of before true) start now
   whole_script start before now so none = record {
     after = so.now;
     stands = so.stands;
@@ -143,17 +152,21 @@ module _ {D G V R : Type 0} (on : Devices D G V) (draws : DrawGhosts R) where
     report = so.puts;
   }
 
-  pub whole_with_last : (start : Start D G) (before : List ℕ) (held new : View D G R) (line : List ℕ) (count : ℕ) (out now : Shown) → IsSoFar on draws start before (moment held line count out)
-      → 0 < length line → count < 16384 → Runs on.disks draws (by_text on line) held new out now → IsReported on draws Whole (given_of before true) start (moment new line count now)
+  pub whole_with_last : (start : Start D G) (before : List ℕ) (held new : View D G R) (line : List ℕ) (count : ℕ) (out now : Shown)
+      → IsSoFar on draws start before (moment held line count out)
+      → 0 < length line → count < 16384 → Runs on.disks draws (by_text on line) held new out now
+      → IsReported on draws Whole (given_of before true) start (moment new line count now)
   whole_with_last start before held new line count out now so some room run = record {
     after = (run.each start.by so.now so.stands).0;
     stands = (run.each start.by so.now so.stands).2;
     cause = record { ended = refl; run = whole_with_line on draws start before (moment held line count out) so new now some room run };
-    report = subst (λ entries. Puts start.was now (entries_text entries)) (sym run.grown) (Puts-entries start.was out now held.entries run.more so.puts run.puts);
+    report = subst (λ entries. Puts start.was now (entries_text entries)) (sym run.grown)
+        (Puts-entries start.was out now held.entries run.more so.puts run.puts);
   }
 
   -- the run stopped in what stands after the last line end
-  pub stopped_at_end : (start : Start D G) (before : List ℕ) (stop : Stop) (held new : View D G R) (line : List ℕ) (count : ℕ) (out now : Shown) → IsSoFar on draws start before (moment held line count out)
+  pub stopped_at_end : (start : Start D G) (before : List ℕ) (stop : Stop) (held new : View D G R) (line : List ℕ) (count : ℕ) (out now : Shown)
+      → IsSoFar on draws start before (moment held line count out)
       → length line ≤ 200 → count < 16384 → (stop ≡ Line → is_line line ≡ false) → Stops on.disks draws (begun_by_text on line) stop held new out now
       → IsStoppedAt on draws stop (given_of before true) start (moment new line count now)
   stopped_at_end start before stop held new line count out now so short room faulty h =
@@ -183,20 +196,24 @@ module _ {D G V R : Type 0} (on : Devices D G V) (draws : DrawGhosts R) where
     }
 
     -- the report of that broke off
-    opening_broken : (ending : Ending) → BreaksOff ending start.was now (entry_text opened.opens.first.entry) → IsBrokenOff on draws ending (given_of [] false) start (moment held [] 0 now)
+    opening_broken : (ending : Ending) → BreaksOff ending start.was now (entry_text opened.opens.first.entry)
+        → IsBrokenOff on draws ending (given_of [] false) start (moment held [] 0 now)
     opening_broken ending h = record {
       after = opened.opened;
       stands = opened.stands;
       history = opening;
       middle = start.was;
       report = Puts-none start.was;
-      breaks = subst (ReportBreaksOff ending start.was now) (sym opened.opens.first.alone) (ReportBreaksOff-one ending start.was now opened.opens.first.entry h);
+      breaks = subst (ReportBreaksOff ending start.was now) (sym opened.opens.first.alone)
+          (ReportBreaksOff-one ending start.was now opened.opens.first.entry h);
     }
 
     pub opening_reported : Puts start.was now (entry_text opened.opens.first.entry) → Puts start.was now (entries_text held.entries)
-    opening_reported puts = subst (λ entries. Puts start.was now (entries_text entries)) (sym opened.opens.first.alone) (Puts-entry start.was now opened.opens.first.entry puts)
+    opening_reported puts =
+        subst (λ entries. Puts start.was now (entries_text entries)) (sym opened.opens.first.alone) (Puts-entry start.was now opened.opens.first.entry puts)
 
-    pub stopped_at_opening : (stop : Stop) → EntryStops stop start.was now opened.opens.first.entry → IsStoppedAt on draws stop (given_of [] false) start (moment held [] 0 now)
+    pub stopped_at_opening : (stop : Stop) → EntryStops stop start.was now opened.opens.first.entry
+        → IsStoppedAt on draws stop (given_of [] false) start (moment held [] 0 now)
     stopped_at_opening Line h = absurd h
     stopped_at_opening SourceStop h = absurd h
     stopped_at_opening SinkStop h = opening_broken Sink h
@@ -204,24 +221,30 @@ module _ {D G V R : Type 0} (on : Devices D G V) (draws : DrawGhosts R) where
     stopped_at_opening Unreported h = opening_broken Memory h
 
   -- a piece of which some octets were taken, and at the next the run stopped
-  pub StopsWithin-piece : (piece : List ℕ) (place : ℕ) (stop : Stop) (old middle new : Moment D G R) → are_octets piece ≡ true → length piece ≤ 4096 → place < length piece
+  pub StopsWithin-piece : (piece : List ℕ) (place : ℕ) (stop : Stop) (old middle new : Moment D G R) → are_octets piece ≡ true → length piece ≤ 4096
+      → place < length piece
       → GoesOn on draws (take place piece) old middle → StopsAt on draws (get_or piece place 0) stop middle new → StopsWithin on draws piece stop old new
   StopsWithin-piece piece place stop old middle new small short within goes stops start before so =
       let octet = get_or piece place 0 in
       let later = drop (place + 1) piece in
       let front = take (place + 1) piece in
       let whole : front ++ later ≡ piece = take-append-drop (place + 1) piece in
-      let each = and_parts (are_octets front) (are_octets later) (sym (list_all-append (λ octet. nat_lt octet 256) front later) ∙ ap are_octets whole ∙ small) in
-      let same : take place piece ++ (octet ∷ later) ≡ piece = sym (append_assoc (take place piece) (octet ∷ []) later) ∙ ap (λ front. front ++ later) (sym (take_more piece place 0 within)) ∙ whole in
-      subst (λ octets. IsStoppedAt on draws stop (given_of octets false) start new) (append_assoc before (take place piece) (octet ∷ later) ∙ ap (λ rest. before ++ rest) same)
+      let each = and_parts (are_octets front) (are_octets later)
+      (sym (list_all-append (λ octet. nat_lt octet 256) front later) ∙ ap are_octets whole ∙ small) in
+      let same : take place piece ++ (octet ∷ later) ≡ piece =
+      sym (append_assoc (take place piece) (octet ∷ []) later) ∙ ap (λ front. front ++ later) (sym (take_more piece place 0 within)) ∙ whole in
+      subst (λ octets. IsStoppedAt on draws stop (given_of octets false) start new)
+      (append_assoc before (take place piece) (octet ∷ later) ∙ ap (λ rest. before ++ rest) same)
       (stops later (omega (arith, short, within, length-drop (place + 1) piece)) each.1 start (before ++ take place piece) (goes start before so))
 
   -- the same where other octets were taken before
-  pub StopsWithin-then : (a b : List ℕ) (stop : Stop) (first second new : Moment D G R) → GoesOn on draws a first second → StopsWithin on draws b stop second new → StopsWithin on draws (a ++ b) stop first new
+  pub StopsWithin-then : (a b : List ℕ) (stop : Stop) (first second new : Moment D G R) → GoesOn on draws a first second
+      → StopsWithin on draws b stop second new → StopsWithin on draws (a ++ b) stop first new
   StopsWithin-then a b stop first second new goes stops start before so =
       subst (λ octets. IsStoppedAt on draws stop (given_of octets false) start new) (append_assoc before a b) (stops start (before ++ a) (goes start before so))
 
   -- no octet came after those that were taken
-  pub StopsWithin-lost : (taken : List ℕ) (old now : Moment D G R) → GoesOn on draws taken old now → length now.line ≤ 200 → (0 < length now.line → now.count < 16384)
+  pub StopsWithin-lost : (taken : List ℕ) (old now : Moment D G R) → GoesOn on draws taken old now → length now.line ≤ 200
+      → (0 < length now.line → now.count < 16384)
       → StopsWithin on draws taken SourceStop old now
   StopsWithin-lost taken old now goes short within start before so = lost start (before ++ taken) now (goes start before so) short within

@@ -48,7 +48,6 @@ module _ {D G V : Type 0} (on : Devices D G V) (by : Keying G) (each : StoresAre
         history = history;
         sure = sure;
         checks = apart.checks;
-        group = apart.group;
         for_one = apart.for_one;
       }
 

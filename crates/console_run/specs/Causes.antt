@@ -12,7 +12,7 @@ use Rattle.group_steps.specs.Runs.{Run}
 use Rattle.console_run.specs.declared.endings.Ending.{Ending}
 use Rattle.console_run.specs.declared.endings.Ending.TheVariants.{Whole, NoGroup, BadLine, Source, Sink, Memory, NotOpened}
 use Rattle.console_run.specs.Devices.{Devices, Keying}
-use Rattle.console_run.specs.Scripts.{are_octets, ends_line, script_lines, EndsLine, is_line}
+use Rattle.console_run.specs.Scripts.{EndsLine, are_octets, ends_line, is_line, longest_line, longest_piece, most_lines, script_lines}
 use Rattle.console_run.specs.Lines.{IsOpeningEntry, IsRunOf, LineBegins}
 
 -- What the source gave to a run: the octets that were taken from it, and whether it then had no more.
@@ -31,26 +31,26 @@ pub record CameFrom (had left : Option (List ℕ)) (given : Given) : Type 0 wher
   pub octets : are_octets given.taken ≡ true
   pub whole : given.ended ≡ true → TakesAll had given.taken
 
--- Octets in three parts: lines with their line ends, then a text that is a line or a part of one, then at most 4,096 octets after it, as
--- many as are asked for at a time. Where the text has octets, there was room for its line.
+-- Octets in three parts: lines with their line ends, then a text that is a line or a part of one, then no more octets after it than are
+-- asked for at a time. Where the text has octets, there was room for its line.
 pub record IsCut (taken before text after : List ℕ) : Type 0 where
   pub parts : taken ≡ before ++ (text ++ after)
   pub whole_lines : EndsLine before
   pub one_line : list_any ends_line text ≡ false
-  pub short : length text ≤ 200
-  pub near : length after ≤ 4096
-  pub within : 0 < length text → length (script_lines before) < 16384
+  pub short : length text ≤ longest_line
+  pub near : length after ≤ longest_piece
+  pub within : 0 < length text → length (script_lines before) < most_lines
 
 -- a line is over: a line end is next, or nothing came after it and the source has no more
 abbrev pub IsOver : Bool → List ℕ → Type 0
 IsOver ended after = ((later : List ℕ) × (after ≡ 10 ∷ later)) ⊎ ((after ≡ []) × (ended ≡ true))
 
--- The line of this number is faulty: it has an octet and is past the last that there may be, it goes on after 200 octets, or it is over
--- and not of the grammar.
+-- The line of this number is faulty: it has an octet and is past the last that there may be, it goes on after as many octets as it may have,
+-- or it is over and not of the grammar.
 abbrev pub IsFaulty : Bool → ℕ → List ℕ → List ℕ → Type 0
 IsFaulty ended number text after =
-    ((16384 < number) × (0 < length after))
-    ⊎ (((length text ≡ 200) × ((octet : ℕ) × (later : List ℕ) × (after ≡ octet ∷ later) × (octet ≡ 10 → ⊥)))
+    ((most_lines < number) × (0 < length after))
+    ⊎ (((length text ≡ longest_line) × ((octet : ℕ) × (later : List ℕ) × (after ≡ octet ∷ later) × (octet ≡ 10 → ⊥)))
     ⊎ ((is_line text ≡ false) × IsOver ended after))
 
 -- the disk failed, or it has the journal of no group
@@ -100,7 +100,7 @@ module _ {D G V : Type 0} (on : Devices D G V) (by : Keying G) (given : Given) (
     pub middle : Run D
     pub run : IsRunOf on by request start (script_lines before) done middle
     pub begins : LineBegins on by text done middle more after
-    pub over : (more ≡ []) ⊎ (IsOver given.ended rest × (length (script_lines before) < 16384))
+    pub over : (more ≡ []) ⊎ (IsOver given.ended rest × (length (script_lines before) < most_lines))
 
   -- what the opening and the lines before the one begun last gave, and what that one began to give
   abbrev pub IsUpTo : List Entry → List Entry → Run D → Type 0

@@ -15,6 +15,7 @@ use Rattle.script_text.specs.Lines.{line_of}
 use Rattle.script_text.specs.declared.lines.Line.{Line}
 use Rattle.script_text.specs.declared.lines.Line.TheVariants.{Nothing, Join, Leave, Batch, Deliver, DeliverAll, Key, Derive, Halt, Reopen, Show}
 use Rattle.console_run.specs.Devices.{Devices, Keying, Steps}
+use Rattle.console_run.specs.Scripts.{most_lines}
 
 -- ---- what a line asks next
 
@@ -112,5 +113,5 @@ module _ {D G V : Type 0} (on : Devices D G V) (by : Keying G) where
     pub opening : List Entry
     pub opened : Run D
     pub opens : Opens request start opening opened
-    pub few : length lines ≤ 16384
+    pub few : length lines ≤ most_lines
     pub gives : LinesGive opening opened lines entries after

@@ -27,13 +27,14 @@ use Rattle.group_steps.specs.Crashes.{LeavesMoments}
 use Rattle.group_steps.specs.Laws.{IsSure, group_of}
 use Rattle.group_steps.specs.Runs.{Run, no_run}
 use Rattle.group_steps.specs.Sent.{last_push}
-use Rattle.member_roots.specs.Groups.{Checks, IsKeyedGroup}
+use Rattle.member_roots.specs.Groups.{Checks}
 use Rattle.member_roots.specs.Roots.{HasTrafficOf, IsAtRoot}
 use Rattle.member_store.specs.Stores.{Store, root_epoch}
 use Rattle.own_questions.specs.Questions.{OwnQuestionsAreAnsweredYes}
 use Rattle.store_steps.specs.Follow.{HasThen, IsMoment, holders_in, number_at}
 use Rattle.store_steps.specs.Stores.{AreForOneRoot, AreStores}
-use Rattle.sym_closure.specs.Secrecy.{MembersDerive, NoOthersDerive, NobodyDerivesYet, SendsItsWraps, IsPartOfWorld, NoOthersDeriveFrom, RepliedMembersDerive, YesIsOfMembers}
+use Rattle.sym_closure.specs.Secrecy.{MembersDerive, NoOthersDerive, NoOthersDeriveFrom, NobodyDerivesYet, RepliedMembersDerive}
+use Rattle.sym_closure.specs.Secrecy.{IsPartOfWorld, SendsItsWraps, YesIsOfMembers}
 use Rattle.script_text.specs.Report.{entries_text}
 use Rattle.console_run.specs.declared.endings.Ending.{Ending}
 use Rattle.console_run.specs.declared.endings.Ending.TheVariants.{Whole, NoGroup, Memory}
@@ -62,6 +63,9 @@ pub record Streams : Type 0 where
   pub source_after : Shown
   pub sink_before : Shown
   pub sink_after : Shown
+
+abbrev pub streams_of : Given → Shown → Shown → Shown → Shown → Streams
+streams_of given had left was now = record { given = given; source_before = had; source_after = left; sink_before = was; sink_after = now }
 
 -- the source exposes what it has, and that is a script of the grammar
 abbrev pub ShowsScript : Option (List ℕ) → Type 0
@@ -107,8 +111,9 @@ module _ {D G V : Type 0} (on : Devices D G V) (by : Keying G) where
   -- ---- by key names
 
   -- With what its openings found, the history is a legal one by key names, and leaves this group. What was handed to names and sent is part of what its batches
-  -- could ever hand to them and send, and from it no coalition derives the traffic key of an epoch of which none of it is a member. For each epoch some entry sent all its encryptions. By them a member that was sent a reply derives the
-  -- traffic keys from that epoch on, while it stays. A question is answered yes only of members, and of who was sent a reply and stayed since.
+  -- could ever hand to them and send, and from it no coalition derives the traffic key of an epoch of which none of it is a member. For each epoch some entry
+  -- sent all its encryptions. By them a member that was sent a reply derives the traffic keys from that epoch on, while it stays. A question is answered yes
+  -- only of members, and of who was sent a reply and stayed since.
   pub record IsLegalRun (entries : List Entry) (after : Run D) : Type 0 where
     pub readings : List Reading
     pub legal : IsLegalHistory readings entries
@@ -122,11 +127,10 @@ module _ {D G V : Type 0} (on : Devices D G V) (by : Keying G) where
 
   -- ---- the stores of members
 
-  -- What is supposed of keys and signatures: the values of the group's keys fit, the verifier checks what the signer signs, and of no push is a push read under the
-  -- root of another epoch than that under which it was sent. That cannot hold where two epochs have the same root key, as draws that come again may bring about.
+  -- What is supposed of keys and signatures: the verifier checks what the signer signs, and of no push is a push read under the root of another epoch than that
+  -- under which it was sent. That cannot hold where two epochs have the same root key, as draws that come again may bring about.
   pub record AreKeysApart (after : Run D) : Type 0 where
     pub checks : Checks on.signers by.signer on.verifiers on.verifier
-    pub group : IsKeyedGroup after.server.depth after.head.spi after.server.list
     pub for_one : AreForOneRoot on.signers by.signer (on.verifiers.kind_of on.verifier) after.server.depth after.head.spi after.server.list
 
   -- at a moment, after these entries, a member with this store is given the push of a number that was sent
@@ -141,9 +145,9 @@ module _ {D G V : Type 0} (on : Devices D G V) (by : Keying G) where
     pub outside : Outside
     pub step : Steps on by before middle (record { asked = Deliver m number; outside = outside; answer = answer }) next
 
-  -- At each moment each store is one of the group: its path has the keys of one epoch, and its traffic key is that of this epoch or an earlier one, each with the
-  -- value that the server made. A member takes the membership push (RFC 6407 section 4) of the epoch after that of its store's root, over which it stays, and is then
-  -- at the new root; and the traffic push of the epoch of its root, if it accepted none of that number, and has that traffic key then.
+  -- At each moment each store is one of the group: its path has the keys of one epoch, and its traffic key is that of this epoch or an earlier one, each with
+  -- the value that the server made. A member takes the membership push (RFC 6407 section 4) of the epoch after that of its store's root, over which it stays,
+  -- and is then at the new root; and the traffic push of the epoch of its root, if it accepted none of that number, and has that traffic key then.
   pub record StoresFollow (start : Run D) (entries : List Entry) (after : Run D) : Type 0 where
     pub stores : (first : Entry) (front : List Entry) (middle : Run D)
         → IsMoment on.disks on.signers by.signer on.verifiers on.verifier by.block start entries after (first ∷ front) middle → AreStores middle
@@ -160,8 +164,8 @@ module _ {D G V : Type 0} (on : Devices D G V) (by : Keying G) where
 
   -- ---- crashes
 
-  -- The first entry is that of the opening. Where that opened the group, then from any place of the history on a crash leaves the journal as it was at some later
-  -- moment, with all batches that were stored up to that place.
+  -- The first entry is that of the opening. Where that opened the group, then from any place of the history on a crash leaves the journal as it was at some
+  -- later moment, with all batches that were stored up to that place.
   pub record LeavesMomentsAfterOpening (start : Run D) (entries : List Entry) (after : Run D) : Type 0 where
     pub first : Entry
     pub later : List Entry
@@ -185,8 +189,8 @@ module _ {D G V : Type 0} (on : Devices D G V) (by : Keying G) where
         ⊎ IsBroken streams (request_of command.opening) (start_of command old place) ending entries after
     -- where a group can be opened, the source exposes a script and nothing fails, all is run, or memory ran out
     pub complete : CanRun streams command.opening old new → (ending ≡ Whole) ⊎ (ending ≡ Memory)
-    -- Each entry is a step, from the opening on: of the server, its disk and its draws, of the members and their stores. So each push is the text of its batch, and
-    -- each refusal has its cause.
+    -- Each entry is a step, from the opening on: of the server, its disk and its draws, of the members and their stores. So each push is the text of its batch,
+    -- and each refusal has its cause.
     pub history : MakesHistory on by (start_of command old place) entries after
     -- its batches are a valid list
     pub valid : IsValid after.server.depth (batches_made after.server.list)

@@ -3,6 +3,17 @@ use Rattle.std.specs.Prelude.{◌≡◌, ◌⊎◌, ℕ, ◌==◌, ◌&&◌, nat
 use Rattle.std.specs.List.{list_all, slice_split}
 use Rattle.script_text.specs.Lines.{line_of}
 
+-- a line has at most so many octets, and a script so many lines
+abbrev pub longest_line : ℕ
+longest_line = 200
+
+abbrev pub most_lines : ℕ
+most_lines = 16384
+
+-- a source is asked for so many octets at a time
+abbrev pub longest_piece : ℕ
+longest_piece = 4096
+
 abbrev pub are_octets : List ℕ → Bool
 are_octets octets = list_all (λ octet. nat_lt octet 256) octets
 
@@ -31,6 +42,6 @@ EndsLine text = (text ≡ []) ⊎ ((front : List ℕ) × (text ≡ front ++ 10 �
 abbrev pub is_line : List ℕ → Bool
 is_line text = is_some (line_of text)
 
--- at most 16,384 lines, each of the grammar
+-- no more lines than there may be, each of the grammar
 abbrev pub are_lines : List (List ℕ) → Bool
-are_lines lines = nat_le (length lines) 16384 && list_all is_line lines
+are_lines lines = nat_le (length lines) most_lines && list_all is_line lines

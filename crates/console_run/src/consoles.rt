@@ -4,7 +4,7 @@ ghost use Rattle.command_words.specs.Commands.{IsWithin, command_of};
 ghost use Rattle.group_run.specs.Openings.{FailsToOpen, Opens};
 ghost use Rattle.console_run.specs.Devices.{devices, keying};
 ghost use Rattle.console_run.specs.Causes.{Given};
-ghost use Rattle.console_run.specs.Promises.{Promises, console_name, request_of, start_of};
+ghost use Rattle.console_run.specs.Promises.{Promises, console_name, request_of, start_of, streams_of};
 ghost use Rattle.console_run.specs.Reports.{LastLineEnds};
 ghost use Rattle.console_run.specs.Private.Follows.{IsOpened, RunsScript};
 ghost use Rattle.console_run.specs.Private.Openings.{RefusalEnds, UnopenedEnds, due_after, step_of};
@@ -47,16 +47,18 @@ pub struct Finished<D> {
 
 /// Runs a group (GDOI, RFC 6407) from a script, in its journal on the disk, and reports each entry of its history and then how the run ended.
 ///
-/// The words make a group, `--new DEPTH`, or open the one of the disk, `--open`; `--limit NUMBER` says how far epochs and sequence numbers of a group that is made may
-/// go; `--seed NUMBER` is for who makes the draws. Words of another form touch neither the source nor the disk. The script has lines of at most 200 octets, at most 16,384 of them; the lines before one of
-/// another form are run. A line past a limit ends the run at the first octet past it, and one of another form at its end; of what comes from there on at most
-/// 4,096 octets are taken. Where the source fails, the lines that came whole are run. Where the group is not opened, nothing of the script is taken.
-/// A request that runs out of memory ends the run; where something may have been done by then, it is in the history as refused for that, and else it has no entry.
+/// The words make a group, `--new DEPTH`, or open the one of the disk, `--open`; `--limit NUMBER` says how far epochs and sequence numbers of a group that is
+/// made may go; `--seed NUMBER` is for who makes the draws. Words of another form touch neither the source nor the disk. The script has lines of at most 200
+/// octets, at most 16,384 of them; the lines before one of another form are run. A line past a limit ends the run at the first octet past it, and one of
+/// another form at its end; of what comes from there on at most 4,096 octets are taken. Where the source fails, the lines that came whole are run. Where the
+/// group is not opened, nothing of the script is taken. A request that runs out of memory ends the run; where something may have been done by then, it is in
+/// the history as refused for that, and else it has no entry.
 ///
 /// What is written is the report of the history and the last line of the ending that was due. Where the sink fails or memory runs out,
 /// it is a part of that from its start: all that the opening and the lines before the one begun last gave is reported.
 ///
-/// `Promises` says this of the history, the report, the source, the sink and the disk. It says also which step each entry is, what a crash leaves, and whom the keys serve.
+/// `Promises` says this of the history, the report, the source, the sink and the disk. It says also which step each entry is, what a crash leaves, and whom the
+/// keys serve.
 pub fn console<S: Source, K: Sink, D: Disk, G: Signer + Drop, V: Verifier, R: Draws + Drop>(
     alloc: Global,
     words: &[String],
@@ -69,7 +71,7 @@ pub fn console<S: Source, K: Sink, D: Disk, G: Signer + Drop, V: Verifier, R: Dr
 ) -> Finished<D>
     ensures run { (given : Given) × Promises (devices D.Disk G.Signer V.Verifier verifier.now) (keying signer (R.block_at draws))
         (command_of (map string_bytes words.now))
-        (record { given = given; source_before = S.shows script.old; source_after = S.shows script.new; sink_before = K.shows out.old; sink_after = K.shows out.new })
+        (streams_of given (S.shows script.old) (S.shows script.new) (K.shows out.old) (K.shows out.new))
         (R.place_of draws) result.ending result.history disk result.disk }
     ensures untouched { command_of (map string_bytes words.now) ≡ None → script.new ≡ script.old }
 {
@@ -109,8 +111,8 @@ fn run_command<S: Source, K: Sink, D: Disk, G: Signer + Drop, V: Verifier, R: Dr
 ) -> Finished<D>
     requires { IsWithin command }
     ensures { RunsScript (devices D.Disk G.Signer V.Verifier verifier.now) (keying parts.signer (R.block_at parts.draws))
-        (request_of command.opening) (start_of command parts.disk (R.place_of parts.draws)) (S.shows script.old) (S.shows script.new) (K.shows out.old) (K.shows out.new)
-        result.ending result.history result.disk }
+        (request_of command.opening) (start_of command parts.disk (R.place_of parts.draws))
+        (S.shows script.old) (S.shows script.new) (K.shows out.old) (K.shows out.new) result.ending result.history result.disk }
 {
     match open_group(alloc, command, parts) {
         Ok(group) => run_script(alloc, group, script, out, verifier),
@@ -160,8 +162,8 @@ fn run_script<S: Source, K: Sink, D: Disk, G: Signer + Drop, V: Verifier, R: Dra
     verifier: &V,
 ) -> Finished<D>
     ensures { (start : Start D G) → start.was ≡ K.shows out.old → IsOpened (devices D.Disk G.Signer V.Verifier verifier.now) R.Draws start group →
-        RunsScript (devices D.Disk G.Signer V.Verifier verifier.now) start.by start.request start.run (S.shows script.old) (S.shows script.new) (K.shows out.old)
-        (K.shows out.new) result.ending result.history result.disk }
+        RunsScript (devices D.Disk G.Signer V.Verifier verifier.now) start.by start.request start.run
+        (S.shows script.old) (S.shows script.new) (K.shows out.old) (K.shows out.new) result.ending result.history result.disk }
 {
     let mut run = ScriptRun::begin(group);
     match run.follow(alloc, script, verifier, out) {

@@ -77,8 +77,10 @@ fn run_batch<D: Disk, G: Signer, V: Verifier, R: Draws, K: Sink>(
     out: &mut K,
 ) -> Result<(), Stop>
     ensures { MatchResult result
-        (λ _. Runs D.Disk R.Draws (by_line (devices D.Disk G.Signer V.Verifier verifier.now) lines.Batch) group.old group.new (K.shows out.old) (K.shows out.new))
-        (λ stop. StopsIn (devices D.Disk G.Signer V.Verifier verifier.now) R.Draws lines.Batch stop group.old group.new (K.shows out.old) (K.shows out.new)) }
+        (λ _. Runs D.Disk R.Draws (by_line (devices D.Disk G.Signer V.Verifier verifier.now) lines.Batch) group.old group.new
+        (K.shows out.old) (K.shows out.new))
+        (λ stop. StopsIn (devices D.Disk G.Signer V.Verifier verifier.now) R.Draws lines.Batch stop group.old group.new
+        (K.shows out.old) (K.shows out.new)) }
 {
     group.batch(alloc)?;
     report_last(alloc, group, out)?;
@@ -96,8 +98,10 @@ fn deliver_all<D: Disk, G: Signer, V: Verifier, R: Draws, K: Sink>(
     out: &mut K,
 ) -> Result<(), Stop>
     ensures { MatchResult result
-        (λ _. Runs D.Disk R.Draws (by_line (devices D.Disk G.Signer V.Verifier verifier.now) lines.DeliverAll) group.old group.new (K.shows out.old) (K.shows out.new))
-        (λ stop. StopsIn (devices D.Disk G.Signer V.Verifier verifier.now) R.Draws lines.DeliverAll stop group.old group.new (K.shows out.old) (K.shows out.new)) }
+        (λ _. Runs D.Disk R.Draws (by_line (devices D.Disk G.Signer V.Verifier verifier.now) lines.DeliverAll) group.old group.new
+        (K.shows out.old) (K.shows out.new))
+        (λ stop. StopsIn (devices D.Disk G.Signer V.Verifier verifier.now) R.Draws lines.DeliverAll stop group.old group.new
+        (K.shows out.old) (K.shows out.new)) }
 {
     if group.needs_reopen() {
         group.refuse_deliveries()?;

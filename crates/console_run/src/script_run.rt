@@ -1,7 +1,7 @@
 //! Running a script, octet by octet.
 ghost use Rattle.std.specs.Prelude.{◌≡◌, ◌+◌, ◌<◌, ◌≤◌, [], ◌∷◌, length, true, Err, IfErr, OnOk};
 ghost use Rattle.console_run.specs.declared.endings.Ending.TheVariants.{Whole};
-ghost use Rattle.console_run.specs.Scripts.{are_octets};
+ghost use Rattle.console_run.specs.Scripts.{are_octets, longest_piece, most_lines};
 ghost use Rattle.console_run.specs.Private.Follows.{IsOpened, IsRunTo, IsRunUntil, TakesAndGoesOn, TakesAndStops, at};
 ghost use Rattle.console_run.specs.Devices.{devices};
 ghost use Rattle.console_run.specs.Private.Runs.{Ends, GoesOn, IsReady, Start, StopsAt, StopsAtEnd, StopsWithin, room_left};
@@ -45,7 +45,7 @@ impl<D: Disk, G: Signer, R: Draws> ScriptRun<D, G, R> {
 
     /// The number of the present line, from 1.
     pub(crate) fn line_number(&self) -> u32
-        requires { self.now.count ≤ 16384 }
+        requires { self.now.count ≤ most_lines }
         ensures { result ≡ self.now.count + 1 }
     {
         self.count + 1
@@ -61,10 +61,12 @@ impl<D: Disk, G: Signer, R: Draws> ScriptRun<D, G, R> {
     ) -> Result<(), Stop>
         requires ready { IsReady (at self.old (K.shows out.old)) }
         ensures ready { OnOk result (IsReady (at self.new (K.shows out.new))) }
-        ensures goes { OnOk result (GoesOn (devices D.Disk G.Signer V.Verifier verifier.now) R.Draws (octet ∷ []) (at self.old (K.shows out.old)) (at self.new (K.shows out.new))) }
+        ensures goes { OnOk result (GoesOn (devices D.Disk G.Signer V.Verifier verifier.now) R.Draws (octet ∷ [])
+            (at self.old (K.shows out.old)) (at self.new (K.shows out.new))) }
         ensures nearer { OnOk result (room_left (at self.new (K.shows out.new)) < room_left (at self.old (K.shows out.old))) }
-        ensures count { self.new.count ≤ 16384 }
-        ensures stops { IfErr result (λ stop. StopsAt (devices D.Disk G.Signer V.Verifier verifier.now) R.Draws octet stop (at self.old (K.shows out.old)) (at self.new (K.shows out.new))) }
+        ensures count { self.new.count ≤ most_lines }
+        ensures stops { IfErr result (λ stop. StopsAt (devices D.Disk G.Signer V.Verifier verifier.now) R.Draws octet stop
+            (at self.old (K.shows out.old)) (at self.new (K.shows out.new))) }
         ensures other { result ≡ Err Stop.Source → ⊥ }
     {
         if self.count == MOST_LINES {
@@ -91,13 +93,15 @@ impl<D: Disk, G: Signer, R: Draws> ScriptRun<D, G, R> {
         verifier: &V,
         out: &mut K,
     ) -> Result<(), Stop>
-        requires short { length piece.now ≤ 4096 }
+        requires short { length piece.now ≤ longest_piece }
         requires ready { IsReady (at self.old (K.shows out.old)) }
         ensures ready { OnOk result (IsReady (at self.new (K.shows out.new))) }
-        ensures goes { OnOk result (GoesOn (devices D.Disk G.Signer V.Verifier verifier.now) R.Draws piece.now (at self.old (K.shows out.old)) (at self.new (K.shows out.new))) }
+        ensures goes { OnOk result (GoesOn (devices D.Disk G.Signer V.Verifier verifier.now) R.Draws piece.now
+            (at self.old (K.shows out.old)) (at self.new (K.shows out.new))) }
         ensures nearer { OnOk result (room_left (at self.new (K.shows out.new)) + length piece.now ≤ room_left (at self.old (K.shows out.old))) }
-        ensures count { self.new.count ≤ 16384 }
-        ensures stops { IfErr result (λ stop. StopsWithin (devices D.Disk G.Signer V.Verifier verifier.now) R.Draws piece.now stop (at self.old (K.shows out.old)) (at self.new (K.shows out.new))) }
+        ensures count { self.new.count ≤ most_lines }
+        ensures stops { IfErr result (λ stop. StopsWithin (devices D.Disk G.Signer V.Verifier verifier.now) R.Draws piece.now stop
+            (at self.old (K.shows out.old)) (at self.new (K.shows out.new))) }
         ensures other { result ≡ Err Stop.Source → ⊥ }
         ensures octets { are_octets piece.now ≡ true }
     {
@@ -117,12 +121,14 @@ impl<D: Disk, G: Signer, R: Draws> ScriptRun<D, G, R> {
         out: &mut K,
     ) -> Result<(), Stop>
         requires buffer { 0 < length buffer.old }
-        requires short { length buffer.old ≤ 4096 }
+        requires short { length buffer.old ≤ longest_piece }
         requires ready { IsReady (at self.old (K.shows out.old)) }
         ensures ready { OnOk result (IsReady (at self.new (K.shows out.new))) }
-        ensures goes { OnOk result (TakesAndGoesOn (devices D.Disk G.Signer V.Verifier verifier.now) R.Draws (S.shows script.old) (S.shows script.new) (at self.old (K.shows out.old)) (at self.new (K.shows out.new))) }
-        ensures count { self.new.count ≤ 16384 }
-        ensures stops { IfErr result (λ stop. TakesAndStops (devices D.Disk G.Signer V.Verifier verifier.now) R.Draws stop (S.shows script.old) (S.shows script.new) (at self.old (K.shows out.old)) (at self.new (K.shows out.new))) }
+        ensures goes { OnOk result (TakesAndGoesOn (devices D.Disk G.Signer V.Verifier verifier.now) R.Draws
+            (S.shows script.old) (S.shows script.new) (at self.old (K.shows out.old)) (at self.new (K.shows out.new))) }
+        ensures count { self.new.count ≤ most_lines }
+        ensures stops { IfErr result (λ stop. TakesAndStops (devices D.Disk G.Signer V.Verifier verifier.now) R.Draws stop
+            (S.shows script.old) (S.shows script.new) (at self.old (K.shows out.old)) (at self.new (K.shows out.new))) }
     {
         'pieces: loop {
             let n = match script.take(buffer) {
@@ -145,9 +151,11 @@ impl<D: Disk, G: Signer, R: Draws> ScriptRun<D, G, R> {
         out: &mut K,
     ) -> Result<(), Stop>
         requires ready { IsReady (at self.old (K.shows out.old)) }
-        ensures ends { OnOk result (Ends (devices D.Disk G.Signer V.Verifier verifier.now) R.Draws (at self.old (K.shows out.old)) (at self.new (K.shows out.new))) }
-        ensures count { self.new.count ≤ 16384 }
-        ensures stops { IfErr result (λ stop. StopsAtEnd (devices D.Disk G.Signer V.Verifier verifier.now) R.Draws stop (at self.old (K.shows out.old)) (at self.new (K.shows out.new))) }
+        ensures ends { OnOk result (Ends (devices D.Disk G.Signer V.Verifier verifier.now) R.Draws
+            (at self.old (K.shows out.old)) (at self.new (K.shows out.new))) }
+        ensures count { self.new.count ≤ most_lines }
+        ensures stops { IfErr result (λ stop. StopsAtEnd (devices D.Disk G.Signer V.Verifier verifier.now) R.Draws stop
+            (at self.old (K.shows out.old)) (at self.new (K.shows out.new))) }
         ensures other { result ≡ Err Stop.Source → ⊥ }
     {
         if self.line.is_empty() {
@@ -167,11 +175,15 @@ impl<D: Disk, G: Signer, R: Draws> ScriptRun<D, G, R> {
     ) -> Result<(), Stop>
         requires line { self.old.line.items ≡ [] }
         requires count { self.old.count ≡ 0 }
-        ensures ok { OnOk result ((start : Start D G) → start.was ≡ K.shows out.old → IsOpened (devices D.Disk G.Signer V.Verifier verifier.now) R.Draws start self.old.group →
-            IsRunTo (devices D.Disk G.Signer V.Verifier verifier.now) R.Draws Whole start (S.shows script.old) (S.shows script.new) (at self.new (K.shows out.new))) }
-        ensures count { self.new.count ≤ 16384 }
-        ensures stops { IfErr result (λ stop. (start : Start D G) → start.was ≡ K.shows out.old → IsOpened (devices D.Disk G.Signer V.Verifier verifier.now) R.Draws start self.old.group →
-            IsRunUntil (devices D.Disk G.Signer V.Verifier verifier.now) R.Draws stop start (S.shows script.old) (S.shows script.new) (at self.new (K.shows out.new))) }
+        ensures ok { OnOk result ((start : Start D G) → start.was ≡ K.shows out.old →
+            IsOpened (devices D.Disk G.Signer V.Verifier verifier.now) R.Draws start self.old.group →
+            IsRunTo (devices D.Disk G.Signer V.Verifier verifier.now) R.Draws Whole start
+            (S.shows script.old) (S.shows script.new) (at self.new (K.shows out.new))) }
+        ensures count { self.new.count ≤ most_lines }
+        ensures stops { IfErr result (λ stop. (start : Start D G) → start.was ≡ K.shows out.old →
+            IsOpened (devices D.Disk G.Signer V.Verifier verifier.now) R.Draws start self.old.group →
+            IsRunUntil (devices D.Disk G.Signer V.Verifier verifier.now) R.Draws stop start
+            (S.shows script.old) (S.shows script.new) (at self.new (K.shows out.new))) }
     {
         report_last(alloc, &self.group, out)?;
         let mut buffer = vec![in alloc; 0; PIECE].map_err(NoMemory::from)?;

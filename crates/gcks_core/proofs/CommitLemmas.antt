@@ -63,6 +63,7 @@ module _ {D G R : Type 0} (draws : DrawGhosts R) (core : View D G R) (server : S
     room = stands.room;
     kept = stands.kept;
     due = stands.due;
+    fit = stands.fit;
     queue = more ∙ ap (λ before. before ++ change ∷ []) stands.queue;
     need = stands.need;
     sure = stands.sure;
@@ -79,6 +80,7 @@ module _ {D G R : Type 0} (draws : DrawGhosts R) (core : View D G R) (server : S
     room = stands.room;
     kept = stands.kept;
     due = stands.due;
+    fit = stands.fit;
     queue = same ∙ stands.queue;
     need = stands.need;
     sure = stands.sure;
@@ -98,6 +100,7 @@ module _ {D G R : Type 0} (draws : DrawGhosts R) (core : View D G R) (server : S
     kept = group.keeps;
     due = subst (λ limit. AreDue server.depth limit (server.list ++ made ∷ [])) stands.limit
         (subst (λ depth. AreDue depth core.head.limit (server.list ++ made ∷ [])) stands.depth group.due);
+    fit = group.fit;
     queue = none;
     need = stands.need;
     sure = stands.sure;

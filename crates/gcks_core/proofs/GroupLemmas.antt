@@ -1,6 +1,7 @@
 -- A group that takes in a batch that is due.
 use Rattle.std.proofs.Common.{◌≡◌, ◌∙◌, ℕ, zero, suc, false, Option, None, Some, replicate, ◌+◌, ◌<◌, ◌^◌, List, [], ◌∷◌, ◌++◌, length, refl, sym, ap, subst}
 use Rattle.std.specs.List.{All, list_any}
+use Rattle.std.proofs.lemmas.List.Elements.{All-push}
 use Rattle.std.specs.Prelude.{MatchBool}
 use Rattle.gd_edges.specs.declared.signers.Signer.{Ghosts as SignerGhosts}
 use Rattle.group_terms.specs.declared.values.Drawn.{Drawn}
@@ -10,6 +11,7 @@ use Rattle.group_model.specs.Present.{Present, StandsFor}
 use Rattle.group_model.specs.Places.{Holders, no_holders}
 use Rattle.group_model.specs.Stayed.{is_kept, stayed_at}
 use Rattle.group_model.specs.declared.entries.PushPair.{PushPair}
+use Rattle.group_pushes.specs.Fits.{MadeFits}
 use Rattle.group_pushes.specs.Pairs.{IsPairIfStayed, IsPairOf}
 use Rattle.group_model.specs.Steps.{IsStepOf, stepped}
 use Rattle.group_model.specs.declared.steps.TreeStep.{TreeStep}
@@ -46,7 +48,7 @@ module _ (head : Head) (present : Present) (kept : Kept) (list : List Made) (gro
 
   module _ (made : Made) (due : IsDue head.depth head.limit (batches_made list) (stored_after head.depth (batches_made list) made))
       (limit : ℕ) (step : TreeStep) (is_step : IsStepOf present made.changes limit step) (next : Kept) (same : length next.nodes ≡ length kept.nodes)
-      (keeps : KeepsLast next (list ++ made ∷ [])) where
+      (keeps : KeepsLast next (list ++ made ∷ [])) (fits : MadeFits made) where
     pub taken_in : IsGroupOf head (stepped present step) next (list ++ made ∷ [])
     taken_in = record {
       depth = group.depth;
@@ -54,15 +56,16 @@ module _ (head : Head) (present : Present) (kept : Kept) (list : List Made) (gro
       room = same ∙ group.room;
       keeps = keeps;
       due = due_more head.depth head.limit list made group.due due;
+      fit = All-push MadeFits list made group.fit fits;
     }
 
   pub taken_in_stored : (stored : Stored) → IsDue head.depth head.limit (batches_made list) stored → (limit : ℕ) (step : TreeStep)
       → IsStepOf present stored.batch limit step → (next : Kept) → length next.nodes ≡ length kept.nodes → KeepsLast next (list ++ made_of stored ∷ [])
-      → IsGroupOf head (stepped present step) next (list ++ made_of stored ∷ [])
-  taken_in_stored stored due limit step is_step next same keeps =
+      → MadeFits (made_of stored) → IsGroupOf head (stepped present step) next (list ++ made_of stored ∷ [])
+  taken_in_stored stored due limit step is_step next same keeps fits =
       taken_in (made_of stored)
       (subst (IsDue head.depth head.limit (batches_made list)) (due_is head.depth head.limit (batches_made list) stored due) due)
-      limit step is_step next same keeps
+      limit step is_step next same keeps fits
 
 -- nobody stays where nobody was
 nobody_kept : (before : Holders) (n : ℕ) → list_any (is_kept before) (replicate n None) ≡ false

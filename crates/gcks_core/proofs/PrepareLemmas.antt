@@ -12,7 +12,7 @@ use Rattle.group_values.specs.Values.{Kept, Made, batches_made, ids_of}
 use Rattle.group_model.specs.Drawn.{drawn_at}
 use Rattle.group_model.specs.Present.{Present}
 use Rattle.group_model.specs.Refusals.{why_no_batch}
-use Rattle.group_model.specs.Servers.{IsPreparation, Server, after_draws, coming_positions, refusal_to_batch}
+use Rattle.group_model.specs.Servers.{IsPreparation, Server, after_draws, blocks_to_draw, coming_positions, drawn_unless, refusal_to_batch}
 use Rattle.group_model.specs.Stayed.{sequence_at}
 use Rattle.group_model.specs.Steps.{IsStepOf}
 use Rattle.group_model.specs.declared.entries.Counter.TheVariants.{Epoch, Sequence}
@@ -57,8 +57,9 @@ module _ (place now : ℕ) (ids others : List ℕ) (after : now ≡ place_after 
   pub place_there : now ≡ place_after (blocks_for others) place
   place_there = after ∙ ap (λ (l : List ℕ). place_after (blocks_for l) place) same
 
-  pub moved_there : (n : ℕ) × (n ≤ blocks_for others) × (now ≡ place_after n place)
-  moved_there = (blocks_for others, omega arith, place_there)
+  pub moved_there : (refusal : Option Refusal) → refusal ≡ None → (n : ℕ) × (n ≤ drawn_unless refusal (blocks_for others)) × (now ≡ place_after n place)
+  moved_there refusal none =
+      (blocks_for others, subst (λ (why : Option Refusal). blocks_for others ≤ drawn_unless why (blocks_for others)) (sym none) (omega arith), place_there)
 
 -- values that are those, of positions that are these
 pub values_there : (block : ℕ → List ℕ) (place : ℕ) (ids others : List ℕ) (values had : BatchValues) → had ≡ values
@@ -109,6 +110,7 @@ module _ {D G R : Type 0} (draws : DrawGhosts R) (core : View D G R) (server : S
     room = stands.room;
     kept = stands.kept;
     due = stands.due;
+    fit = stands.fit;
     queue = stands.queue;
     need = stands.need;
     sure = stands.sure;
@@ -144,6 +146,9 @@ module _ {D G R : Type 0} (draws : DrawGhosts R) (core : View D G R) (server : S
     same_positions : positions ≡ coming_positions server
     same_positions i = drawn_at (stands.tree_depth i) (batches ++ queued i ∷ []) (epoch + 1)
 
+    same_blocks : drawn_unless why_not (blocks_for positions) ≡ blocks_to_draw server
+    same_blocks i = drawn_unless (same_refusal i) (blocks_for (same_positions i))
+
     same_after : (n : ℕ) → draws.place_of next ≡ place_after n (draws.place_of core.draws) → draws.place_of next ≡ place_after n server.place
     same_after n there = there ∙ ap (place_after n) stands.place
 
@@ -154,7 +159,7 @@ module _ {D G R : Type 0} (draws : DrawGhosts R) (core : View D G R) (server : S
     pub prepared : (result : Result PreparedBatch Refusal) → IfErr result (λ why. (why ≡ NoMemory) ⊎ (why_not ≡ Some why)) → OnOk result (why_not ≡ None)
         → IfOk result (λ ready. ready.values ≡ values_drawn (draws.block_at core.draws) (draws.place_of core.draws) positions)
         → OnOk result (draws.place_of next ≡ place_after (blocks_for positions) (draws.place_of core.draws))
-        → OnErr result ((n : ℕ) × (n ≤ blocks_for positions) × (draws.place_of next ≡ place_after n (draws.place_of core.draws)))
+        → OnErr result ((n : ℕ) × (n ≤ drawn_unless why_not (blocks_for positions)) × (draws.place_of next ≡ place_after n (draws.place_of core.draws)))
         → IfErr result (λ why. (why ≡ NoMemory → ⊥) → next ≡ core.draws) → IsPrepared result
     prepared (Ok ready) answer allowed values place moved refused = (
       after_draws server (blocks_for (coming_positions server)),
@@ -169,7 +174,7 @@ module _ {D G R : Type 0} (draws : DrawGhosts R) (core : View D G R) (server : S
     )
     prepared (Err why) (inl none) allowed values place (n, few, there) refused = (
       after_draws server n,
-      inr (none, (n, subst (λ (ids : List ℕ). n ≤ blocks_for ids) same_positions few, refl)),
+      inr (none, (n, subst (λ most. n ≤ most) same_blocks few, refl)),
       stands_drawn (place_after n server.place) (same_after n there),
     )
     prepared (Err why) (inr not) allowed values place moved refused =

@@ -33,6 +33,7 @@ module _ {D G R : Type 0} (draws : DrawGhosts R) (core : View D G R) where
     room = group.room ∙ ap (λ depth. 2 ^ (depth + 1)) group.depth;
     kept = group.keeps;
     due = group.due;
+    fit = group.fit;
     queue = refl;
     need = refl;
     sure = λ _. refl;
@@ -51,6 +52,7 @@ module _ {D G R : Type 0} (draws : DrawGhosts R) (core : View D G R) where
       keeps = stands.kept;
       due = subst (λ depth. AreDue depth core.head.limit server.list) (sym stands.depth)
           (subst (λ limit. AreDue server.depth limit server.list) (sym stands.limit) stands.due);
+      fit = stands.fit;
     }
 
     pub same_holders : core.tree.holders ≡ members_now server

@@ -1,10 +1,12 @@
 -- What was read of a journal, batch after batch.
 use Rattle.std.proofs.Common.{◌≡◌, ◌∙◌, ℕ, ◌+◌, ◌^◌, false, List, [], ◌∷◌, ◌++◌, length, Option, None, Some, refl, sym, ap, subst}
+use Rattle.std.proofs.lemmas.List.Elements.{All-nil}
 use Rattle.gd_disk.specs.Disks.{Knows}
 use Rattle.gd_disk.specs.Moments.{shown, Keeps, LeavesOnly}
 use Rattle.gd_disk.specs.declared.disks.Disk.{Ghosts}
 use Rattle.group_values.specs.Values.{Kept, KeepsLast, Made, batches_made}
 use Rattle.group_model.specs.Present.{Present, StandsFor}
+use Rattle.group_pushes.specs.Fits.{MadeFits}
 use Rattle.group_records.specs.declared.batches.Stored.{Stored}
 use Rattle.group_records.specs.declared.heads.Head.{Head}
 use Rattle.tree_store.specs.Groups.{IsDue, IsGroupTo, batches_of}
@@ -30,6 +32,7 @@ module _ (head : Head) (present : Present) (kept : Kept) where
     room = room ∙ ap (λ depth. 2 ^ (depth + 1)) (sym same);
     keeps = keeps;
     due = tt;
+    fit = All-nil MadeFits;
   }
 
   pub walk_before : (stored : Stored) (list : List Made) → IsWalk head present kept (Some stored) list → Before head present kept stored list

@@ -15,6 +15,7 @@ ghost use Rattle.gcks_core.specs.Stored.{stored_after, stored_list};
 use crate::{CoreOutput, Prepared, Refusal};
 use gd_disk::Disk;
 use group_model::PresentTree;
+use group_pushes::values_fit;
 use group_values::KeptValues;
 use tree_store::{TreeStore, a_file_has_one_group};
 
@@ -54,6 +55,7 @@ pub(crate) fn store_batch<D: Disk>(
         step,
         replies: _,
     } = ready;
+    values_fit(&values);
     match store.commit(&text) {
         Ok(()) => {
             tree.advance(step);

@@ -7,6 +7,7 @@ ghost use Rattle.group_values.specs.Values.{Made};
 ghost use Rattle.group_model.specs.Places.{is_member};
 ghost use Rattle.group_model.specs.Servers.{Server, IsJoin, IsLeave, IsPreparation, IsStoring, IsReopening, opened_server, coming_batch, with_batch, in_doubt, halted};
 ghost use Rattle.group_model.specs.declared.entries.Refusal.TheVariants.{NeedsReopen, DiskFault, NotAJournal, NoMemory};
+ghost use Rattle.group_pushes.specs.Fits.{ValuesFit};
 ghost use Rattle.group_pushes.specs.Pairs.{IsPairIfStayed};
 ghost use Rattle.tree_store.specs.Groups.{IsGroup, IsNoGroup};
 ghost use Rattle.gcks_core.specs.Prepares.{IsCoreOutputOf, IsReadyFor, values_in};
@@ -97,6 +98,7 @@ impl<D: Disk, G: Signer, R: Draws> Core<D, G, R> {
             (next : Server) × IsPreparation (R.block_at self.old.draws) server (values_in result) next × Stands R.Draws self.new next }
         ensures ready { (server : Server) → Stands R.Draws self.new server →
             IfOk result (IsReadyFor G.Signer self.new.signer self.new.head self.new.tree self.new.queue server.list) }
+        ensures fit { IfOk result (λ prepared. ValuesFit prepared.values) }
         ensures open { OnOk result (self.new.need ≡ false) }
         ensures blocks { (k : ℕ) → R.block_at self.new.draws k ≡ R.block_at self.old.draws k }
         ensures rest { self.new ≡ record self.old { draws = self.new.draws } }

@@ -3,10 +3,12 @@ ghost use Rattle.std.specs.Prelude.{◌≡◌, ◌≤◌, ℕ, true, false, Err,
 ghost use Rattle.gd_disk.specs.Disks.{Knows, Only};
 ghost use Rattle.gd_disk.specs.Moments.{shown, LeavesOnly};
 ghost use Rattle.group_terms.specs.Changes.{is_pending};
+ghost use Rattle.group_terms.specs.Octets.{AreOctets};
 ghost use Rattle.group_values.specs.Drawing.{next_place};
 ghost use Rattle.group_model.specs.Places.{is_member, member_at, member_count, place_in};
 ghost use Rattle.group_model.specs.Servers.{Server};
 ghost use Rattle.group_model.specs.declared.entries.Refusal.TheVariants.{NeedsReopen};
+ghost use Rattle.group_records.specs.Fits.{HeadFits};
 ghost use Rattle.group_keys.specs.Replies.{IsKeyedOf};
 ghost use Rattle.gcks_core.specs.Stands.{Stands};
 ghost use Rattle.gcks_core.specs.Stored.{IsOnDisk};
@@ -15,7 +17,9 @@ use crate::{Core, GroupName, Keyed, LkhId, MemberName, Parts, Refusal, SignKind,
 use gd_disk::Disk;
 use gd_edges::{Draws, Signer};
 use group_keys::keyed;
+use group_records::head_fits;
 use group_terms::Batch;
+use kd_wire::spi_fits;
 
 impl<D: Disk, G: Signer, R: Draws> Core<D, G, R> {
     /// Says what is so between two calls: some server is this core, and where it does not have to be opened again, its journal has the batches of that server, and
@@ -27,6 +31,16 @@ impl<D: Disk, G: Signer, R: Draws> Core<D, G, R> {
             Knows (shown D.Disk self.now.disk) (λ file. LeavesOnly D.Disk self.now.disk self.now.disk (λ c. c ≡ file)) }
     {
         self.store.rests();
+    }
+
+    /// Its head is one that a journal can have, as its type says.
+    pub fn head_fits(&self)
+        ensures fits { HeadFits self.now.head }
+        ensures octets { AreOctets self.now.head.spi }
+    {
+        self.tree.depth();
+        head_fits(&self.head);
+        spi_fits(&self.head.spi);
     }
 
     /// The name of the group.

@@ -12,11 +12,13 @@ ghost use Rattle.group_model.specs.Drawn.{drawn_at};
 ghost use Rattle.group_model.specs.Places.{Fits};
 ghost use Rattle.group_model.specs.Present.{StandsFor};
 ghost use Rattle.group_model.specs.Refusals.{why_no_batch};
+ghost use Rattle.group_model.specs.Servers.{drawn_unless};
 ghost use Rattle.group_model.specs.Stayed.{sequence_at};
 ghost use Rattle.group_model.specs.Steps.{IsStepOf};
 ghost use Rattle.group_model.specs.declared.entries.Refusal.TheVariants.{NoMemory as OutOfMemory};
 ghost use Rattle.group_keys.specs.Drawn.{AreDrawn};
 ghost use Rattle.group_keys.specs.Replies.{IsKeyedOf};
+ghost use Rattle.group_pushes.specs.Fits.{ValuesFit};
 ghost use Rattle.gcks_core.specs.Prepares.{IsReadyFor};
 ghost use Rattle.gcks_core.specs.Private.Cores.{IsGroupOf};
 
@@ -26,10 +28,9 @@ use gd_disk::Disk;
 use gd_edges::{Draws, Signer};
 use group_keys::keyed_after;
 use group_model::{Counter, PresentTree, PushPair, TreeStep, each_leaf_has_its_place};
-use group_pushes::write_pair;
+use group_pushes::{values_fit, write_pair};
 use group_terms::{Batch, BatchValues, Change, List, NoMemory, Wrap};
 use group_values::{KeptValues, draw_values};
-use kd_wire::traffic_fits;
 use std::alloc::Global;
 use tree_store::{Head, TreeStore};
 
@@ -55,16 +56,20 @@ pub(crate) fn prepare_batch<D: Disk, G: Signer, R: Draws>(
         IfOk result (IsReadyFor G.Signer signer.now head.now tree.now batch.now list) }
     ensures values { (list : List Made) → IsGroupOf head.now tree.now kept.now list → IfOk result (λ prepared. prepared.values
         ≡ values_drawn (R.block_at draws.old) (R.place_of draws.old) (drawn_at tree.now.depth (batches_made list ++ batch.now ∷ []) (length list + 1))) }
+    ensures fit { IfOk result (λ prepared. ValuesFit prepared.values) }
     ensures place { (list : List Made) → IsGroupOf head.now tree.now kept.now list → OnOk result (R.place_of draws.new
         ≡ place_after (blocks_for (drawn_at tree.now.depth (batches_made list ++ batch.now ∷ []) (length list + 1))) (R.place_of draws.old)) }
     ensures moved { (list : List Made) → IsGroupOf head.now tree.now kept.now list → OnErr result ((n : ℕ)
-        × (n ≤ blocks_for (drawn_at tree.now.depth (batches_made list ++ batch.now ∷ []) (length list + 1))) × (R.place_of draws.new ≡ place_after n (R.place_of draws.old))) }
+        × (n ≤ drawn_unless (why_no_batch false head.now.limit (length list) (sequence_at tree.now.depth (batches_made list) (length list))
+        (sequence_at tree.now.depth (batches_made list ++ batch.now ∷ []) (length list + 1)))
+        (blocks_for (drawn_at tree.now.depth (batches_made list ++ batch.now ∷ []) (length list + 1))))
+        × (R.place_of draws.new ≡ place_after n (R.place_of draws.old))) }
     ensures blocks { (k : ℕ) → R.block_at draws.new k ≡ R.block_at draws.old k }
     ensures refused { IfErr result (λ why. (why ≡ OutOfMemory → ⊥) → draws.new ≡ draws.old) }
 {
     let step = next_step(alloc, tree, batch, head.limit)?;
     let values = draw_values(alloc, draws, step.drawn())?;
-    traffic_fits(&values.traffic);
+    values_fit(&values);
     Ok(make_ready::<D, G>(alloc, tree, kept, batch, head, signer, step, values)?)
 }
 

@@ -20,7 +20,7 @@ use crate::{PushPair, Refusal};
 use gd_disk::Disk;
 use gd_edges::Signer;
 use group_model::{PresentTree, TreeStep};
-use group_pushes::write_pair;
+use group_pushes::{values_fit, write_pair};
 use group_terms::NoMemory;
 use group_values::KeptValues;
 use std::alloc::Global;
@@ -53,7 +53,7 @@ pub(crate) fn read_all<D: Disk, G: Signer>(
     requires begun { IsReadTo D.Disk store.old.disk store.old [] }
     requires open { store.old.closed ≡ false }
     ensures found { IfOk result (λ found. (list : List Made) × IsGroupOf found.head found.tree found.kept list × IsAtEnd D.Disk store.new found.head list
-        × IsPairIfStayed G.Signer signer.now found.head.depth found.head.spi list found.resent) }
+        × IsPairIfStayed G.Signer signer.now found.head.depth found.head.spi list found.resent × (1 ≤ found.head.limit)) }
     ensures durable { OnOk result (Knows (shown D.Disk store.new.disk) (λ file. Only file (D.may_leave store.new.disk))) }
     ensures same { shown D.Disk store.new.disk ≡ shown D.Disk store.old.disk }
     ensures any_moment { Knows (shown D.Disk store.old.disk) (λ file. LeavesOnly D.Disk store.old.disk store.new.disk (λ c. c ≡ file)) }
@@ -80,7 +80,7 @@ pub(crate) fn read_again<D: Disk, G: Signer>(
     signer: &G,
 ) -> Result<Found, JournalRefusal>
     ensures found { IfOk result (λ found. (list : List Made) × IsGroupOf found.head found.tree found.kept list × IsAtEnd D.Disk store.new found.head list
-        × IsPairIfStayed G.Signer signer.now found.head.depth found.head.spi list found.resent) }
+        × IsPairIfStayed G.Signer signer.now found.head.depth found.head.spi list found.resent × (1 ≤ found.head.limit)) }
     ensures durable { (result ≡ Err DiskFault → ⊥) → Knows (shown D.Disk store.new.disk) (λ file. Only file (D.may_leave store.new.disk)) }
     ensures same { shown D.Disk store.new.disk ≡ shown D.Disk store.old.disk }
     ensures any_moment { Knows (shown D.Disk store.old.disk) (λ _. LeavesOnly D.Disk store.old.disk store.new.disk (D.may_leave store.old.disk)) }
@@ -180,6 +180,7 @@ fn pair_of<G: Signer>(
         IfOk result (IsPairIfStayed G.Signer signer.now head.now.depth head.now.spi (before ++ made_of stored.now ∷ [])) }
 {
     let step = due_step(alloc, tree, stored, head.limit)?;
+    values_fit(&stored.values);
     renews_few(tree, &stored.batch);
     let pair = write_pair(alloc, tree, &step, kept, &stored.values, &head.spi, signer)?;
     tree.advance(step);
@@ -217,6 +218,7 @@ fn take_in(
         OnOk result (IsGroupOf head.now tree.new kept.new (before ++ made_of stored.now ∷ [])) }
 {
     let step = due_step(alloc, tree, stored, head.limit)?;
+    values_fit(&stored.values);
     tree.advance(step);
     kept.take(&stored.values);
     Ok(())

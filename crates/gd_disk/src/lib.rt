@@ -18,5 +18,3 @@ mod mem_calls;
 mod mem_disks;
 mod octets;
 mod places;
-#[cfg(test)]
-mod tests;

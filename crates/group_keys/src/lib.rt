@@ -6,5 +6,3 @@ pub use replies::{keyed, keyed_after};
 
 mod laws;
 mod replies;
-#[cfg(test)]
-mod tests;

@@ -26,7 +26,7 @@ use Rattle.group_model.proofs.EpochLemmas.{holders_at-all, holders_at-append}
 use Rattle.group_model.proofs.FewLemmas.{renewed_few}
 use Rattle.group_model.proofs.JoinedLemmas.{joined_places}
 use Rattle.group_model.proofs.OnceLemmas.{AreOnce-at}
-use Rattle.group_model.proofs.PlanLemmas.{after_batch, StandsFor-next}
+use Rattle.group_model.proofs.PresentLemmas.{after_batch, StandsFor-next}
 
 not_nil : (wraps : List Wrap) (wrap : Wrap) → is_nil (wraps ++ wrap ∷ []) ≡ false
 not_nil [] wrap = refl

@@ -13,7 +13,7 @@ pub mod JoinedLemmas
 pub mod OnceLemmas
 pub mod PathLemmas
 pub mod PlaceLemmas
-pub mod PlanLemmas
+pub mod PresentLemmas
 pub mod QueueLemmas
 pub mod RiseLemmas
 pub mod RowLemmas

@@ -1,5 +1,5 @@
 -- Which answers the group may give: legal histories.
-use Rattle.std.specs.Prelude.{◌≡◌, ℕ, ◌+◌, ◌≤◌, ◌⊎◌, Bool, true, false, List, [], ◌∷◌, ◌++◌, length, All, Decides, Option, None, Some, if◌then◌else◌}
+use Rattle.std.specs.Prelude.{◌≡◌, ℕ, ◌+◌, ◌≤◌, ◌⊎◌, Bool, true, false, List, [], ◌∷◌, ◌++◌, length, Decides, Option, None, Some, if◌then◌else◌}
 use Rattle.std.specs.List.{list_any}
 use Rattle.group_terms.specs.Names.{Name}
 use Rattle.group_terms.specs.declared.changes.Change.{Change}
@@ -7,7 +7,6 @@ use Rattle.group_terms.specs.declared.keys.KeyName.TheVariants.{Traffic}
 use Rattle.group_model.specs.declared.entries.Entry.{Entry}
 use Rattle.group_model.specs.declared.entries.Outside.{Outside}
 use Rattle.group_model.specs.declared.entries.Output.{Output}
-use Rattle.group_model.specs.declared.entries.SentReply.{SentReply}
 use Rattle.group_model.specs.declared.entries.Asked.{Asked}
 use Rattle.group_model.specs.declared.entries.Asked.TheVariants.{Create, Begin, Join, Leave, Batch, Halt, Reopen, Show, Keep, Deliver, DeliverAll, Key, Derive}
 use Rattle.group_model.specs.declared.entries.Answer.{Answer}
@@ -39,11 +38,6 @@ module _ (need : Bool) (depth : ℕ) (holders : Holders) (queue : List Change) w
 
   abbrev pub answer_to_leave : Name → Answer
   answer_to_leave m = unless_refused (why_no_leave need depth holders queue m) Done
-
--- no datagram is made of what a batch puts out
-pub record HasNoDatagrams (output : Output) : Type 0 where
-  pub pushes : output.pushes ≡ None
-  pub replies : All (λ (reply : SentReply). reply.datagram ≡ []) output.replies
 
 -- What the last batch of a list puts out: the epoch that it makes, the number of the last push, how many members there are then, the
 -- encryptions of the epoch, and what the reply to each who comes in says. Nothing is said of datagrams here.

@@ -4,11 +4,9 @@ use Rattle.std.specs.List.{range_with_len}
 use Rattle.group_terms.specs.Names.{Name}
 use Rattle.group_terms.specs.declared.changes.Change.{Change}
 use Rattle.group_terms.specs.declared.keys.KeyName.{KeyName}
-use Rattle.group_model.specs.declared.entries.Output.{Output}
 use Rattle.group_model.specs.Places.{Holders, IsValid, holders_of}
 use Rattle.group_model.specs.Fresh.{last_change, key_path}
 use Rattle.group_model.specs.Stayed.{sequence_at}
-use Rattle.group_model.specs.Legal.{IsOutputOf, HasNoDatagrams}
 
 -- what contracts see of it: how deep it is, the present epoch, the number of the last push, who has which leaf, and for each number up to
 -- that of the last leaf the last epoch in which this position was fresh; number 0 is no position, and never was
@@ -45,17 +43,3 @@ IsTreeAfter tree batch limit after =
 -- the keys of m at the present epoch, whatever list the tree stands for
 abbrev pub IsPathOf : Present → Name → List KeyName → Type 0
 IsPathOf tree m names = (batches : List (List Change)) → StandsFor tree batches → names ≡ key_path tree.depth batches tree.epoch m
-
--- what contracts see of a plan: the tree after the batch, and what the batch puts out
-pub record Planned : Type 0 where
-  pub tree : Present
-  pub output : Output
-
--- The plan is that of closing this batch, whatever list the tree stands for. It makes one epoch, and uses two numbers of pushes at the most.
-pub record IsPlanOf (tree : Present) (batch : List Change) (plan : Planned) : Type 0 where
-  pub depth : plan.tree.depth ≡ tree.depth
-  pub epoch : plan.tree.epoch ≡ tree.epoch + 1
-  pub pushes : plan.tree.sequence ≤ tree.sequence + 2
-  pub next : (batches : List (List Change)) → StandsFor tree batches → StandsFor plan.tree (batches ++ batch ∷ [])
-  pub output : (batches : List (List Change)) → StandsFor tree batches → IsOutputOf tree.depth (batches ++ batch ∷ []) batch plan.output
-  pub plain : HasNoDatagrams plan.output

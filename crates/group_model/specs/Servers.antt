@@ -24,6 +24,11 @@ pub record Server : Type 0 where
   pub queue : List Change
   pub place : ℕ
 
+-- so many blocks are drawn for a batch, and none where there is a reason to refuse it
+abbrev pub drawn_unless : Option Refusal → ℕ → ℕ
+drawn_unless None n = n
+drawn_unless (Some why) n = 0
+
 -- one that was just opened, with these batches
 abbrev pub opened_server : ℕ → ℕ → List Made → ℕ → Server
 opened_server depth limit list place = record { depth = depth; limit = limit; list = list; doubt = None; need = false; queue = []; place = place }
@@ -62,6 +67,10 @@ module _ (server : Server) where
 
   abbrev pub refusal_to_batch : Option Refusal
   refusal_to_batch = why_no_batch server.need server.limit present_epoch present_sequence coming_sequence
+
+  -- how many blocks are drawn for it
+  abbrev pub blocks_to_draw : ℕ
+  blocks_to_draw = drawn_unless refusal_to_batch (blocks_for coming_positions)
 
   -- a change waits
   abbrev pub with_change : Change → Server
@@ -116,13 +125,14 @@ abbrev pub IsLeave : Server → Name → Result (Unit {0}) Refusal → Server �
 IsLeave server m (Ok done) next = (refusal_to_leave server m ≡ None) × (next ≡ with_change server (Out m))
 IsLeave server m (Err why) next = (refusal_to_leave server m ≡ Some why) × (next ≡ server)
 
--- What waits is to be the next batch, and draws have these blocks. Where no memory is left, some blocks may be drawn.
+-- What waits is to be the next batch, and draws have these blocks. Where no memory is left, some blocks may be drawn, but none where the batch would be
+-- refused.
 abbrev pub IsPreparation : (ℕ → List ℕ) → Server → Result BatchValues Refusal → Server → Type 0
 IsPreparation block server (Ok values) next =
     (refusal_to_batch server ≡ None) × (values ≡ coming_values server block) × (next ≡ after_draws server (blocks_for (coming_positions server)))
 IsPreparation block server (Err why) next =
     ((refusal_to_batch server ≡ Some why) × (next ≡ server))
-    ⊎ ((why ≡ NoMemory) × ((n : ℕ) × (n ≤ blocks_for (coming_positions server)) × (next ≡ after_draws server n)))
+    ⊎ ((why ≡ NoMemory) × ((n : ℕ) × (n ≤ blocks_to_draw server) × (next ≡ after_draws server n)))
 
 -- a batch with these values, which is ready, is to be stored
 abbrev pub IsStoring : {A : Type 0} → Server → BatchValues → Result A Refusal → Server → Type 0

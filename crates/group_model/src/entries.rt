@@ -24,7 +24,7 @@ pub enum Asked {
     Leave { member: MemberName },
     /// To close the batch: the pending changes make the next epoch.
     Batch,
-    /// To answer nothing until it is opened again.
+    /// To refuse, until it is opened again, whatever changes it, shows it or gives all members their pushes.
     Halt,
     /// To open it again, from the journal that it has.
     Reopen,

@@ -35,19 +35,6 @@ pub(crate) fn place_of(holders: &[Holder], member: &MemberName) -> Option<usize>
     holders.iter().position(|holder| is_held_by(holder, member))
 }
 
-/// The leaves that somebody has.
-pub(crate) fn held(alloc: Global, depth: u8, holders: &[Holder]) -> Result<LeafMarks, NoMemory>
-    requires not_deep { depth ≤ 9 }
-    requires leaves { length holders.now ≡ 2 ^ depth }
-    ensures { IfOk result (λ marks. marks ≡ record { depth = depth; leaves = map is_some holders.now }) }
-{
-    let mut leaves = List::with_room(alloc, holders.len())?;
-    for holder in holders {
-        leaves.push(holder.is_some())?;
-    }
-    LeafMarks::of(alloc, depth, leaves.as_slice())
-}
-
 /// The leaves that nobody has.
 pub(crate) fn free(alloc: Global, depth: u8, holders: &[Holder]) -> Result<LeafMarks, NoMemory>
     requires not_deep { depth ≤ 9 }

@@ -18,8 +18,6 @@ pub use laws::{
     members_never_share_a_leaf, no_name_has_two_leaves, places_are_held,
     places_stay_while_members_stay,
 };
-pub use pending::PendingChanges;
-pub use plans::BatchPlan;
 pub use present::PresentTree;
 pub use steps::TreeStep;
 
@@ -32,16 +30,8 @@ mod holders;
 mod indexes;
 mod laws;
 mod paths;
-mod pending;
-#[cfg(test)]
-mod plan_tests;
-mod plans;
 mod present;
 mod seats;
 mod steps;
-#[cfg(test)]
-mod test_texts;
-#[cfg(test)]
-mod tests;
 mod trees;
 mod wraps;

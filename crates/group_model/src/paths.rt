@@ -18,11 +18,7 @@ impl PresentTree {
     }
 
     /// The same, from what the tree has.
-    pub(crate) fn path_now(
-        &self,
-        alloc: Global,
-        member: &MemberName,
-    ) -> Result<List<KeyName>, NoMemory>
+    fn path_now(&self, alloc: Global, member: &MemberName) -> Result<List<KeyName>, NoMemory>
         ensures { IfOk result (λ names. names ≡ path_in self.now member.now) }
     {
         match self.place(member) {
@@ -46,7 +42,7 @@ impl PresentTree {
     }
 
     /// The key that a position has.
-    pub(crate) fn key(&self, id: LkhId) -> KeyName
+    fn key(&self, id: LkhId) -> KeyName
         ensures { result ≡ key_in self.now.changes id }
     {
         let made = self.last(id).unwrap_or(0);

@@ -150,7 +150,7 @@ fn wrap_all(
     Ok(())
 }
 
-pub(crate) fn is_made(made: Option<u32>, epoch: u32) -> bool
+fn is_made(made: Option<u32>, epoch: u32) -> bool
     ensures { result ≡ is_made_in epoch made }
 {
     match made {

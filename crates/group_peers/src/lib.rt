@@ -9,5 +9,3 @@ mod indexes;
 mod laws;
 mod members;
 mod peers;
-#[cfg(test)]
-mod tests;

@@ -1,3 +1,4 @@
+pub mod Fits
 pub mod Laws
 pub mod Pairs
 pub mod Private

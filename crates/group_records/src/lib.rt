@@ -16,5 +16,3 @@ mod heads;
 mod laws;
 mod names;
 mod nodes;
-#[cfg(test)]
-mod tests;

@@ -16,8 +16,8 @@ use Rattle.group_values.specs.Drawing.{blocks_for}
 use Rattle.group_values.specs.Values.{Made, batches_made}
 use Rattle.group_model.specs.Legal.{IsOutputOf, is_disk_fault}
 use Rattle.group_model.specs.Replies.{replies_to, says_of}
-use Rattle.group_model.specs.Servers.{IsPreparation, IsStoring, Server}
-use Rattle.group_model.specs.Servers.{after_draws, coming_batch, coming_positions, coming_values, in_doubt, refusal_to_batch, with_batch}
+use Rattle.group_model.specs.Servers.{IsPreparation, IsStoring, Server, after_draws, blocks_to_draw, coming_batch, coming_positions, coming_values}
+use Rattle.group_model.specs.Servers.{drawn_unless, in_doubt, refusal_to_batch, with_batch}
 use Rattle.group_model.specs.Stayed.{sequence_at}
 use Rattle.group_model.specs.Wraps.{wraps_at}
 use Rattle.group_model.specs.declared.entries.Answer.{Answer}
@@ -28,6 +28,7 @@ use Rattle.group_model.specs.declared.entries.Refusal.{Refusal}
 use Rattle.group_model.specs.declared.entries.Refusal.TheVariants.{DiskFault, NeedsReopen, NoMemory, Spent}
 use Rattle.group_model.specs.declared.entries.SentReply.{SentReply}
 use Rattle.group_peers.specs.declared.members.Peer.{Peer}
+use Rattle.group_pushes.specs.Fits.{MadeFits, ValuesFit}
 use Rattle.group_pushes.specs.Pairs.{IsPairIfStayed}
 use Rattle.tree_store.specs.Groups.{IsGroup}
 use Rattle.gcks_core.specs.declared.outputs.CoreOutput.{CoreOutput}
@@ -111,7 +112,7 @@ module _ {D G R : Type 0} (d : DiskGhosts D) (g : SignerGhosts G) (draws : DrawG
 
     -- no memory was left
     memory_ends : (server : Server) (peers : List Peer) → HasJournal d (at_run old server peers)
-        → (n : ℕ) → n ≤ blocks_for (coming_positions server) → Stands draws mid (after_draws server n)
+        → (n : ℕ) → n ≤ blocks_to_draw server → Stands draws mid (after_draws server n)
         → (next : Run D) × Closes d g draws old (Refused NoMemory) mid (at_run old server peers) next
     memory_ends server peers journal n few stands = (
       at_run old (after_draws server n) peers,
@@ -131,7 +132,9 @@ module _ {D G R : Type 0} (d : DiskGhosts D) (g : SignerGhosts G) (draws : DrawG
             → (next : Run D) × Closes d g draws old (Refused NoMemory) mid (at_run old server peers) next
         each server peers stands journal =
             let step = prepares server stands in
-            memory_ends server peers journal (blocks_for (coming_positions server)) (omega arith) (subst (Stands draws mid) step.1.2 step.2)
+            let all = blocks_for (coming_positions server) in
+            let few : all ≤ blocks_to_draw server = subst (λ reason. all ≤ drawn_unless reason all) (sym step.1.0) (omega arith) in
+            memory_ends server peers journal all few (subst (Stands draws mid) step.1.2 step.2)
 
     pub is_refused : (why : Refusal) → Prepares old (Err why) mid → ClosesEach d g draws old (Refused why) mid
     is_refused why prepares = by_core old (Refused why) mid each
@@ -161,7 +164,7 @@ module _ {D G R : Type 0} (d : DiskGhosts D) (g : SignerGhosts G) (draws : DrawG
                 peers = refl;
               },
             ))
-            (λ (ran : (why ≡ NoMemory) × ((n : ℕ) × (n ≤ blocks_for (coming_positions server)) × (step.0 ≡ after_draws server n))).
+            (λ (ran : (why ≡ NoMemory) × ((n : ℕ) × (n ≤ blocks_to_draw server) × (step.0 ≡ after_draws server n))).
             subst (λ at. (next : Run D) × Closes d g draws old (Refused at) mid run next) (sym ran.0)
             (memory_ends server peers journal ran.1.0 ran.1.1 (subst (Stands draws mid) ran.1.2 step.2)))
             step.1
@@ -173,6 +176,7 @@ module _ {D G R : Type 0} (d : DiskGhosts D) (g : SignerGhosts G) (draws : DrawG
   drawn_for server = after_draws server (blocks_for (coming_positions server))
 
   module _ (mid new : CoreView D G R) (before : R) (ready : PreparedBatch) (prepares : Prepares (record mid { draws = before }) (Ok ready.values) mid)
+      (fit : ValuesFit ready.values)
       (counts_now : (t : ℕ) (c : List ℕ) → t ≤ d.moment new.disk → d.may_leave new.disk c → d.left_since new.disk t c)
       (keeps : Keeps d mid.disk new.disk) (same_head : new.head ≡ mid.head)
       (any_moment : (server : Server) → Stands draws mid server → Knows (shown d mid.disk) (λ file. IsFileOf mid.head server file
@@ -193,6 +197,9 @@ module _ {D G R : Type 0} (d : DiskGhosts D) (g : SignerGhosts G) (draws : DrawG
 
       same_made : made_ready ≡ made_drawn
       same_made = ap (coming_batch server) (prepares server stands).1.1
+
+      fits_drawn : MadeFits made_drawn
+      fits_drawn = subst MadeFits same_made fit
 
       stands_drawn : Stands draws mid (drawn_for server)
       stands_drawn = let step = prepares server stands in subst (Stands draws mid) step.1.2 step.2
@@ -299,6 +306,7 @@ module _ {D G R : Type 0} (d : DiskGhosts D) (g : SignerGhosts G) (draws : DrawG
                 record {
                   answered = inl (record {
                     granted = granted server stands;
+                    fit = fits_drawn server stands;
                     output = with_replies output replies;
                     puts_out = record { says = out.says; pushes = out.pushes; no_datagrams = out.no_datagrams };
                     answers = refl;
@@ -363,6 +371,7 @@ module _ {D G R : Type 0} (d : DiskGhosts D) (g : SignerGhosts G) (draws : DrawG
                 record {
                   answered = inr (inl (record {
                     granted = granted server stands;
+                    fit = fits_drawn server stands;
                     answers = refl;
                     beside = refl;
                     now = refl;

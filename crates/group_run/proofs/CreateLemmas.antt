@@ -17,7 +17,7 @@ use Rattle.group_records.specs.declared.heads.Head.{Head}
 use Rattle.tree_store.specs.Groups.{HasGroup, IsGroup, MakesGroup}
 use Rattle.gcks_core.specs.Stands.{Stands}
 use Rattle.gcks_core.specs.Views.{View as CoreView}
-use Rattle.group_steps.specs.Openings.{IsCreation}
+use Rattle.group_steps.specs.Openings.{IsCreation, IsHead}
 use Rattle.group_steps.specs.Runs.{Run, no_run, with_disk}
 use Rattle.group_run.specs.Entries.{noted}
 use Rattle.group_run.specs.Openings.{IsRefusedBy, Opens}
@@ -41,14 +41,14 @@ module _ {D : Type 0} (d : DiskGhosts D) (disk : D) (name : Name) (limit depth p
   }
 
   -- it is made
-  pub creates : {G R : Type 0} (draws : DrawGhosts R) (core : CoreView D G R) → core.head ≡ head_by
+  pub creates : {G R : Type 0} (draws : DrawGhosts R) (core : CoreView D G R) → core.head ≡ head_by → IsHead core.head
       → Stands draws core (opened_server depth limit [] (next_place place))
       → Knows (shown d disk) (λ _. HasGroup (shown d core.disk) core.head [])
       → Knows (shown d disk) (λ _. (c : List ℕ) → d.may_leave core.disk c → IsGroup c core.head [])
       → Knows (shown d disk) (λ _. MakesGroup d head_by disk core.disk) → d.faults core.disk ≡ d.faults disk → Keeps d disk core.disk
       → Opens d draws (IsCreation d block depth) (Create depth) (no_run disk name limit place)
       (just_opened core (noted (Create depth) (Opened (seen_group depth []) None) place))
-  creates draws core same_head stands made durable moments unfaulted keeps =
+  creates draws core same_head is_head stands made durable moments unfaulted keeps =
       let after = run_made core.disk in
       let journal = has_made d disk after keeps (inl refl) (λ file is. subst (λ (h : Head). HasGroup (shown d core.disk) h []) same_head (made file is))
       (λ file is c left. subst (λ (h : Head). IsGroup c h []) same_head (durable file is c left)) in
@@ -65,7 +65,7 @@ module _ {D : Type 0} (d : DiskGhosts D) (disk : D) (name : Name) (limit depth p
             shallow = shallow;
             deep = deep;
             limited = limited;
-            ends = inl (record { answers = refl; beside = refl; now = refl; journal = journal });
+            ends = inl (record { head = subst IsHead same_head is_head; answers = refl; beside = refl; now = refl; journal = journal });
             moments = moments;
           };
           keeps = keeps;

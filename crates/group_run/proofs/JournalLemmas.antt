@@ -1,14 +1,14 @@
 -- What a run has on its disk after an opening.
 use Rattle.std.proofs.Common.{◌≡◌, ◌∙◌, ℕ, ◌≤◌, List, [], Option, None, Some, sym, ap, subst}
 use Rattle.gd_disk.specs.Disks.{Knows, Only}
-use Rattle.gd_disk.specs.MomentLaws.{leaves_now, shown_before, weaker}
+use Rattle.gd_disk.specs.MomentLaws.{leaves_now, shown_before, started, weaker}
 use Rattle.gd_disk.specs.Moments.{Keeps, LeavesOnly, shown}
 use Rattle.gd_disk.specs.declared.disks.Disk.{Ghosts}
 use Rattle.group_values.specs.Values.{Made}
 use Rattle.group_model.specs.Servers.{MayHave, halted}
 use Rattle.tree_store.specs.Groups.{HasGroup, IsGroup}
 use Rattle.gcks_core.specs.Stored.{IsFileOf, stored_list}
-use Rattle.group_steps.specs.Disks.{HasJournal, LeavesJournal}
+use Rattle.group_steps.specs.Disks.{ComesToLast, HasJournal, LeavesJournal}
 use Rattle.group_steps.specs.Runs.{Run, with_disk, with_server}
 
 -- the octets that are shown are one list
@@ -43,6 +43,12 @@ module _ {D : Type 0} (d : Ghosts D) where
         let was = shown_before d old run.disk keeps file is in
         ([], may, durable was.0 was.1 c left);
   }
+
+  -- a file that a crash leaves alone now was made to last
+  pub comes_to_last : (old new : D) (file : List ℕ)
+      → ((c : List ℕ) → d.left_since new (d.moment new) c → d.may_leave new c) → LeavesOnly d old new (d.may_leave old)
+      → Only file (d.may_leave new) → ComesToLast d file old new
+  comes_to_last old new file only_now moments only = (new, moments, started d new (λ c. c ≡ file) only_now only)
 
   module _ (run : Run D) (new : D) (shows : shown d new ≡ shown d run.disk) (has : HasJournal d run)
       (moments : Knows (shown d run.disk) (λ _. LeavesOnly d run.disk new (d.may_leave run.disk))) where

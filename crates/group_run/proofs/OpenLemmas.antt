@@ -1,5 +1,5 @@
 -- What comes of opening a group from its journal.
-use Rattle.std.proofs.Common.{◌≡◌, ◌∙◌, ◌⊎◌, inl, inr, ℕ, ◌≤◌, false, List, [], ◌∷◌, Option, Some, refl, sym}
+use Rattle.std.proofs.Common.{◌≡◌, ◌∙◌, ◌⊎◌, inl, inr, ℕ, false, List, [], ◌∷◌, Option, Some, refl, sym}
 use Rattle.std.proofs.lemmas.List.{length-map}
 use Rattle.gd_disk.specs.Disks.{Knows, Only}
 use Rattle.gd_disk.specs.Moments.{Keeps, LeavesOnly, shown}
@@ -22,12 +22,13 @@ use Rattle.tree_store.specs.Groups.{IsGroup, IsNoGroup}
 use Rattle.gcks_core.specs.Stands.{Stands}
 use Rattle.gcks_core.specs.Stored.{stored_list}
 use Rattle.gcks_core.specs.Views.{View as CoreView}
-use Rattle.group_steps.specs.Openings.{Found, FindsGroup, IsBeginning, opened_run}
+use Rattle.group_steps.specs.Disks.{ComesToLast}
+use Rattle.group_steps.specs.Openings.{Found, FindsGroup, IsBeginning, IsHead, opened_run}
 use Rattle.group_steps.specs.Runs.{Run, no_run, with_disk}
 use Rattle.group_run.specs.Entries.{beside, noted}
 use Rattle.group_run.specs.Openings.{IsRefusedBy, Opens}
 use Rattle.group_run.specs.Private.Firsts.{just_opened}
-use Rattle.group_run.proofs.JournalLemmas.{has_read}
+use Rattle.group_run.proofs.JournalLemmas.{comes_to_last, has_read}
 use Rattle.group_run.proofs.BesideLemmas.{beside_refused, counts_refused}
 
 -- what an opening answers of the batches that it found
@@ -37,8 +38,7 @@ shown_open depth list resent = Opened (seen_group depth (batches_made list)) res
 -- A core was opened from a disk, by a signer, where draws were at this place: what it found, and what became of the disk.
 pub record IsOpened {D G R : Type 0} (d : DiskGhosts D) (g : SignerGhosts G) (draws : DrawGhosts R) (signer : G) (place : ℕ) (disk : D)
     (core : CoreView D G R) (list : List Made) (resent : Option PushPair) : Type 0 where
-  pub shallow : 1 ≤ core.head.depth
-  pub deep : core.head.depth ≤ 9
+  pub head : IsHead core.head
   pub stands : Stands draws core (opened_server core.head.depth core.head.limit list place)
   pub was_there : Knows (shown d disk) (λ file. IsGroup file core.head (stored_list core.head.depth list))
   pub pair : IsPairIfStayed g signer core.head.depth core.head.spi list resent
@@ -62,7 +62,7 @@ module _ {D G R : Type 0} (d : DiskGhosts D) (g : SignerGhosts G) (draws : DrawG
     pub finds : (place : ℕ) → place ≡ run.server.place
         → FindsGroup d g signer run found_by (shown_open core.head.depth list resent) (beside (shown_open core.head.depth list resent) place) run_by
     finds place same = record {
-      group = record { shallow = opened.shallow; deep = opened.deep; due = opened.stands.due };
+      group = record { head = opened.head; due = opened.stands.due; fit = opened.stands.fit };
       was_there = opened.was_there;
       resent = resent;
       pair = opened.pair;
@@ -75,10 +75,12 @@ module _ {D G R : Type 0} (d : DiskGhosts D) (g : SignerGhosts G) (draws : DrawG
   -- the first opening of a group
   module _ (signer : G) (disk : D) (name : Name) (limit place : ℕ) where
     -- it begins
-    pub begins : (core : CoreView D G R) (list : List Made) (resent : Option PushPair) → IsOpened d g draws signer place disk core list resent
+    pub begins : (core : CoreView D G R) (list : List Made) (resent : Option PushPair)
+        → ((c : List ℕ) → d.left_since core.disk (d.moment core.disk) c → d.may_leave core.disk c)
+        → IsOpened d g draws signer place disk core list resent
         → Opens d draws (IsBeginning d g signer) Begin (no_run disk name limit place)
         (just_opened core (noted Begin (shown_open core.head.depth list resent) place))
-    begins core list resent opened =
+    begins core list resent only_now opened =
         let start : Run D = no_run disk name limit place in
         let after = run_by signer start core list resent opened in
         let found = finds signer start core list resent opened place refl in
@@ -92,7 +94,11 @@ module _ {D G R : Type 0} (d : DiskGhosts D) (g : SignerGhosts G) (draws : DrawG
           after = after;
           stepped = record {
             answered = record {
-              ends = inl (record { found = found_by signer start core list resent opened; finds = found });
+              ends = inl (record {
+                found = found_by signer start core list resent opened;
+                finds = found;
+                lasts = λ file is. comes_to_last d disk core.disk file only_now (opened.moments file is) (opened.only file (opened.same_file ∙ is));
+              });
               same_file = opened.same_file;
               moments = opened.moments;
             };
@@ -106,14 +112,15 @@ module _ {D G R : Type 0} (d : DiskGhosts D) (g : SignerGhosts G) (draws : DrawG
         }
 
     -- it is refused
-    pub begins_not : (why : Refusal) (left : D) → (why ≡ DiskFault → Rose (d.faults disk) (d.faults left))
+    pub begins_not : (why : Refusal) (left : D) → ((c : List ℕ) → d.left_since left (d.moment left) c → d.may_leave left c)
+        → (why ≡ DiskFault → Rose (d.faults disk) (d.faults left))
         → ((at : ℕ) → why ≡ NotAJournal at → Knows (shown d disk) (λ file. IsNoGroup file at))
         → ((at : ℕ) → why ≡ NotAJournal at → Knows (shown d disk) (λ file. Only file (d.may_leave left)))
         → (why ≡ DiskFault) ⊎ ((why ≡ NoMemory) ⊎ ((at : ℕ) × (why ≡ NotAJournal at)))
         → ((why ≡ DiskFault → ⊥) → d.faults left ≡ d.faults disk)
         → Knows (shown d disk) (λ _. LeavesOnly d disk left (d.may_leave disk)) → shown d left ≡ shown d disk → Keeps d disk left
         → IsRefusedBy d (IsBeginning d g signer) Begin (no_run disk name limit place) (noted Begin (Refused why) place ∷ []) left
-    begins_not why left cause broken only no_other faultless moments same keeps =
+    begins_not why left only_now cause broken only no_other faultless moments same keeps =
         let start : Run D = no_run disk name limit place in
         record {
           entry = noted Begin (Refused why) place;
@@ -142,7 +149,14 @@ module _ {D G R : Type 0} (d : DiskGhosts D) (g : SignerGhosts G) (draws : DrawG
       where
         causes : (why ≡ DiskFault) ⊎ ((why ≡ NoMemory) ⊎ ((at : ℕ) × (why ≡ NotAJournal at))) → (why ≡ DiskFault)
             ⊎ ((why ≡ NoMemory) ⊎ ((at : ℕ) × (why ≡ NotAJournal at)
-            × Knows (shown d disk) (λ file. IsNoGroup file at × Only file (d.may_leave left))))
+            × Knows (shown d disk) (λ file. IsNoGroup file at × Only file (d.may_leave left) × ComesToLast d file disk left)))
         causes (inl fault) = inl fault
         causes (inr (inl none)) = inr (inl none)
-        causes (inr (inr (at, is))) = inr (inr (at, is, (λ file shows. (broken at is file shows, only at is file shows))))
+        causes (inr (inr (at, is))) =
+            inr (inr (
+              at,
+              is,
+              (λ file shows.
+                  let stays = only at is file shows in
+                  (broken at is file shows, stays, comes_to_last d disk left file only_now (moments file shows) stays)),
+            ))

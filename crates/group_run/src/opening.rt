@@ -78,7 +78,10 @@ impl<D: Disk, G: Signer, R: Draws> GroupRun<D, G, R> {
         let asked = Asked::Create { depth: group.depth };
         let place = parts.draws.place();
         match Core::create(alloc, parts, group) {
-            Ok(core) => Ok(opened(alloc, core, None, asked, place, ready)),
+            Ok(core) => {
+                core.head_fits();
+                Ok(opened(alloc, core, None, asked, place, ready))
+            }
             Err(opening) => Err(refused(opening, asked, place, ready)),
         }
     }
@@ -98,6 +101,7 @@ impl<D: Disk, G: Signer, R: Draws> GroupRun<D, G, R> {
         let place = parts.draws.place();
         match Core::open(alloc, parts) {
             Ok(CoreOpened { core, resent }) => {
+                core.head_fits();
                 last_pair_fits(&core);
                 Ok(opened(alloc, core, resent, Asked::Begin, place, ready))
             }
@@ -237,6 +241,7 @@ fn open_again<D: Disk, G: Signer, R: Draws>(
     a_file_has_one_group();
     match core.reopen(alloc) {
         Ok(resent) => {
+            core.head_fits();
             last_pair_fits(core);
             answer_open(core, resent, standings)
         }

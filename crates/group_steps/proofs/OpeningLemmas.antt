@@ -160,8 +160,8 @@ module _ {D G : Type 0} (d : DiskGhosts D) (g : SignerGhosts G) (signer : G) (bl
       (finds : FindsGroup d g signer run found answer outside next)
       → Finds (reading_of found) (Opened (seen_group found.head.depth (batches_made found.list)) finds.resent)
   finds_named found answer outside next finds = record {
-    shallow = finds.group.shallow;
-    deep = finds.group.deep;
+    shallow = finds.group.head.fits.shallow;
+    deep = finds.group.head.fits.not_deep;
     valid = valid_found found finds.group;
     resent = finds.resent;
     again = pair_named g signer found.head.depth found.head.spi found.list finds.resent finds.pair;

@@ -5,7 +5,7 @@ use Rattle.gd_edges.specs.declared.signers.Signer.{Ghosts as SignerGhosts}
 use Rattle.group_values.specs.Drawing.{blocks_for}
 use Rattle.group_values.specs.Values.{Made, batches_made}
 use Rattle.group_model.specs.Legal.{IsOutputOf}
-use Rattle.group_model.specs.Servers.{Server, after_draws, coming_batch, coming_positions, coming_values, in_doubt, refusal_to_batch, with_batch}
+use Rattle.group_model.specs.Servers.{Server, after_draws, blocks_to_draw, coming_batch, coming_positions, coming_values, in_doubt, refusal_to_batch, with_batch}
 use Rattle.group_model.specs.declared.entries.Answer.{Answer}
 use Rattle.group_model.specs.declared.entries.Answer.TheVariants.{Batched, Refused}
 use Rattle.group_model.specs.declared.entries.Output.{Output}
@@ -13,6 +13,7 @@ use Rattle.group_model.specs.declared.entries.Outside.{Outside}
 use Rattle.group_model.specs.declared.entries.Refusal.{Refusal}
 use Rattle.group_model.specs.declared.entries.Refusal.TheVariants.{DiskFault, NoMemory}
 use Rattle.group_model.specs.declared.entries.SentReply.{SentReply}
+use Rattle.group_pushes.specs.Fits.{MadeFits}
 use Rattle.group_pushes.specs.Pairs.{IsPairIfStayed}
 use Rattle.group_steps.specs.Disks.{HasJournal, LeavesJournal}
 use Rattle.group_steps.specs.Outsides.{Says, failing, quiet}
@@ -36,9 +37,10 @@ module _ {D G : Type 0} (d : DiskGhosts D) (g : SignerGhosts G) (signer : G) (bl
     pub pushes : IsPairIfStayed g signer run.server.depth run.head.spi list_next output.pushes
     pub no_datagrams : All (λ (reply : SentReply). reply.datagram ≡ []) output.replies
 
-  -- what waits becomes a batch, and is stored: from then on a crash leaves it
+  -- what waits becomes a batch, whose values are keys, and is stored: from then on a crash leaves it
   pub record IsStored (answer : Answer) (outside : Outside) (next : Run D) : Type 0 where
     pub granted : refusal_to_batch run.server ≡ None
+    pub fit : MadeFits made_next
     pub output : Output
     pub puts_out : PutsOut output
     pub answers : answer ≡ Batched output
@@ -50,6 +52,7 @@ module _ {D G : Type 0} (d : DiskGhosts D) (g : SignerGhosts G) (signer : G) (bl
   -- the disk failed while it was stored, and it is in doubt
   pub record IsInDoubt (answer : Answer) (outside : Outside) (next : Run D) : Type 0 where
     pub granted : refusal_to_batch run.server ≡ None
+    pub fit : MadeFits made_next
     pub answers : answer ≡ Refused DiskFault
     pub beside : outside ≡ failing run
     pub now : next ≡ with_disk (with_server run (in_doubt drawn_next made_next)) next.disk
@@ -62,12 +65,12 @@ module _ {D G : Type 0} (d : DiskGhosts D) (g : SignerGhosts G) (signer : G) (bl
     pub reason : refusal_to_batch run.server ≡ Some why
     pub says : Says (Refused why) run answer outside next
 
-  -- no memory was left, and some blocks were drawn
+  -- no memory was left, and some blocks were drawn, unless the batch would be refused
   pub record RunsOut (answer : Answer) (outside : Outside) (next : Run D) : Type 0 where
     pub answers : answer ≡ Refused NoMemory
     pub beside : outside ≡ quiet run
     pub n : ℕ
-    pub few : n ≤ blocks_for (coming_positions run.server)
+    pub few : n ≤ blocks_to_draw run.server
     pub now : next ≡ with_server run (after_draws run.server n)
 
   abbrev pub IsBatching : Answer → Outside → Run D → Type 0

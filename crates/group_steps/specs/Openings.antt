@@ -1,9 +1,10 @@
 -- Making a group, and opening one from its journal.
-use Rattle.std.specs.Prelude.{◌≡◌, ◌⊎◌, ℕ, ◌≤◌, List, [], length, Option, None}
+use Rattle.std.specs.Prelude.{◌≡◌, ◌⊎◌, ℕ, ◌≤◌, List, [], length, All, Option, None}
 use Rattle.gd_disk.specs.Disks.{Knows, Only}
 use Rattle.gd_disk.specs.Moments.{LeavesOnly, shown}
 use Rattle.gd_disk.specs.declared.disks.Disk.{Ghosts as DiskGhosts}
 use Rattle.gd_edges.specs.declared.signers.Signer.{Ghosts as SignerGhosts}
+use Rattle.group_terms.specs.Octets.{AreOctets}
 use Rattle.group_values.specs.Drawing.{next_place}
 use Rattle.group_values.specs.Values.{Made, batches_made}
 use Rattle.group_model.specs.Seen.{seen_group}
@@ -14,13 +15,20 @@ use Rattle.group_model.specs.declared.entries.Outside.{Outside}
 use Rattle.group_model.specs.declared.entries.PushPair.{PushPair}
 use Rattle.group_model.specs.declared.entries.Refusal.{Refusal}
 use Rattle.group_model.specs.declared.entries.Refusal.TheVariants.{DiskFault, NotAJournal, NoMemory}
+use Rattle.group_pushes.specs.Fits.{MadeFits}
 use Rattle.group_pushes.specs.Pairs.{IsPairIfStayed}
+use Rattle.group_records.specs.Fits.{HeadFits}
 use Rattle.group_records.specs.declared.heads.Head.{Head}
 use Rattle.tree_store.specs.Groups.{IsGroup, IsNoGroup, MakesGroup}
 use Rattle.gcks_core.specs.Stored.{AreDue, stored_list}
-use Rattle.group_steps.specs.Disks.{HasJournal, LeavesJournal}
+use Rattle.group_steps.specs.Disks.{ComesToLast, HasJournal, LeavesJournal}
 use Rattle.group_steps.specs.Outsides.{beside_refusal, finding}
 use Rattle.group_steps.specs.Runs.{Run, with_disk, with_server}
+
+-- a head that a journal can have: a tree of depth 1 to 9, a name, a limit of 32 bits, and an SPI of 16 octets
+pub record IsHead (head : Head) : Type 0 where
+  pub fits : HeadFits head
+  pub octets : AreOctets head.spi
 
 -- ---- the making of a group
 
@@ -31,6 +39,7 @@ module _ {D : Type 0} (d : DiskGhosts D) (block : ℕ → List ℕ) where
 
   -- a group is made, without a batch
   pub record Makes (depth : ℕ) (run : Run D) (answer : Answer) (outside : Outside) (next : Run D) : Type 0 where
+    pub head : IsHead (head_made run depth)
     pub answers : answer ≡ Opened (seen_group depth []) None
     pub beside : outside ≡ finding run 0
     pub now : next ≡ record run {
@@ -65,11 +74,11 @@ pub record Found : Type 0 where
   pub head : Head
   pub list : List Made
 
--- a group that a journal can have: a tree of depth 1 to 9, and batches of which each was due after those before it
+-- a group that a journal can have: a head, and batches of which each was due after those before it, with values that are keys
 pub record IsGroupFound (found : Found) : Type 0 where
-  pub shallow : 1 ≤ found.head.depth
-  pub deep : found.head.depth ≤ 9
+  pub head : IsHead found.head
   pub due : AreDue found.head.depth found.head.limit found.list
+  pub fit : All MadeFits found.list
 
 -- it is the group that a run has, with the batches that its journal may have
 pub record IsSame {D : Type 0} (run : Run D) (found : Found) : Type 0 where
@@ -102,10 +111,11 @@ module _ {D G : Type 0} (d : DiskGhosts D) (g : SignerGhosts G) (signer : G) whe
   pub record Begins (run : Run D) (answer : Answer) (outside : Outside) (next : Run D) : Type 0 where
     pub found : Found
     pub finds : FindsGroup run found answer outside next
+    pub lasts : Knows (shown d run.disk) (λ file. ComesToLast d file run.disk next.disk)
 
   -- the disk has the journal of no group, and that is what a crash leaves
   abbrev pub HasNoJournal : Run D → ℕ → Run D → Type 0
-  HasNoJournal run at next = Knows (shown d run.disk) (λ file. IsNoGroup file at × Only file (d.may_leave next.disk))
+  HasNoJournal run at next = Knows (shown d run.disk) (λ file. IsNoGroup file at × Only file (d.may_leave next.disk) × ComesToLast d file run.disk next.disk)
 
   -- the disk failed, no memory was left, or there is no journal
   pub record FailsToBegin (run : Run D) (answer : Answer) (outside : Outside) (next : Run D) : Type 0 where
@@ -115,7 +125,7 @@ module _ {D G : Type 0} (d : DiskGhosts D) (g : SignerGhosts G) (signer : G) whe
     pub beside : outside ≡ beside_refusal run why
     pub now : next ≡ with_disk run next.disk
 
-  -- a group is opened, or that fails. The file stays as it is, and a crash leaves what it might have left before
+  -- A group is opened, or that fails. The file stays as it is, and a crash leaves what it might have left before.
   pub record IsBeginning (run : Run D) (answer : Answer) (outside : Outside) (next : Run D) : Type 0 where
     pub ends : Begins run answer outside next ⊎ FailsToBegin run answer outside next
     pub same_file : shown d next.disk ≡ shown d run.disk

@@ -6,5 +6,3 @@ pub use keeping::KeptValues;
 
 mod drawing;
 mod keeping;
-#[cfg(test)]
-mod tests;

@@ -13,9 +13,10 @@ use Rattle.group_terms.specs.declared.values.TrafficValue.{TrafficValue}
 use Rattle.group_values.specs.Values.{HasValue, Made, after_draw, batches_made, made_at, node_value, traffic_value, value_of}
 use Rattle.group_model.specs.Laws.{HoldersStay}
 use Rattle.group_model.specs.declared.entries.PushPair.{PushPair}
+use Rattle.group_pushes.specs.Fits.{MadeFits}
 use Rattle.kd_wire.specs.Texts.{PathKeyFits, TrafficFits}
 use Rattle.push_msg.specs.Written.{KekFits}
-use Rattle.member_roots.specs.Groups.{IsKeyedGroup, IsPairAt, MadeFits}
+use Rattle.member_roots.specs.Groups.{IsKeyedGroup, IsPairAt}
 use Rattle.member_roots.proofs.NumberLemmas.{last_number, numbers_rise}
 
 -- ---- the values of positions

@@ -10,11 +10,11 @@ use Rattle.group_terms.specs.declared.keys.Wrap.{Wrap}
 use Rattle.group_terms.specs.declared.paths.PathKey.{PathKey}
 use Rattle.group_terms.specs.declared.values.NodeValue.{NodeValue}
 use Rattle.group_values.specs.Values.{HasValue, Made, node_value}
+use Rattle.group_pushes.specs.Fits.{MadeFits}
 use Rattle.group_pushes.specs.Pairs.{AreJobsOf, IsJobOf}
 use Rattle.kd_wire.specs.Texts.{IsSealedJob, Sealed, data_of, key_of}
 use Rattle.kd_wire.specs.UpdateTexts.{array_of}
 use Rattle.member_store.specs.Takings.{IsUnsealed, keys_given}
-use Rattle.member_roots.specs.Groups.{MadeFits}
 use Rattle.member_roots.proofs.FitLemmas.{node_fits}
 use Rattle.member_roots.specs.Reads.{AreSealedWraps, IsSealedWrap}
 

@@ -6,24 +6,18 @@ use Rattle.gd_edges.specs.declared.verifiers.Verifier.{Ghosts as VerifierGhosts}
 use Rattle.group_terms.specs.Names.{Name}
 use Rattle.group_terms.specs.Octets.{AreOctets, rekey_spi_octets}
 use Rattle.group_terms.specs.declared.signatures.SignKind.{SignKind}
-use Rattle.group_terms.specs.declared.values.Drawn.{Drawn}
 use Rattle.group_terms.specs.declared.values.NodeValue.{NodeValue}
 use Rattle.group_values.specs.Values.{Made, batches_made, node_value}
 use Rattle.group_model.specs.declared.entries.PushPair.{PushPair}
 use Rattle.group_model.specs.Places.{IsValid, holders_at, is_member}
 use Rattle.group_model.specs.Stayed.{sequence_at, stayed_at}
+use Rattle.group_pushes.specs.Fits.{MadeFits}
 use Rattle.group_pushes.specs.Pairs.{IsPairOf}
-use Rattle.kd_wire.specs.Texts.{TrafficFits}
 use Rattle.push_msg.specs.Pushes.{Reads}
 use Rattle.push_msg.specs.Readings.{PushRead}
-use Rattle.push_msg.specs.Written.{KekFits, KindFits}
+use Rattle.push_msg.specs.Written.{KindFits}
 
 -- ---- the group
-
--- the values of a batch fit: that of a position is an IV and a key of AES with 128 bits (RFC 6407 section 5.6.3.1)
-pub record MadeFits (made : Made) : Type 0 where
-  pub nodes : All (λ (drawn : Drawn). KekFits drawn.value) made.values.nodes
-  pub traffic : TrafficFits made.values.traffic
 
 -- A group as a server has it: the SPI of its pushes, and the batches that made its epochs, with values that fit. Epochs and numbers have 32 bits.
 pub record IsKeyedGroup (depth : ℕ) (spi : List ℕ) (list : List Made) : Type 0 where

@@ -14,5 +14,3 @@ mod openings;
 mod paths;
 mod stores;
 mod takings;
-#[cfg(test)]
-mod tests;

@@ -4,5 +4,3 @@
 pub use laws::{questions_of_members_are_answered_yes, replied_members_derive_by_what_was_sent};
 
 mod laws;
-#[cfg(test)]
-mod tests;

@@ -15,12 +15,8 @@ mod numbers;
 mod openings;
 mod pushes;
 mod refusals;
-#[cfg(test)]
-mod report_tests;
 mod reports;
 mod seen;
 mod stores;
-#[cfg(test)]
-mod tests;
 mod words;
 mod wraps;

@@ -29,7 +29,7 @@ pub enum Line {
     Key { member: MemberName },
     /// Whether these members derive the traffic key of an epoch.
     Derive { epoch: u32, members: MemberNames },
-    /// The group answers nothing until it is opened again.
+    /// Until it is opened again the group is not changed, not shown, and gives no pushes to all members. `deliver`, `key` and `derive` go on.
     Halt,
     /// It is opened again, from the journal that it has.
     Reopen,

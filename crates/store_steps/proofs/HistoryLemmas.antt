@@ -23,9 +23,10 @@ use Rattle.group_steps.specs.Runs.{Run, no_run}
 use Rattle.group_steps.specs.Steps.{AreRunSteps, IsAnswered, IsHistory, IsRunStep}
 use Rattle.store_steps.specs.Stores.{AreStores, IsPeerOf}
 use Rattle.store_steps.proofs.GrowLemmas.{Grows, IsAtHead, grows_answered, grows_none, grows_on, head_still}
+use Rattle.store_steps.proofs.OpenedLemmas.{peers_first}
 use Rattle.store_steps.proofs.PushLemmas.{sends_answered}
 use Rattle.store_steps.proofs.SentLemmas.{AreSent, IsPushAt, sent_by, sent_more}
-use Rattle.store_steps.proofs.StepLemmas.{AreOurs, Laws, ours_answered, ours_opened}
+use Rattle.store_steps.proofs.StepLemmas.{AreOurs, Laws, ours_answered}
 
 -- what is known of a disk that is as honest, and exposes its octets as before
 known_still : (was now : Bool) (had has : Option (List ℕ)) → now ≡ was → (IsSome has ↔ IsSome had) → IsSome (if was then had else None)
@@ -179,5 +180,6 @@ module _ {D G V : Type 0} (d : DiskGhosts D) (g : SignerGhosts G) (signer : G) (
         let run = no_run disk name limit place in
         let first = begins disk name limit place entry entries after history sure in
         follow entry [] history.steps.0 entries first.at first.sure first.steps first.sent
-        (ours_opened d g signer v verifier block after laws run [] entry.asked entry.answer entry.outside history.steps.0 history.begins.0
-        (All-nil (IsPeerOf after.server.depth after.head.spi after.server.list)) history.steps.1.answered)
+        (subst Ours
+        (sym (peers_first d g signer v verifier block run [] entry.asked entry.answer entry.outside history.steps.0 history.begins.0
+        history.steps.1.answered)) (All-nil (IsPeerOf after.server.depth after.head.spi after.server.list)))

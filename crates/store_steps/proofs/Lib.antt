@@ -5,6 +5,7 @@ pub mod HistoryLemmas
 pub mod KeyedLemmas
 pub mod MomentLemmas
 pub mod NumberLemmas
+pub mod OpenedLemmas
 pub mod PeerLemmas
 pub mod PushLemmas
 pub mod ReplyLemmas

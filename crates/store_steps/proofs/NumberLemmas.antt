@@ -15,7 +15,7 @@ use Rattle.store_steps.proofs.SentLemmas.{IsPushAt}
 
 module _ (holders_stay : HoldersStay) (depth : ℕ) where
   -- the first epochs have the numbers that they have without the later ones
-  pub numbers_stay : (n epoch : ℕ) (batches : List (List Change)) → epoch ≤ n
+  numbers_stay : (n epoch : ℕ) (batches : List (List Change)) → epoch ≤ n
       → sequence_at depth (take n batches) epoch ≡ sequence_at depth batches epoch
   unfolding sequence_at
   numbers_stay n zero batches early = refl
@@ -30,7 +30,7 @@ module _ (holders_stay : HoldersStay) (depth : ℕ) where
   two_more batches epoch stayed = ap (λ stayed. sequence_at depth batches epoch + cond stayed 2 0) stayed
 
   -- numbers never fall
-  pub numbers_rise : (batches : List (List Change)) (from to : ℕ) → from ≤ to → sequence_at depth batches from ≤ sequence_at depth batches to
+  numbers_rise : (batches : List (List Change)) (from to : ℕ) → from ≤ to → sequence_at depth batches from ≤ sequence_at depth batches to
   unfolding sequence_at
   numbers_rise batches from zero before =
       let first : from ≡ 0 = omega (arith, before) in omega (arith, ap (sequence_at depth batches) first)

@@ -2,7 +2,6 @@
 use Rattle.std.proofs.Common.{◌≡◌, ℕ, ◌+◌, ◌≤◌, true, List, Option, None, Some, length, take, refl, sym, subst, inl, inr}
 use Rattle.std.specs.Prelude.{Result}
 use Rattle.std.specs.List.{All}
-use Rattle.std.proofs.lemmas.Bool.{false≢true}
 use Rattle.gd_disk.specs.declared.disks.Disk.{Ghosts as DiskGhosts}
 use Rattle.gd_edges.specs.declared.signers.Signer.{Ghosts as SignerGhosts}
 use Rattle.gd_edges.specs.declared.verifiers.Verifier.{Ghosts as VerifierGhosts}
@@ -11,7 +10,6 @@ use Rattle.group_terms.specs.declared.paths.Keyed.{Keyed}
 use Rattle.group_terms.specs.declared.pushes.PushRefusal.{PushRefusal}
 use Rattle.group_values.specs.Values.{Made, batches_made}
 use Rattle.group_keys.specs.Replies.{IsKeyedOf}
-use Rattle.group_model.specs.Legal.{opens}
 use Rattle.group_model.specs.Places.{holders_at, is_member}
 use Rattle.group_model.specs.Servers.{members_now}
 use Rattle.group_model.specs.declared.entries.Answer.{Answer}
@@ -179,11 +177,3 @@ module _ {D G V : Type 0} (d : DiskGhosts D) (g : SignerGhosts G) (signer : G) (
     ours_answered before DeliverAll answer outside next sent grows step = same_peers next _ step.says.stays all
     ours_answered before (Key m) answer outside next sent grows step = same_peers next _ step.stays all
     ours_answered before (Derive epoch members) answer outside next sent grows step = same_peers next _ step.says.stays all
-
-  -- the first request opens a group, and touches no peer
-  pub ours_opened : (run : Run D) (before : List Entry) (asked : Asked) (answer : Answer) (outside : Outside) (next : Run D)
-      → opens asked ≡ true → AreOurs run.peers → IsAnswered d g signer v verifier block before asked run answer outside next
-      → AreOurs next.peers
-  ours_opened run before (Create depth) answer outside next first all step = ours_create run all depth answer outside next step.1
-  ours_opened run before Begin answer outside next first all step = ours_begin run all answer outside next step.1
-  ours_opened run before asked answer outside next first all step = absurd (false≢true first)

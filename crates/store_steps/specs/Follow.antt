@@ -6,6 +6,7 @@ use Rattle.gd_edges.specs.declared.verifiers.Verifier.{Ghosts as VerifierGhosts}
 use Rattle.group_terms.specs.Names.{Name}
 use Rattle.group_terms.specs.declared.pushes.PushRefusal.{PushRefusal}
 use Rattle.group_values.specs.Values.{batches_made}
+use Rattle.group_model.specs.Legal.{is_open}
 use Rattle.group_model.specs.Places.{Holders, holders_at, is_member}
 use Rattle.group_model.specs.Stayed.{sequence_at, stayed_at}
 use Rattle.group_model.specs.declared.entries.Answer.{Answer}
@@ -43,8 +44,15 @@ module _ {D G V : Type 0} (d : DiskGhosts D) (g : SignerGhosts G) (signer : G) (
     pub so_far : AreRunSteps d g signer v verifier block [] start front mid
     pub goes_on : AreRunSteps d g signer v verifier block front mid later after
 
-  -- A history whose openings found the group that there was. Its group has values that fit, the verifier checks what the signer signs, and of no
-  -- push is a push read under the root of another epoch than that under which it was sent.
+  -- A group that was made or found has keys: values that fit, an SPI of 16 octets, and epochs and numbers of 32 bits.
+  abbrev pub OpenedGroupsHaveKeys : Type 0
+  OpenedGroupsHaveKeys =
+      (disk : D) (name : Name) (limit place : ℕ) (first : Entry) (later : List Entry) (after : Run D)
+      → IsHistory d g signer v verifier block (no_run disk name limit place) (first ∷ later) after → is_open first.answer ≡ true
+      → IsKeyedGroup after.server.depth after.head.spi after.server.list
+
+  -- A history whose openings found the group that there was. The verifier checks what the signer signs, and of no push is a push read under the root
+  -- of another epoch than that under which it was sent.
   pub record IsKeyedHistory (entries : List Entry) (after : Run D) : Type 0 where
     pub disk : D
     pub name : Name
@@ -53,7 +61,6 @@ module _ {D G V : Type 0} (d : DiskGhosts D) (g : SignerGhosts G) (signer : G) (
     pub history : IsHistory d g signer v verifier block (no_run disk name limit place) entries after
     pub sure : IsSure d disk entries
     pub checks : Checks g signer v verifier
-    pub group : IsKeyedGroup after.server.depth after.head.spi after.server.list
     pub for_one : AreForOneRoot g signer (v.kind_of verifier) after.server.depth after.head.spi after.server.list
 
   -- Each store is one of the group: the keys of a member's path are those of some epoch, and its traffic key is that of this epoch or an earlier one, whatever

@@ -1,36 +1,45 @@
 //! What follows of the steps of a run for stores.
 ghost use Rattle.std.specs.Prelude.{ℕ, List};
-ghost use Rattle.store_steps.specs.Follow.{MembershipPushesAreTaken, MomentsAreKeyed, OthersAreRefused, RepliesAreKept, StoresAreOfTheGroup, TrafficPushesAreTaken};
+ghost use Rattle.store_steps.specs.Follow.{MembershipPushesAreTaken, MomentsAreKeyed, OpenedGroupsHaveKeys, OthersAreRefused, RepliesAreKept};
+ghost use Rattle.store_steps.specs.Follow.{StoresAreOfTheGroup, TrafficPushesAreTaken};
 
 use gd_disk::Disk;
 use gd_edges::{Signer, Verifier};
 use group_model::first_epochs_stay;
+use group_steps::a_history_is_legal_by_names;
 use member_roots::{
     a_due_push_is_taken, a_later_reply_is_not_older, a_member_that_left_finds_no_path,
     a_push_under_another_root_is_malformed, a_repeated_push_is_stale, a_reply_is_at_its_root,
     a_sent_push_leaves_a_store_of_its_group, a_store_at_a_root_has_its_epoch,
 };
 
+/// A group that was made or found has keys.
+pub fn an_opened_group_has_keys<D: Disk, G: Signer, V: Verifier>()
+    ensures { (signer : G) (verifier : V) (block : ℕ → List ℕ) → OpenedGroupsHaveKeys D.Disk G.Signer signer V.Verifier verifier block }
+{
+    a_history_is_legal_by_names::<D, G, V>();
+}
+
 /// Along a history each store is one of the group.
 pub fn each_store_is_one_of_the_group<D: Disk, G: Signer, V: Verifier>()
     ensures { (signer : G) (verifier : V) (block : ℕ → List ℕ) → StoresAreOfTheGroup D.Disk G.Signer signer V.Verifier verifier block }
 {
+    an_opened_group_has_keys::<D, G, V>();
     a_reply_is_at_its_root();
     a_store_at_a_root_has_its_epoch();
     a_sent_push_leaves_a_store_of_its_group::<G, V>();
 }
 
-/// Each moment of a history whose group has keys is the end of one. So what holds after each history holds at each moment.
+/// Each moment of a keyed history is the end of one. So what holds after each history holds at each moment.
 pub fn each_moment_is_of_a_keyed_history<D: Disk, G: Signer, V: Verifier>()
     ensures { (signer : G) (verifier : V) (block : ℕ → List ℕ) → MomentsAreKeyed D.Disk G.Signer signer V.Verifier verifier block }
-{
-    first_epochs_stay();
-}
+{}
 
 /// After a history a member keeps what it is told, which is never older than what it has, and has the keys of the present epoch then.
 pub fn a_reply_is_kept_in_a_history<D: Disk, G: Signer, V: Verifier>()
     ensures { (signer : G) (verifier : V) (block : ℕ → List ℕ) → RepliesAreKept D.Disk G.Signer signer V.Verifier verifier block }
 {
+    an_opened_group_has_keys::<D, G, V>();
     a_reply_is_at_its_root();
     a_later_reply_is_not_older();
     each_store_is_one_of_the_group::<D, G, V>();
@@ -45,6 +54,7 @@ pub fn a_due_push_is_taken_in_a_history<D: Disk, G: Signer, V: Verifier>()
         TrafficPushesAreTaken D.Disk G.Signer signer V.Verifier verifier block }
 {
     first_epochs_stay();
+    an_opened_group_has_keys::<D, G, V>();
     each_store_is_one_of_the_group::<D, G, V>();
     a_due_push_is_taken::<G, V>();
 }
@@ -54,6 +64,7 @@ pub fn any_other_push_is_refused_in_a_history<D: Disk, G: Signer, V: Verifier>()
     ensures { (signer : G) (verifier : V) (block : ℕ → List ℕ) → OthersAreRefused D.Disk G.Signer signer V.Verifier verifier block }
 {
     first_epochs_stay();
+    an_opened_group_has_keys::<D, G, V>();
     each_store_is_one_of_the_group::<D, G, V>();
     a_repeated_push_is_stale::<G, V>();
     a_member_that_left_finds_no_path::<G, V>();

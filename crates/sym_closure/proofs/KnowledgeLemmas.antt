@@ -33,10 +33,6 @@ still_knows known entries more knows = record {
   sent = subst (λ front. HasSame (pairs_sent front) known.pairs) (sym (take-append-le known.count entries more knows.begun)) knows.sent;
 }
 
--- one entry more
-pub knows_one_more : (known : Known) (entries : List Entry) (entry : Entry) → Knows known entries → Knows known (entries ++ entry ∷ [])
-knows_one_more known entries entry knows = still_knows known entries (entry ∷ []) knows
-
 -- pairs the other way round
 AreAmong-turned : (pairs others : List Wrap) → AreAmong pairs others → AreAmong (map turned pairs) (map turned others)
 AreAmong-turned pairs others h pair c =

@@ -15,12 +15,8 @@ pub use sent::Sent;
 mod closures;
 mod derivations;
 mod graphs;
-#[cfg(test)]
-mod group_tests;
 mod histories;
 mod laws;
 mod once;
 mod reached;
 mod sent;
-#[cfg(test)]
-mod tests;

@@ -15,5 +15,3 @@ mod journals;
 mod laws;
 mod reads;
 mod refusals;
-#[cfg(test)]
-mod tests;

@@ -14,7 +14,7 @@ use Rattle.console_run.specs.Devices.{Devices, Keying}
 use Rattle.console_run.specs.Scripts.{are_octets}
 use Rattle.console_run.specs.Causes.{CameFrom, Given, SourceAt, TakesAll}
 use Rattle.console_run.specs.Lines.{Opens}
-use Rattle.console_run.specs.Promises.{IsEnded, IsBroken}
+use Rattle.console_run.specs.Promises.{IsEnded, IsBroken, streams_of}
 use Rattle.console_run.specs.Private.Runs.{Moment, GoesOn, IsReported, IsStoppedAt, SourceFails, Stands, Start, StopsWithin}
 
 -- a group and its sink at a moment, with what has come of the present line, after so many lines
@@ -69,5 +69,5 @@ pub record RunsScript {D G V : Type 0} (on : Devices D G V) (by : Keying G) (req
   pub came : CameFrom had.octets left.octets given
   pub after : Run D
   pub left_disk : after.disk ≡ disk
-  pub run : IsEnded on by (record { given = given; source_before = had; source_after = left; sink_before = was; sink_after = now }) request start ending entries after
-      ⊎ IsBroken on by (record { given = given; source_before = had; source_after = left; sink_before = was; sink_after = now }) request start ending entries after
+  pub run : IsEnded on by (streams_of given had left was now) request start ending entries after
+      ⊎ IsBroken on by (streams_of given had left was now) request start ending entries after

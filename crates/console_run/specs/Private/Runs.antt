@@ -17,7 +17,7 @@ use Rattle.console_run.specs.declared.stops.Stop.TheVariants.{Line, Source as So
 use Rattle.console_run.specs.declared.endings.Ending.{Ending}
 use Rattle.console_run.specs.declared.endings.Ending.TheVariants.{Whole, BadLine, Source, Sink, Memory}
 use Rattle.console_run.specs.Devices.{Devices, Keying}
-use Rattle.console_run.specs.Scripts.{are_octets, EndsLine, ends_line}
+use Rattle.console_run.specs.Scripts.{EndsLine, are_octets, ends_line, longest_line, longest_piece, most_lines}
 use Rattle.console_run.specs.Lines.{BeginsToGive, Gives, IsRunOf, LineBegins, LineGives}
 use Rattle.console_run.specs.Causes.{CauseOf, Given, IsInParts}
 use Rattle.console_run.specs.Reports.{Puts, ReportBreaksOff}
@@ -87,13 +87,13 @@ pub record Moment (D G R : Type 0) : Type 0 where
 
 -- the run is within its limits
 pub record IsReady {D G R : Type 0} (at : Moment D G R) : Type 0 where
-  pub lines : at.count ≤ 16384
-  pub begun : 0 < length at.line → at.count < 16384
-  pub short : length at.line ≤ 200
+  pub lines : at.count ≤ most_lines
+  pub begun : 0 < length at.line → at.count < most_lines
+  pub short : length at.line ≤ longest_line
 
 -- what the limits leave: octets of this line, and lines after it
 abbrev pub room_left : {D G R : Type 0} → Moment D G R → ℕ
-room_left at = (16384 - at.count) * 201 + (200 - length at.line)
+room_left at = (most_lines - at.count) * (longest_line + 1) + (longest_line - length at.line)
 
 -- what the source gave to a run that took these octets
 abbrev pub given_of : List ℕ → Bool → Given
@@ -158,7 +158,7 @@ module _ {D G V R : Type 0} (on : Devices D G V) (draws : DrawGhosts R) where
 
   -- the run stopped at this octet, the next after those so far, whatever came with it
   abbrev pub StopsAt : ℕ → Stop → Moment D G R → Moment D G R → Type 0
-  StopsAt octet stop old new = (later : List ℕ) → length later < 4096 → are_octets later ≡ true → StopsWithin (octet ∷ later) stop old new
+  StopsAt octet stop old new = (later : List ℕ) → length later < longest_piece → are_octets later ≡ true → StopsWithin (octet ∷ later) stop old new
 
   -- a script of the octets so far is run to its end
   abbrev pub Ends : Moment D G R → Moment D G R → Type 0

@@ -1,5 +1,6 @@
 -- What is always known of a core.
-use Rattle.std.specs.Prelude.{◌≡◌, ◌+◌, ◌^◌, Bool, false, List, length, IsSome}
+use Rattle.std.specs.Prelude.{◌≡◌, ◌+◌, ◌^◌, ◌≤◌, Bool, false, List, length, IsSome}
+use Rattle.std.specs.List.{All}
 use Rattle.gd_disk.specs.Disks.{Knows}
 use Rattle.gd_disk.specs.Moments.{shown}
 use Rattle.gd_disk.specs.declared.disks.Disk.{Ghosts}
@@ -8,17 +9,19 @@ use Rattle.group_values.specs.Values.{Kept, KeepsLast, Made, batches_made}
 use Rattle.group_model.specs.Places.{Fits}
 use Rattle.group_model.specs.Present.{Present, StandsFor}
 use Rattle.group_records.specs.declared.heads.Head.{Head}
+use Rattle.group_pushes.specs.Fits.{MadeFits}
 use Rattle.tree_store.specs.Groups.{IsGroup}
 use Rattle.tree_store.specs.Views.{View}
 use Rattle.gcks_core.specs.Stored.{AreDue, stored_list}
 
--- a tree is what these batches made, and these are the values of its keys; each of the batches was due after those before it
+-- a tree is what these batches made, and these are the values of its keys; each of the batches was due after those before it, and has keys
 pub record IsGroupOf (head : Head) (present : Present) (kept : Kept) (list : List Made) : Type 0 where
   pub depth : present.depth ≡ head.depth
   pub tree : StandsFor present (batches_made list)
   pub room : length kept.nodes ≡ 2 ^ (present.depth + 1)
   pub keeps : KeepsLast kept list
   pub due : AreDue head.depth head.limit list
+  pub fit : All MadeFits list
 
 -- a store is open and at its end, and where the disk is honest and shows its octets, these are the journal of these batches
 pub record IsAtEnd {D : Type 0} (g : Ghosts D) (store : View D) (head : Head) (list : List Made) : Type 0 where
@@ -30,5 +33,6 @@ pub record IsAtEnd {D : Type 0} (g : Ghosts D) (store : View D) (head : Head) (l
 pub record IsCore {D : Type 0} (g : Ghosts D) (store : View D) (head : Head) (present : Present) (kept : Kept) (queue : List Change) (stopped : Bool) : Type 0 where
   pub list : List Made
   pub group : IsGroupOf head present kept list
+  pub limited : 1 ≤ head.limit
   pub fits : Fits present.holders queue
   pub at_end : stopped ≡ false → IsAtEnd g store head list

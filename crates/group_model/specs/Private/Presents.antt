@@ -1,14 +1,10 @@
 -- What the calls of a present tree are made of.
-use Rattle.std.specs.Prelude.{◌≡◌, ℕ, ◌≤◌, List, [], ◌∷◌, ◌++◌, map, slice_index_or, Option, None, is_none, is_some}
+use Rattle.std.specs.Prelude.{◌≡◌, ℕ, ◌≤◌, List, [], map, slice_index_or, Option, None, is_none, is_some}
 use Rattle.std.specs.Option.{option_map, unwrap_or}
-use Rattle.group_terms.specs.Changes.{joiners}
 use Rattle.group_terms.specs.LeafMarks.{Marked}
 use Rattle.group_terms.specs.Names.{Name}
-use Rattle.group_terms.specs.declared.changes.Change.{Change}
 use Rattle.group_terms.specs.declared.keys.KeyName.{KeyName}
-use Rattle.group_terms.specs.declared.keys.KeyName.TheVariants.{Node, Traffic}
-use Rattle.group_model.specs.declared.entries.SentReply.{SentReply}
-use Rattle.group_model.specs.declared.entries.SymReply.{SymReply}
+use Rattle.group_terms.specs.declared.keys.KeyName.TheVariants.{Node}
 use Rattle.group_model.specs.declared.indexes.NameIndex.{NameIndex}
 use Rattle.group_model.specs.declared.trees.Tree.{Tree}
 use Rattle.group_model.specs.Places.{place_in}
@@ -31,18 +27,6 @@ pub record IsPresent (depth : ℕ) (tree : Tree) (held free : Marked) (index : N
 abbrev pub key_in : List (Option ℕ) → ℕ → KeyName
 key_in changes v = Node v (unwrap_or (slice_index_or changes v None) 0)
 
-module _ (tree : Present) where
-  -- the keys of m from its leaf up
-  abbrev pub path_in : Name → List KeyName
-  path_in m = unwrap_or (option_map (λ leaf. map (key_in tree.changes) (upwards tree.depth leaf)) (place_in tree.depth tree.holders m)) []
-
-  abbrev pub reply_in : Name → SymReply
-  reply_in m = record { member = m; keyed_epoch = tree.epoch; sequence = tree.sequence; names = path_in m ++ Traffic tree.epoch ∷ [] }
-
-  -- the reply, with an empty datagram
-  abbrev pub sent_in : Name → SentReply
-  sent_in m = record { says = reply_in m; datagram = [] }
-
-  -- those to all who come in with a batch
-  abbrev pub all_sent : List Change → List SentReply
-  all_sent batch = map sent_in (joiners batch)
+-- the keys of m from its leaf up
+abbrev pub path_in : Present → Name → List KeyName
+path_in tree m = unwrap_or (option_map (λ leaf. map (key_in tree.changes) (upwards tree.depth leaf)) (place_in tree.depth tree.holders m)) []

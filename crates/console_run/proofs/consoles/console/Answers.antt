@@ -4,7 +4,7 @@ use Rattle.std.proofs.lemmas.Bool.{false≢true}
 use Rattle.group_values.specs.Values.{batches_made}
 use Rattle.console_run.specs.Causes.{Given}
 use Rattle.console_run.specs.Devices.{devices, keying}
-use Rattle.console_run.specs.Promises.{Promises, Streams, console_name, request_of, start_of}
+use Rattle.console_run.specs.Promises.{Promises, console_name, request_of, start_of, streams_of}
 use Rattle.console_run.proofs.PromiseLemmas.{leaves_moments, opens_group, ran_history, ran_whole}
 use Rattle.console_run.proofs.StoreLemmas.{stores_follow}
 use Rattle.console_run.proofs.consoles.console.Goals as goal
@@ -24,10 +24,11 @@ returns-in-Some-clause-run g c =
     let entries = c.run_command.result.history in
     let disk = c.run_command.result.disk in
     let start = start_of command c.args.disk place in
-    let streams : Streams = record { given = ran.given; source_before = had; source_after = left; sink_before = was; sink_after = now } in
+    let streams = streams_of ran.given had left was now in
     let list = batches_made ran.after.server.list in
     let history = ran_history on by (request_of command.opening) start (opens_group command.opening) streams ending entries ran.after ran.run in
-    let valid = c.a_history_is_legal_by_names.ensures.valid by.signer on.verifier by.block c.args.disk console_name command.limit place entries ran.after history in
+    let valid = c.a_history_is_legal_by_names.ensures.valid by.signer on.verifier by.block c.args.disk console_name command.limit place entries ran.after
+    history in
     let counted = c.faults_are_counted.ensures.counted by.signer on.verifier by.block [] start entries ran.after history.steps in (
       ran.given,
       subst (λ asked. Promises on by asked streams place ending entries c.args.disk disk) c.in-Some.ensures.command (record {
@@ -36,16 +37,17 @@ returns-in-Some-clause-run g c =
           after = ran.after;
           disk = ran.left_disk;
           run = ran.run;
-          complete = λ can. ran_whole on by c.a_file_has_one_group.ensures.or_none streams command place c.args.disk disk entries ran.after ran.left_disk ran.came can ending
-              ran.run;
+          complete = λ can.
+              ran_whole on by c.a_file_has_one_group.ensures.or_none streams command place c.args.disk disk entries ran.after ran.left_disk ran.came can
+              ending ran.run;
           history = history;
           valid = valid;
           secrecy = c.no_others_derive.ensures.traffic ran.after.server.depth list;
           to_come = c.no_others_derive.ensures.to_come ran.after.server.depth list;
           members = λ deep. c.members_derive.ensures ran.after.server.depth list deep valid;
           by_names = λ sure.
-              let named = c.a_history_is_legal_by_names.ensures.legal by.signer on.verifier by.block c.args.disk console_name command.limit place entries ran.after history
-              sure in
+              let legal = c.a_history_is_legal_by_names.ensures.legal by.signer on.verifier by.block in
+              let named = legal c.args.disk console_name command.limit place entries ran.after history sure in
               record {
                 readings = named.0;
                 legal = named.1;
@@ -79,10 +81,12 @@ returns-in-None-clause-run g c =
     let by = keying c.args.signer (g.R.Draws.block_at c.args.draws) in
     let had = g.S.Source.shows c.args.script.now in
     let was = g.K.Sink.shows c.args.out.now in
-    let now = g.K.Sink.shows c.end.new.out in (
+    let now = g.K.Sink.shows c.end.new.out in
+    let place = g.R.Draws.place_of c.args.draws in
+    let streams = streams_of nothing had had was now in (
       nothing,
-      subst (λ asked. Promises on by asked (record { given = nothing; source_before = had; source_after = had; sink_before = was; sink_after = now }) (g.R.Draws.place_of c.args.draws) c.end.result.ending
-          c.end.result.history c.args.disk c.end.result.disk) c.in-None.ensures.command (record {
+      subst (λ asked. Promises on by asked streams place c.end.result.ending c.end.result.history c.args.disk c.end.result.disk) c.in-None.ensures.command
+          (record {
             came = record { consumed = Consumes-nil had.octets; octets = refl; whole = λ ended. absurd (false≢true ended) };
             promised = record {
               none_taken = refl;

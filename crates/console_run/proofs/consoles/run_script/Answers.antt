@@ -12,10 +12,11 @@ returns-in-Ok g c start same opened =
     let left = g.S.Source.shows c.follow.new.script in
     let now = at c.follow.new.self (g.K.Sink.shows c.follow.new.out) in
     let begun = subst (IsOpened on g.R.Draws start) (sym c.begin-run.ensures.group) opened in
-    subst (λ was. RunsScript on start.by start.request start.run had left was (g.K.Sink.shows c.end_run.new.out) c.end_run.result.ending c.end_run.result.history
-    c.end_run.result.disk) same
-    (ran_to on g.R.Draws start had left now c.end_run.result.history c.end_run.ensures.history c.end_run.result.disk c.end_run.ensures.disk Whole c.end_run.result.ending
-    (g.K.Sink.shows c.end_run.new.out) (c.in-Ok.ensures.ok start same begun) c.end_run.ensures.ends)
+    let end = c.end_run in
+    let last = g.K.Sink.shows end.new.out in
+    subst (λ was. RunsScript on start.by start.request start.run had left was last end.result.ending end.result.history end.result.disk) same
+    (ran_to on g.R.Draws start had left now end.result.history end.ensures.history end.result.disk end.ensures.disk Whole end.result.ending last
+    (c.in-Ok.ensures.ok start same begun) end.ensures.ends)
 
 pub returns-in-Err-Line : goal.returns-in-Err-Line
 returns-in-Err-Line g c start same opened =
@@ -24,11 +25,14 @@ returns-in-Err-Line g c start same opened =
     let left = g.S.Source.shows c.follow.new.script in
     let now = at c.follow.new.self (g.K.Sink.shows c.follow.new.out) in
     let begun = subst (IsOpened on g.R.Draws start) (sym c.begin-run.ensures.group) opened in
-    let until = subst (λ stop. IsRunUntil on g.R.Draws stop start had left now) c.in-Err-Line.field-0-is (c.in-Err-Line.ensures.stops start same begun) in
-    subst (λ was. RunsScript on start.by start.request start.run had left was (g.K.Sink.shows c.end_run-in-Err-Line.new.out) c.end_run-in-Err-Line.result.ending c.end_run-in-Err-Line.result.history
-    c.end_run-in-Err-Line.result.disk) same
-    (ran_to on g.R.Draws start had left now c.end_run-in-Err-Line.result.history c.end_run-in-Err-Line.ensures.history c.end_run-in-Err-Line.result.disk c.end_run-in-Err-Line.ensures.disk (BadLine c.line_number-line.result) c.end_run-in-Err-Line.result.ending
-    (g.K.Sink.shows c.end_run-in-Err-Line.new.out) (due_at_line on g.R.Draws start had left now c.line_number-line.result c.line_number-line.ensures until) c.end_run-in-Err-Line.ensures.ends)
+    let stops = c.in-Err-Line.ensures.stops start same begun in
+    let until = subst (λ stop. IsRunUntil on g.R.Draws stop start had left now) c.in-Err-Line.field-0-is stops in
+    let number = c.line_number-line in
+    let end = c.end_run-in-Err-Line in
+    let last = g.K.Sink.shows end.new.out in
+    subst (λ was. RunsScript on start.by start.request start.run had left was last end.result.ending end.result.history end.result.disk) same
+    (ran_to on g.R.Draws start had left now end.result.history end.ensures.history end.result.disk end.ensures.disk (BadLine number.result) end.result.ending
+    last (due_at_line on g.R.Draws start had left now number.result number.ensures until) end.ensures.ends)
 
 pub returns-in-Err-Source : goal.returns-in-Err-Source
 returns-in-Err-Source g c start same opened =
@@ -37,11 +41,13 @@ returns-in-Err-Source g c start same opened =
     let left = g.S.Source.shows c.follow.new.script in
     let now = at c.follow.new.self (g.K.Sink.shows c.follow.new.out) in
     let begun = subst (IsOpened on g.R.Draws start) (sym c.begin-run.ensures.group) opened in
-    let until = subst (λ stop. IsRunUntil on g.R.Draws stop start had left now) c.in-Err-Source.field-0-is (c.in-Err-Source.ensures.stops start same begun) in
-    subst (λ was. RunsScript on start.by start.request start.run had left was (g.K.Sink.shows c.end_run-in-Err-Source.new.out) c.end_run-in-Err-Source.result.ending c.end_run-in-Err-Source.result.history
-    c.end_run-in-Err-Source.result.disk) same
-    (ran_to on g.R.Draws start had left now c.end_run-in-Err-Source.result.history c.end_run-in-Err-Source.ensures.history c.end_run-in-Err-Source.result.disk c.end_run-in-Err-Source.ensures.disk Source c.end_run-in-Err-Source.result.ending
-    (g.K.Sink.shows c.end_run-in-Err-Source.new.out) (due_at_source on g.R.Draws start had left now until) c.end_run-in-Err-Source.ensures.ends)
+    let stops = c.in-Err-Source.ensures.stops start same begun in
+    let until = subst (λ stop. IsRunUntil on g.R.Draws stop start had left now) c.in-Err-Source.field-0-is stops in
+    let end = c.end_run-in-Err-Source in
+    let last = g.K.Sink.shows end.new.out in
+    subst (λ was. RunsScript on start.by start.request start.run had left was last end.result.ending end.result.history end.result.disk) same
+    (ran_to on g.R.Draws start had left now end.result.history end.ensures.history end.result.disk end.ensures.disk Source end.result.ending last
+    (due_at_source on g.R.Draws start had left now until) end.ensures.ends)
 
 pub returns-in-Err-Memory : goal.returns-in-Err-Memory
 returns-in-Err-Memory g c start same opened =
@@ -50,11 +56,13 @@ returns-in-Err-Memory g c start same opened =
     let left = g.S.Source.shows c.follow.new.script in
     let now = at c.follow.new.self (g.K.Sink.shows c.follow.new.out) in
     let begun = subst (IsOpened on g.R.Draws start) (sym c.begin-run.ensures.group) opened in
-    let until = subst (λ stop. IsRunUntil on g.R.Draws stop start had left now) c.in-Err-Memory.field-0-is (c.in-Err-Memory.ensures.stops start same begun) in
-    subst (λ was. RunsScript on start.by start.request start.run had left was (g.K.Sink.shows c.end_run-in-Err-Memory.new.out) c.end_run-in-Err-Memory.result.ending c.end_run-in-Err-Memory.result.history
-    c.end_run-in-Err-Memory.result.disk) same
-    (ran_to on g.R.Draws start had left now c.end_run-in-Err-Memory.result.history c.end_run-in-Err-Memory.ensures.history c.end_run-in-Err-Memory.result.disk c.end_run-in-Err-Memory.ensures.disk Memory c.end_run-in-Err-Memory.result.ending
-    (g.K.Sink.shows c.end_run-in-Err-Memory.new.out) (due_at_memory on g.R.Draws start had left now until) c.end_run-in-Err-Memory.ensures.ends)
+    let stops = c.in-Err-Memory.ensures.stops start same begun in
+    let until = subst (λ stop. IsRunUntil on g.R.Draws stop start had left now) c.in-Err-Memory.field-0-is stops in
+    let end = c.end_run-in-Err-Memory in
+    let last = g.K.Sink.shows end.new.out in
+    subst (λ was. RunsScript on start.by start.request start.run had left was last end.result.ending end.result.history end.result.disk) same
+    (ran_to on g.R.Draws start had left now end.result.history end.ensures.history end.result.disk end.ensures.disk Memory end.result.ending last
+    (due_at_memory on g.R.Draws start had left now until) end.ensures.ends)
 
 pub returns-in-Err-Sink : goal.returns-in-Err-Sink
 returns-in-Err-Sink g c start same opened =
@@ -63,11 +71,14 @@ returns-in-Err-Sink g c start same opened =
     let left = g.S.Source.shows c.follow.new.script in
     let now = at c.follow.new.self (g.K.Sink.shows c.follow.new.out) in
     let begun = subst (IsOpened on g.R.Draws start) (sym c.begin-run.ensures.group) opened in
-    let until = subst (λ stop. IsRunUntil on g.R.Draws stop start had left now) c.in-Err-Sink.field-0-is (c.in-Err-Sink.ensures.stops start same begun) in
-    subst (λ ending. RunsScript on start.by start.request start.run had left (g.K.Sink.shows c.args.out.now) (g.K.Sink.shows c.follow.new.out) ending
-    c.finish.result.history c.finish.result.disk) (sym c.finish.ensures.ending)
-    (subst (λ was. RunsScript on start.by start.request start.run had left was (g.K.Sink.shows c.follow.new.out) Sink c.finish.result.history c.finish.result.disk) same
-    (ran_into_sink on g.R.Draws start had left now c.finish.result.history c.finish.ensures.history c.finish.result.disk c.finish.ensures.disk until))
+    let stops = c.in-Err-Sink.ensures.stops start same begun in
+    let until = subst (λ stop. IsRunUntil on g.R.Draws stop start had left now) c.in-Err-Sink.field-0-is stops in
+    let end = c.finish in
+    let was = g.K.Sink.shows c.args.out.now in
+    let last = g.K.Sink.shows c.follow.new.out in
+    subst (λ ending. RunsScript on start.by start.request start.run had left was last ending end.result.history end.result.disk) (sym end.ensures.ending)
+    (subst (λ was. RunsScript on start.by start.request start.run had left was last Sink end.result.history end.result.disk) same
+    (ran_into_sink on g.R.Draws start had left now end.result.history end.ensures.history end.result.disk end.ensures.disk until))
 
 pub returns-in-Err-Unreported : goal.returns-in-Err-Unreported
 returns-in-Err-Unreported g c start same opened =
@@ -76,8 +87,11 @@ returns-in-Err-Unreported g c start same opened =
     let left = g.S.Source.shows c.follow.new.script in
     let now = at c.follow.new.self (g.K.Sink.shows c.follow.new.out) in
     let begun = subst (IsOpened on g.R.Draws start) (sym c.begin-run.ensures.group) opened in
-    let until = subst (λ stop. IsRunUntil on g.R.Draws stop start had left now) c.in-Err-Unreported.field-0-is (c.in-Err-Unreported.ensures.stops start same begun) in
-    subst (λ ending. RunsScript on start.by start.request start.run had left (g.K.Sink.shows c.args.out.now) (g.K.Sink.shows c.follow.new.out) ending
-    c.finish-in-Err-Unreported.result.history c.finish-in-Err-Unreported.result.disk) (sym c.finish-in-Err-Unreported.ensures.ending)
-    (subst (λ was. RunsScript on start.by start.request start.run had left was (g.K.Sink.shows c.follow.new.out) Memory c.finish-in-Err-Unreported.result.history c.finish-in-Err-Unreported.result.disk) same
-    (ran_unreported on g.R.Draws start had left now c.finish-in-Err-Unreported.result.history c.finish-in-Err-Unreported.ensures.history c.finish-in-Err-Unreported.result.disk c.finish-in-Err-Unreported.ensures.disk until))
+    let stops = c.in-Err-Unreported.ensures.stops start same begun in
+    let until = subst (λ stop. IsRunUntil on g.R.Draws stop start had left now) c.in-Err-Unreported.field-0-is stops in
+    let end = c.finish-in-Err-Unreported in
+    let was = g.K.Sink.shows c.args.out.now in
+    let last = g.K.Sink.shows c.follow.new.out in
+    subst (λ ending. RunsScript on start.by start.request start.run had left was last ending end.result.history end.result.disk) (sym end.ensures.ending)
+    (subst (λ was. RunsScript on start.by start.request start.run had left was last Memory end.result.history end.result.disk) same
+    (ran_unreported on g.R.Draws start had left now end.result.history end.ensures.history end.result.disk end.ensures.disk until))

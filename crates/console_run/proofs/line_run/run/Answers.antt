@@ -38,7 +38,8 @@ returns-in_err-asked g c =
       | in-Reopen w ↦ unchanged old new w.reopen-asked.new.self w.reopen-asked.result e w.group-is (sym w.asked-is ∙ was) w.reopen-asked.ensures.err
       | in-Show w ↦ unchanged old new w.show-asked.new.self w.show-asked.result e w.group-is (sym w.asked-is ∙ was) w.show-asked.ensures.err
     ] in
-    match_error _ _ _ Memory c.from_residual.ensures.1 (Stops-unbegun (devices g.D.Disk g.G.Signer g.V.Verifier c.args.verifier.now) g.R.Draws c.args.line old new (g.K.Sink.shows c.args.out.now) same)
+    match_error _ _ _ Memory c.from_residual.ensures.1
+    (Stops-unbegun (devices g.D.Disk g.G.Signer g.V.Verifier c.args.verifier.now) g.R.Draws c.args.line old new (g.K.Sink.shows c.args.out.now) same)
 
 pub returns : goal.returns
 returns g c =
@@ -58,13 +59,15 @@ returns g c =
           asked_once on g.R.Draws old new line (lines.Leave w.in-Leave.member) w.in-Leave.is (requests.Leave w.in-Leave.member) (λ run so_far next h. h)
           w.leave-asked.new.self w.group-is w.leave-asked.result u (sym w.asked-is ∙ ok) w.leave-asked.ensures.ok
       | in-Deliver w ↦
-          asked_once on g.R.Draws old new line (lines.Deliver w.in-Deliver.member w.in-Deliver.sequence) w.in-Deliver.is (requests.Deliver w.in-Deliver.member w.in-Deliver.sequence) (λ run so_far next h. h)
+          asked_once on g.R.Draws old new line (lines.Deliver w.in-Deliver.member w.in-Deliver.sequence) w.in-Deliver.is
+          (requests.Deliver w.in-Deliver.member w.in-Deliver.sequence) (λ run so_far next h. h)
           w.deliver-asked.new.self w.group-is w.deliver-asked.result u (sym w.asked-is ∙ ok) w.deliver-asked.ensures.ok
       | in-Key w ↦
           asked_once on g.R.Draws old new line (lines.Key w.in-Key.member) w.in-Key.is (requests.Key w.in-Key.member) (λ run so_far next h. h)
           w.key-asked.new.self w.group-is w.key-asked.result u (sym w.asked-is ∙ ok) w.key-asked.ensures.ok
       | in-Derive w ↦
-          asked_once on g.R.Draws old new line (lines.Derive w.in-Derive.epoch w.in-Derive.members) w.in-Derive.is (requests.Derive w.in-Derive.epoch w.in-Derive.members) (λ run so_far next h. h)
+          asked_once on g.R.Draws old new line (lines.Derive w.in-Derive.epoch w.in-Derive.members) w.in-Derive.is
+          (requests.Derive w.in-Derive.epoch w.in-Derive.members) (λ run so_far next h. h)
           w.derive-asked.new.self w.group-is w.derive-asked.result u (sym w.asked-is ∙ ok) w.derive-asked.ensures.ok
       | in-Halt w ↦
           asked_once on g.R.Draws old new line lines.Halt w.in-Halt.is requests.Halt (λ run so_far next h. h)

@@ -11,7 +11,7 @@ make_ready-requires-clause-drawn g c =
 pub make_ready-requires-clause-high : goal.make_ready-requires-clause-high
 make_ready-requires-clause-high g c =
     high_there (g.R.Draws.block_at c.args.draws.now) (g.R.Draws.place_of c.args.draws.now) c.in_ok-values.values c.drawn.result.now c.in_ok-step.step.drawn
-    c.in_ok-values.ensures.values c.drawn.ensures c.traffic_fits.ensures.spi
+    c.in_ok-values.ensures.values c.drawn.ensures c.values_fit.ensures.traffic.spi
 
 pub returns-in_err-values-clause-moved : goal.returns-in_err-values-clause-moved
 returns-in_err-values-clause-moved g c list group =
@@ -22,7 +22,8 @@ returns-in_err-make_ready-clause-moved g c list group =
     on_err c.from_residual-in_err-make_ready.result
     (moved_there (g.R.Draws.place_of c.args.draws.now) (g.R.Draws.place_of c.draw_values.new.draws) c.drawn.result.now _ c.in_ok-values.ensures.place
     (positions_there c.args.head.now c.args.tree.now c.args.kept.now list group c.args.batch.now c.args.head.now.limit c.in_ok-step.step c.in_ok-step.ensures.ok
-    c.drawn.result.now c.drawn.ensures))
+    c.drawn.result.now c.drawn.ensures)
+    _ (allowed_there c.args.head.now c.args.tree.now c.args.kept.now list group c.args.batch.now (c.in_ok-step.ensures.allowed (batches_made list) group.tree)))
 
 pub returns-clause-allowed : goal.returns-clause-allowed
 returns-clause-allowed g c list group =

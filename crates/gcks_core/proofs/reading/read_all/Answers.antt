@@ -1,5 +1,5 @@
 use Rattle.std.specs.Prelude.{IsSome}
-use Rattle.std.proofs.Common.{◌++◌, ◌∷◌, [], List, Ok, refl, sym, subst, ap}
+use Rattle.std.proofs.Common.{◌++◌, ◌∷◌, ◌≤◌, [], List, Ok, refl, sym, subst, ap}
 use Rattle.gd_disk.specs.Disks.{Knows}
 use Rattle.gd_disk.specs.Moments.{shown}
 use Rattle.group_model.specs.Present.{StandsFor}
@@ -58,6 +58,7 @@ returns-clause-found g c =
       subst (λ (h : Head). IsGroupOf h found.tree found.kept list) (sym made.0) made.1,
       subst (λ (h : Head). IsAtEnd g.D.Disk next h list) (sym made.0) ends,
       subst (λ (h : Head). IsPairIfStayed g.G.Signer c.args.signer.now h.depth h.spi list found.resent) (sym made.0) made.2,
+      subst (λ (h : Head). 1 ≤ h.limit) (sym made.0) c.head-head.ensures.limited,
     )
 
 pub returns-clause-durable : goal.returns-clause-durable

@@ -36,8 +36,8 @@ returns-in-Ok-commit-clause-closes g c =
     subst (λ (core : CoreView g.row.D.Denot g.row.G.Denot g.row.R.Denot).
     ClosesEach g.D.Disk g.G.Signer g.R.Draws core (Batched c.with_replies.result) new) same
     (subst (λ (output : Output). ClosesEach g.D.Disk g.G.Signer g.R.Draws (record mid { draws = old.draws }) (Batched output) new) (sym c.with_replies.ensures)
-    (is_stored g.D.Disk g.G.Signer g.R.Draws mid new old.draws ready prepares (g.met.D.Disk.counts_now new.disk) stored.keeps stored.same.2 stored.any_moment
-    c.in-Ok-commit.output c.in-Ok-replies.replies c.queued.result.now c.in-Ok.ensures.ready c.queued.ensures c.in-Ok-replies.ensures stored.step
+    (is_stored g.D.Disk g.G.Signer g.R.Draws mid new old.draws ready prepares c.in-Ok.ensures.fit (g.met.D.Disk.counts_now new.disk) stored.keeps stored.same.2
+    stored.any_moment c.in-Ok-commit.output c.in-Ok-replies.replies c.queued.result.now c.in-Ok.ensures.ready c.queued.ensures c.in-Ok-replies.ensures stored.step
     stored.puts_out stored.stored stored.durable stored.stands))
 
 pub returns-in-Ok-commit-clause-to_tell : goal.returns-in-Ok-commit-clause-to_tell
@@ -96,5 +96,5 @@ returns-in-Err-commit-clause-closes g c =
     (sym same) c.in-Ok.ensures.step in
     subst (λ (core : CoreView g.row.D.Denot g.row.G.Denot g.row.R.Denot).
     ClosesEach g.D.Disk g.G.Signer g.R.Draws core (Refused c.in-Err-commit.why) new) same
-    (is_in_doubt g.D.Disk g.G.Signer g.R.Draws mid new old.draws ready prepares (g.met.D.Disk.counts_now new.disk) failed.keeps failed.same.2 failed.any_moment
-    c.in-Err-commit.why failed.step failed.doubt failed.cause.1)
+    (is_in_doubt g.D.Disk g.G.Signer g.R.Draws mid new old.draws ready prepares c.in-Ok.ensures.fit (g.met.D.Disk.counts_now new.disk) failed.keeps failed.same.2
+    failed.any_moment c.in-Err-commit.why failed.step failed.doubt failed.cause.1)

@@ -25,8 +25,7 @@ returns-in-Ok-clause-each g c =
     let resent = c.in-Ok.resent in
     let shown = c.answer_open.ensures in
     let other = opens_again g.D.Disk g.G.Signer g.R.Draws old new c.a_file_has_one_group.ensures.one read.0 resent (record {
-      shallow = shown.shallow;
-      deep = shown.not_deep;
+      head = record { fits = c.head_fits.ensures.fits; octets = c.head_fits.ensures.octets };
       stands = read.1;
       was_there = read.2;
       pair = read.3;

@@ -1,6 +1,7 @@
 use Rattle.std.proofs.Common.{arith, length}
 use Rattle.member_roots.specs.Roots.{HasKeysOf, IsStoreOf}
 use Rattle.store_steps.proofs.FrontLemmas.{member_now}
+use Rattle.store_steps.proofs.OpenedLemmas.{keyed_with}
 use Rattle.store_steps.proofs.PeerLemmas.{found}
 use Rattle.store_steps.proofs.ReplyLemmas.{keeps, keyed_now, root_early}
 use Rattle.store_steps.proofs.laws.a_reply_is_kept_in_a_history.Goals as goal
@@ -13,6 +14,9 @@ returns g c signer verifier block before run m answer outside next keyed step =
     let epoch = length list in
     let keeping = step.answered in
     let told = keyed_now depth spi list m keeping.keyed keeping.told in
+    let group =
+    keyed_with g.D.Disk g.G.Signer signer g.V.Verifier verifier block (c.an_opened_group_has_keys.ensures signer verifier block) before run keyed
+    m keeping.granted in
     let all = c.each_store_is_one_of_the_group.ensures signer verifier block before run keyed in
     keeps before m run answer outside next keeping
     (λ store had.
@@ -20,5 +24,5 @@ returns g c signer verifier block before run m answer outside next keyed step =
     c.a_later_reply_is_not_older.ensures depth epoch spi list m keeping.keyed store is (omega arith) (root_early depth spi list m store is.root)
     told)
     (HasKeysOf depth spi list epoch m)
-    (c.a_reply_is_at_its_root.ensures depth epoch spi list m keeping.keyed keyed.group (omega arith)
+    (c.a_reply_is_at_its_root.ensures depth epoch spi list m keeping.keyed group (omega arith)
     (member_now depth list list m keeping.member) told).1

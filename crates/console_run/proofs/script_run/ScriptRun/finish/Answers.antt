@@ -27,8 +27,10 @@ returns-clause-ends g c = λ start before so.
     let was = c.args.self.now in
     let seen = g.K.Sink.shows in
     let some = some_of (length was.line.items) c.if-is_empty.ensures in
-    whole_with_last on g.R.Draws start before was.group c.run_line.new.group was.line.items was.count (seen c.args.out.now) (seen c.run_line.new.out) so some (c.requires.ready.begun some)
-    (subst (λ text. Runs g.D.Disk g.R.Draws (by_text on text) was.group c.run_line.new.group (seen c.args.out.now) (seen c.run_line.new.out)) c.as_slice.ensures.value c.in_ok-run_line.ensures.ok)
+    whole_with_last on g.R.Draws start before was.group c.run_line.new.group was.line.items was.count (seen c.args.out.now) (seen c.run_line.new.out) so some
+    (c.requires.ready.begun some)
+    (subst (λ text. Runs g.D.Disk g.R.Draws (by_text on text) was.group c.run_line.new.group (seen c.args.out.now) (seen c.run_line.new.out))
+    c.as_slice.ensures.value c.in_ok-run_line.ensures.ok)
 
 pub returns-in_err-run_line-clause-stops : goal.returns-in_err-run_line-clause-stops
 returns-in_err-run_line-clause-stops g c =
@@ -39,7 +41,9 @@ returns-in_err-run_line-clause-stops g c =
     let text = c.as_slice.ensures.value in
     if_error _ _ _ c.from_residual.ensures.1
     (λ start before so.
-    stopped_at_end on g.R.Draws start before stop was.group c.run_line.new.group was.line.items was.count (seen c.args.out.now) (seen c.run_line.new.out) so c.requires.ready.short
+    stopped_at_end on g.R.Draws start before stop was.group c.run_line.new.group was.line.items was.count (seen c.args.out.now)
+    (seen c.run_line.new.out) so c.requires.ready.short
     (c.requires.ready.begun (some_of (length was.line.items) c.if-is_empty.ensures))
     (λ line. ap is_line (sym text) ∙ c.run_line.ensures.faulty (c.in_err-run_line.was ∙ ap Err line))
-    (subst (λ text. Stops g.D.Disk g.R.Draws (begun_by_text on text) stop was.group c.run_line.new.group (seen c.args.out.now) (seen c.run_line.new.out)) text c.in_err-run_line.ensures.stops))
+    (subst (λ text. Stops g.D.Disk g.R.Draws (begun_by_text on text) stop was.group c.run_line.new.group (seen c.args.out.now) (seen c.run_line.new.out)) text
+    c.in_err-run_line.ensures.stops))

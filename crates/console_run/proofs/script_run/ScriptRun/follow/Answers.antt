@@ -15,7 +15,8 @@ returns-in_err-report_last-clause-stops g c =
     let seen = g.K.Sink.shows in
     if_error _ _ _ c.from_residual.ensures.1
     (λ start same opened.
-    run_stopped_at_opening on g.R.Draws start was.group was.line.items was.count (seen c.args.out.now) (seen c.report_last.new.out) same opened c.requires.line c.requires.count
+    run_stopped_at_opening on g.R.Draws start was.group was.line.items was.count (seen c.args.out.now)
+    (seen c.report_last.new.out) same opened c.requires.line c.requires.count
     (g.S.Source.shows c.args.script.now) c.in_err-report_last.field-0.0 c.in_err-report_last.ensures.breaks)
 
 pub returns-in_err-buffer-clause-stops : goal.returns-in_err-buffer-clause-stops
@@ -25,7 +26,8 @@ returns-in_err-buffer-clause-stops g c =
     let seen = g.K.Sink.shows in
     if_error _ _ Memory c.from_residual-in_err-buffer.ensures.1
     (λ start same opened.
-    run_out_of_memory on g.R.Draws start was.group was.line.items was.count (seen c.args.out.now) (seen c.report_last.new.out) same opened c.requires.line c.requires.count c.in_ok-report_last.ensures.ok
+    run_out_of_memory on g.R.Draws start was.group was.line.items was.count (seen c.args.out.now)
+    (seen c.report_last.new.out) same opened c.requires.line c.requires.count c.in_ok-report_last.ensures.ok
     (g.S.Source.shows c.args.script.now))
 
 pub returns-in_err-take_script-clause-stops : goal.returns-in_err-take_script-clause-stops
@@ -36,8 +38,10 @@ returns-in_err-take_script-clause-stops g c =
     let seen = g.K.Sink.shows in
     if_error _ _ _ c.from_residual-in_err-take_script.ensures.1
     (λ start same opened.
-    run_stopped on g.R.Draws start was.group was.line.items was.count (seen c.args.out.now) (seen c.report_last.new.out) same opened c.requires.line c.requires.count c.in_ok-report_last.ensures.ok
-    (left c.args.script.now) (left c.take_script.new.script) c.in_err-take_script.field-0.0 (at c.take_script.new.self (seen c.take_script.new.out)) c.in_err-take_script.ensures.stops)
+    run_stopped on g.R.Draws start was.group was.line.items was.count (seen c.args.out.now)
+    (seen c.report_last.new.out) same opened c.requires.line c.requires.count c.in_ok-report_last.ensures.ok
+    (left c.args.script.now) (left c.take_script.new.script) c.in_err-take_script.field-0.0
+    (at c.take_script.new.self (seen c.take_script.new.out)) c.in_err-take_script.ensures.stops)
 
 pub returns-clause-stops : goal.returns-clause-stops
 returns-clause-stops g c =
@@ -47,7 +51,8 @@ returns-clause-stops g c =
     let seen = g.K.Sink.shows in
     at_error _ _ c.finish.result
     (λ stop failed stops start same opened.
-    run_stopped_at_end on g.R.Draws start was.group was.line.items was.count (seen c.args.out.now) (seen c.report_last.new.out) same opened c.requires.line c.requires.count c.in_ok-report_last.ensures.ok
+    run_stopped_at_end on g.R.Draws start was.group was.line.items was.count (seen c.args.out.now)
+    (seen c.report_last.new.out) same opened c.requires.line c.requires.count c.in_ok-report_last.ensures.ok
     (left c.args.script.now) (left c.take_script.new.script) (at c.take_script.new.self (seen c.take_script.new.out)) c.in_ok-take_script.ensures.goes stop
     (at c.finish.new.self (seen c.finish.new.out))
     (SourceFails-other stop _ _ (λ source. c.finish.ensures.other (failed ∙ ap Err source)) c.in_ok-take_script.ensures.goes.stands) stops)
@@ -61,7 +66,8 @@ returns-clause-ok g c =
     let seen = g.K.Sink.shows in
     on_ok_weaker c.finish.result
     (λ ends start same opened.
-    run_whole on g.R.Draws start was.group was.line.items was.count (seen c.args.out.now) (seen c.report_last.new.out) same opened c.requires.line c.requires.count c.in_ok-report_last.ensures.ok
+    run_whole on g.R.Draws start was.group was.line.items was.count (seen c.args.out.now)
+    (seen c.report_last.new.out) same opened c.requires.line c.requires.count c.in_ok-report_last.ensures.ok
     (left c.args.script.now) (left c.take_script.new.script) (at c.take_script.new.self (seen c.take_script.new.out)) c.in_ok-take_script.ensures.goes
     (at c.finish.new.self (seen c.finish.new.out)) ends)
     c.finish.ensures.ends

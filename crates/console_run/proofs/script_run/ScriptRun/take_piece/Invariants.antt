@@ -8,6 +8,7 @@ use Rattle.console_run.proofs.script_run.ScriptRun.take_piece.Given as goal
 abbrev pub invariant-loop-octet : goal.invariant-loop-octet
 invariant-loop-octet g l = record {
   ready : IsReady (at l.self (g.K.Sink.shows l.out));
-  goes : GoesOn (devices g.D.Disk g.G.Signer g.V.Verifier l.verifier) g.R.Draws (take l.octet-index l.piece) (at l.fn.self (g.K.Sink.shows l.fn.out)) (at l.self (g.K.Sink.shows l.out));
+  goes : GoesOn (devices g.D.Disk g.G.Signer g.V.Verifier l.verifier) g.R.Draws (take l.octet-index l.piece) (at l.fn.self (g.K.Sink.shows l.fn.out))
+      (at l.self (g.K.Sink.shows l.out));
   nearer : room_left (at l.self (g.K.Sink.shows l.out)) + l.octet-index ≤ room_left (at l.fn.self (g.K.Sink.shows l.fn.out));
 }

@@ -23,7 +23,12 @@ pieces-init g c =
     record {
       ready = c.requires.ready;
       stands = refl;
-      goes = ([], Consumes-nil (g.S.Source.shows c.args.script.now).octets, refl, GoesOn-none on g.R.Draws (at c.args.self.now (g.K.Sink.shows c.args.out.now)));
+      goes = (
+        [],
+        Consumes-nil (g.S.Source.shows c.args.script.now).octets,
+        refl,
+        GoesOn-none on g.R.Draws (at c.args.self.now (g.K.Sink.shows c.args.out.now)),
+      );
     }
 
 pub pieces-preserved : goal.pieces-preserved
@@ -33,7 +38,9 @@ pieces-preserved g c =
     let seen = g.K.Sink.shows in
     let piece = c.split_at.result.0.now in
     let before = c.pieces.invariant.goes in
-    let moved : Consumes (left c.pieces.script).octets (left c.take.new.self).octets piece = subst (Consumes (left c.pieces.script).octets (left c.take.new.self).octets) {x = take c.in-Ok.n c.take.new.into} (sym {b = take c.in-Ok.n c.take.new.into} c.split_at.ensures.front) c.in-Ok.ensures.moved in
+    let moved : Consumes (left c.pieces.script).octets (left c.take.new.self).octets piece =
+    subst (Consumes (left c.pieces.script).octets (left c.take.new.self).octets) {x = take c.in-Ok.n c.take.new.into}
+    (sym {b = take c.in-Ok.n c.take.new.into} c.split_at.ensures.front) c.in-Ok.ensures.moved in
     record {
       ready = c.in_ok-take_piece.ensures.ready;
       stands = c.in-Ok.ensures.stands ∙ c.pieces.invariant.stands;
@@ -55,10 +62,12 @@ returns-in-Err-clause-stops g c =
     let ready = c.pieces.invariant.ready in
     record {
       taken = before.0;
-      consumed = Consumes-kept (left c.args.script.now).octets (left c.pieces.script).octets (left c.take.new.self).octets before.0 before.1 c.in-Err.ensures.failed;
+      consumed = Consumes-kept (left c.args.script.now).octets (left c.pieces.script).octets
+          (left c.take.new.self).octets before.0 before.1 c.in-Err.ensures.failed;
       small = before.2;
       source = subst (λ faults. Rose faults (left c.take.new.self).faults) c.pieces.invariant.stands c.in-Err.ensures.cause;
-      stops = StopsWithin-lost on g.R.Draws before.0 (at c.args.self.now (seen c.args.out.now)) (at c.pieces.self (seen c.pieces.out)) before.3 ready.short ready.begun;
+      stops = StopsWithin-lost on g.R.Draws before.0 (at c.args.self.now (seen c.args.out.now))
+          (at c.pieces.self (seen c.pieces.out)) before.3 ready.short ready.begun;
     }
 
 pub returns-in_err-take_piece-clause-stops : goal.returns-in_err-take_piece-clause-stops
@@ -69,12 +78,15 @@ returns-in_err-take_piece-clause-stops g c =
     let stop = c.in_err-take_piece.field-0.0 in
     let piece = c.split_at.result.0.now in
     let before = c.pieces.invariant.goes in
-    let moved : Consumes (left c.pieces.script).octets (left c.take.new.self).octets piece = subst (Consumes (left c.pieces.script).octets (left c.take.new.self).octets) {x = take c.in-Ok.n c.take.new.into} (sym {b = take c.in-Ok.n c.take.new.into} c.split_at.ensures.front) c.in-Ok.ensures.moved in
+    let moved : Consumes (left c.pieces.script).octets (left c.take.new.self).octets piece =
+    subst (Consumes (left c.pieces.script).octets (left c.take.new.self).octets) {x = take c.in-Ok.n c.take.new.into}
+    (sym {b = take c.in-Ok.n c.take.new.into} c.split_at.ensures.front) c.in-Ok.ensures.moved in
     if_error _ _ _ c.from_residual.ensures.1 (record {
       taken = before.0 ++ piece;
       consumed = Consumes-trans (left c.args.script.now).octets (left c.pieces.script).octets (left c.take.new.self).octets before.0 piece before.1 moved;
       small = both_small before.0 piece before.2 c.in_err-take_piece.ensures.octets;
-      source = SourceFails-other stop _ _ (λ source. c.take_piece.ensures.other (c.in_err-take_piece.was ∙ ap Err source)) (c.in-Ok.ensures.stands ∙ c.pieces.invariant.stands);
+      source = SourceFails-other stop _ _ (λ source. c.take_piece.ensures.other (c.in_err-take_piece.was ∙ ap Err source))
+          (c.in-Ok.ensures.stands ∙ c.pieces.invariant.stands);
       stops = StopsWithin-then on g.R.Draws before.0 piece stop (at c.args.self.now (seen c.args.out.now)) (at c.pieces.self (seen c.pieces.out))
           (at c.take_piece.new.self (seen c.take_piece.new.out)) before.3 c.in_err-take_piece.ensures.stops;
     })

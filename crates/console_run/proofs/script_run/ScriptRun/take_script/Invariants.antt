@@ -12,7 +12,8 @@ invariant-pieces g l = record {
   ready : IsReady (at l.self (g.K.Sink.shows l.out));
   stands : (g.S.Source.shows l.script).faults ≡ (g.S.Source.shows l.fn.script).faults;
   goes : (taken : List ℕ) × Consumes (g.S.Source.shows l.fn.script).octets (g.S.Source.shows l.script).octets taken × (are_octets taken ≡ true)
-      × GoesOn (devices g.D.Disk g.G.Signer g.V.Verifier l.verifier) g.R.Draws taken (at l.fn.self (g.K.Sink.shows l.fn.out)) (at l.self (g.K.Sink.shows l.out));
+      × GoesOn (devices g.D.Disk g.G.Signer g.V.Verifier l.verifier) g.R.Draws taken (at l.fn.self (g.K.Sink.shows l.fn.out))
+      (at l.self (g.K.Sink.shows l.out));
 }
 
 abbrev pub decreases-pieces : goal.decreases-pieces

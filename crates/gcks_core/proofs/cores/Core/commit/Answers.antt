@@ -25,6 +25,7 @@ invariant_of-self g c =
     record {
       list = known.list ++ record { changes = core.queue; values = c.args.prepared.values } ∷ [];
       group = c.in-Ok.ensures.group core.head known.list core.queue known.group storable;
+      limited = known.limited;
       fits = subst (Fits holders) (sym c.clear.ensures) (c.a_batch_that_fits_has_few_changes.ensures.none holders);
       at_end = λ still. c.in-Ok.ensures.at_end core.head known.list core.queue (known.at_end goes) storable;
     }

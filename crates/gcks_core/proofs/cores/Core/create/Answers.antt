@@ -20,6 +20,7 @@ invariant_of-result g c =
     record {
       list = [];
       group = c.in-Ok.ensures head refl;
+      limited = c.requires.limited;
       fits = subst (Fits c.in-Ok.tree.holders) (sym c.new.ensures) (nothing_waits c.in-Ok.tree.holders);
       at_end = λ _.
           made_at_end g.D.Disk c.args.parts.disk c.in-Ok-create.store head made.keeps made.made made.began.1 (subst IsSome (sym made.began.2) refl);

@@ -3,7 +3,7 @@ use Rattle.std.specs.Prelude.{is_none, is_some}
 use Rattle.std.proofs.lemmas.List.{length-replicate}
 use Rattle.group_model.specs.Places.{Holders}
 use Rattle.group_model.specs.Private.Seats.{IsIndexOf}
-use Rattle.group_model.proofs.PlanLemmas.{StandsFor-first}
+use Rattle.group_model.proofs.PresentLemmas.{StandsFor-first}
 use Rattle.group_model.proofs.SeatLemmas.{nobody_held}
 use Rattle.group_model.proofs.present.PresentTree.new.Goals as goal
 

@@ -2,7 +2,7 @@ use Rattle.std.proofs.Common.{◌≡◌, ◌∙◌}
 use Rattle.std.proofs.lemmas.Result.{IfOk-weaker}
 use Rattle.group_model.specs.Present.{IsPathOf}
 use Rattle.group_model.specs.Private.Presents.{path_in}
-use Rattle.group_model.proofs.PlanLemmas.{path_in-is}
+use Rattle.group_model.proofs.PresentLemmas.{path_in-is}
 use Rattle.group_model.proofs.present.PresentTree.path.Goals as goal
 
 pub returns : goal.returns

@@ -29,8 +29,8 @@ returns-in-Ok-create-clause-ok g c =
     subst (λ (held : View g.row.D.Denot g.row.G.Denot g.row.R.Denot).
     Opens g.D.Disk draws (IsCreation g.D.Disk block group.depth) (Create group.depth) (no_run parts.disk group.name group.limit place) held)
     (sym is)
-    (creates g.D.Disk parts.disk group.name group.limit group.depth place block c.requires.shallow c.requires.not_deep c.requires.limited draws core made.head made.server
-    made.made made.durable made.moments made.stands made.keeps)
+    (creates g.D.Disk parts.disk group.name group.limit group.depth place block c.requires.shallow c.requires.not_deep c.requires.limited draws core made.head
+    (record { fits = c.head_fits.ensures.fits; octets = c.head_fits.ensures.octets }) made.server made.made made.durable made.moments made.stands made.keeps)
 
 pub returns-in-Err-clause-err : goal.returns-in-Err-clause-err
 returns-in-Err-clause-err g c =

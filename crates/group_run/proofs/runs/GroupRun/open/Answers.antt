@@ -35,9 +35,8 @@ returns-in-Ok-open-clause-ok g c name limit =
     subst (λ (held : View g.row.D.Denot g.row.G.Denot g.row.R.Denot).
     Opens g.D.Disk draws (IsBeginning g.D.Disk g.G.Signer parts.signer) Begin (no_run parts.disk name limit place) held)
     (sym is)
-    (begins g.D.Disk g.G.Signer draws parts.signer parts.disk name limit place core read.0 resent (record {
-      shallow = c.opened.ensures.shallow;
-      deep = c.opened.ensures.not_deep;
+    (begins g.D.Disk g.G.Signer draws parts.signer parts.disk name limit place core read.0 resent (g.met.D.Disk.only_now core.disk) (record {
+      head = record { fits = c.head_fits.ensures.fits; octets = c.head_fits.ensures.octets };
       stands = read.1;
       was_there = read.2;
       pair = read.3;
@@ -61,5 +60,5 @@ returns-in-Err-clause-err g c name limit =
     subst (λ (x : List Entry × g.row.D.Denot). FailsToOpen g.D.Disk (IsBeginning g.D.Disk g.G.Signer parts.signer) Begin
     (no_run parts.disk name limit place) x.0 x.1)
     (λ i. (sym says i, sym (ap (λ p. p.disk) c.refused.ensures.parts) i))
-    (inl (begins_not g.D.Disk g.G.Signer draws parts.signer parts.disk name limit place why left
+    (inl (begins_not g.D.Disk g.G.Signer draws parts.signer parts.disk name limit place why left (g.met.D.Disk.only_now left)
     not.cause not.broken not.only not.no_other not.faultless not.any_moment not.same not.keeps))
