@@ -1,4 +1,6 @@
 //! What each call of a store answers, calls of the disk that fail, and crashes.
+ghost use Rattle.std.specs.Prelude.{◌≤◌};
+
 use crate::groups::{
     Why, are_same, commit_all, created, disk_of, head_of, read_all, store_failing_at, two_batches,
     why_not_read,
@@ -9,7 +11,7 @@ use group_terms::List;
 use std::alloc::Global;
 use std::process::Abort;
 use std::test::Fail;
-use tree_store::{FormatRefusal, JournalRefusal, Stored, a_file_has_one_group};
+use tree_store::{Head, JournalRefusal, Stored, a_file_has_one_group};
 
 pub(crate) const FAULT: Why = Some(JournalRefusal::DiskFault);
 
@@ -25,22 +27,37 @@ fn failing(alloc: Global, call: u64) -> Result<UnseenDisk, Fail> {
 #[test]
 fn a_fault_while_a_store_is_made_gives_the_disk_back(rt: HostRuntime) -> Result<(), Fail> {
     for call in 1..12 {
-        let made = made_again(rt.alloc(), failing(rt.alloc(), call)?)?;
-        assert_eq!(rt; made, (FAULT, true), "{call}");
+        assert!(rt; is_given_back(rt.alloc(), call)?, "{call}");
     }
     Ok(())
 }
 
-/// Why no store is made on a disk, and whether one is made on the disk that is given back.
-fn made_again(alloc: Global, disk: UnseenDisk) -> Result<(Why, bool), Fail> {
+/// Whether a call that fails is the fault for which no store is made on a disk, and one is made on the disk that is given back.
+fn is_given_back(alloc: Global, call: u64) -> Result<bool, Fail> {
     let head = head_of(2)?;
-    match created(alloc, disk, &head) {
-        Ok(_) => Ok((None, false)),
-        Err(FormatRefusal { why, disk }) => {
-            let made = created(alloc, disk, &head).is_ok();
-            Ok((Some(why), made))
-        }
+    let disk = failing(alloc, call)?;
+    Ok(made_again(alloc, disk, &head) == (FAULT, true))
+}
+
+/// Why no store is made on a disk, and whether one is made on the disk that is given back.
+fn made_again(alloc: Global, disk: UnseenDisk, head: &Head) -> (Why, bool)
+    requires shallow { 1 ≤ head.now.depth }
+    requires not_deep { head.now.depth ≤ 9 }
+    requires limited { 1 ≤ head.now.limit }
+{
+    match created(alloc, disk, head) {
+        Ok(_) => (None, false),
+        Err(refused) => (Some(refused.why), is_made(alloc, refused.disk, head)),
     }
+}
+
+/// Whether a store is made on a disk.
+fn is_made(alloc: Global, disk: UnseenDisk, head: &Head) -> bool
+    requires shallow { 1 ≤ head.now.depth }
+    requires not_deep { head.now.depth ≤ 9 }
+    requires limited { 1 ≤ head.now.limit }
+{
+    created(alloc, disk, head).is_ok()
 }
 
 /// A disk that fails at these calls, once a store was made on it and batches committed; and how each of these went.

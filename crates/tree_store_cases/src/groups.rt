@@ -109,7 +109,7 @@ pub(crate) fn head_of(depth: u8) -> Result<Head, Fail>
 }
 
 /// A batch, where it fits after those for which a tree stands, with values. The tree goes on by it.
-pub(crate) fn next_of(
+fn next_of(
     alloc: Global,
     tree: &mut PresentTree,
     batch: Batch,
@@ -129,6 +129,19 @@ pub(crate) fn next_of(
     };
     tree.advance(step);
     Ok(stored)
+}
+
+/// Appends a batch with values to a list, where it fits after those for which a tree stands. The tree goes on by it.
+pub(crate) fn push_next(
+    alloc: Global,
+    tree: &mut PresentTree,
+    batch: Batch,
+    numbers: &mut Numbers,
+    list: &mut List<Stored>,
+) -> Result<(), Fail> {
+    let stored = next_of(alloc, tree, batch, numbers)?;
+    list.push(stored)?;
+    Ok(())
 }
 
 /// Values for the keys of these positions.
@@ -163,19 +176,30 @@ pub(crate) fn named(name: &[u8]) -> Result<MemberName, Fail> {
 
 /// Two batches of a group with a tree of depth 2: three members come in, and one goes out.
 pub(crate) fn two_batches(alloc: Global) -> Result<List<Stored>, Fail> {
+    let mut tree = PresentTree::new(alloc, 2)?;
+    let mut list = List::new(alloc);
+    push_two(alloc, &mut tree, &mut list)?;
+    Ok(list)
+}
+
+fn push_two(alloc: Global, tree: &mut PresentTree, list: &mut List<Stored>) -> Result<(), Fail> {
+    let mut numbers = Numbers::new(1);
+    push_next(alloc, tree, three_joins()?, &mut numbers, list)?;
+    push_next(alloc, tree, one_leaves()?, &mut numbers, list)
+}
+
+fn three_joins() -> Result<Batch, Fail> {
     let (a, b, c) = (named(b"a")?, named(b"b")?, named(b"c")?);
-    let joins = batch_of(&[
+    Ok(batch_of(&[
         Change::In { member: a },
         Change::In { member: b },
         Change::In { member: c },
-    ]);
-    let leaves = batch_of(&[Change::Out { member: b }]);
-    let mut numbers = Numbers::new(1);
-    let mut tree = PresentTree::new(alloc, 2)?;
-    let mut list = List::new(alloc);
-    list.push(next_of(alloc, &mut tree, joins, &mut numbers)?)?;
-    list.push(next_of(alloc, &mut tree, leaves, &mut numbers)?)?;
-    Ok(list)
+    ]))
+}
+
+fn one_leaves() -> Result<Batch, Fail> {
+    let member = named(b"b")?;
+    Ok(batch_of(&[Change::Out { member }]))
 }
 
 /// The record of a batch.

@@ -1,7 +1,7 @@
 //! Lists of batches that are stored, opened again and read.
 ghost use Rattle.std.specs.Prelude.{◌≤◌, IsSome, IfOk};
 
-use crate::groups::{Why, are_same, commit_all, created, disk_of, head_of, next_of, read_all};
+use crate::groups::{Why, are_same, commit_all, created, disk_of, head_of, push_next, read_all};
 use crate::numbers::Numbers;
 use crate::unseen::UnseenDisk;
 use gd_disk::MemDisk;
@@ -95,11 +95,21 @@ fn some_list(alloc: Global, depth: u8, numbers: &mut Numbers) -> Result<List<Sto
 {
     let mut tree = PresentTree::new(alloc, depth)?;
     let mut list = List::new(alloc);
-    for _ in 0..1 + numbers.below(40) {
-        let batch = some_batch(alloc, &tree, numbers)?;
-        list.push(next_of(alloc, &mut tree, batch, numbers)?)?;
-    }
+    push_some(alloc, &mut tree, numbers, &mut list)?;
     Ok(list)
+}
+
+fn push_some(
+    alloc: Global,
+    tree: &mut PresentTree,
+    numbers: &mut Numbers,
+    list: &mut List<Stored>,
+) -> Result<(), Fail> {
+    for _ in 0..1 + numbers.below(40) {
+        let batch = some_batch(alloc, tree, numbers)?;
+        push_next(alloc, tree, batch, numbers, list)?;
+    }
+    Ok(())
 }
 
 /// A batch that fits after those for which a tree stands, out of twice as many names as it has leaves.
