@@ -7,7 +7,7 @@ use group_terms::{Batch, Change, MOST_CHANGES, MemberName};
 use std::marker::Model;
 
 /// The changes that wait for the next batch, in the order in which they were asked for; at most 32, and one for each member. It takes no memory.
-#[derive(Debug, Drop)]
+#[derive(Drop)]
 pub struct Queue {
     batch: Batch,
 }

@@ -5,7 +5,7 @@ ghost use Rattle.command_words.specs.Commands.{command_of, IsWithin};
 use crate::found::Found;
 
 /// How a group is opened.
-#[derive(Clone, Copy, Debug, PartialEq, Eq)]
+#[derive(Clone, Copy, PartialEq, Eq)]
 pub enum Opening {
     /// A group is made, with a tree of this depth, from 1 to 9.
     New { depth: u8 },
@@ -14,7 +14,7 @@ pub enum Opening {
 }
 
 /// What the words of the command line ask for.
-#[derive(Clone, Copy, Debug, PartialEq, Eq)]
+#[derive(Clone, Copy, PartialEq, Eq)]
 pub struct Command {
     pub opening: Opening,
     /// How far epochs and sequence numbers may go: 1 at least.

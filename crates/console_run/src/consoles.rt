@@ -38,7 +38,7 @@ use sym_closure::{
 use tree_store::a_file_has_one_group;
 
 /// What is left of a run: how it ended, the history of its group, and the disk.
-#[derive(Debug, Drop)]
+#[derive(Drop)]
 pub struct Finished<D> {
     pub ending: Ending,
     pub history: List<Entry>,

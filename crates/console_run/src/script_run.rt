@@ -22,7 +22,7 @@ const MOST_LINES: u32 = 16_384;
 const PIECE: usize = 4096;
 
 /// A run of a script: the group, what has come of the present line, and how many lines were run before it.
-#[derive(Debug, Drop)]
+#[derive(Drop)]
 pub(crate) struct ScriptRun<D: Disk, G: Signer, R: Draws> {
     pub(crate) group: GroupRun<D, G, R>,
     line: ArrayVec<u8, MOST_LINE_OCTETS>,

@@ -5,7 +5,7 @@ ghost use Rattle.console_run.specs.declared.stops.Stop.TheVariants.{Memory};
 use group_model::NoMemory;
 
 /// Why a run stops before its script ends.
-#[derive(Clone, Copy, Debug, PartialEq, Eq)]
+#[derive(Clone, Copy)]
 pub(crate) enum Stop {
     /// A line is not of the grammar, or is past a limit.
     Line,

@@ -2,7 +2,7 @@ ghost use Rattle.std.specs.Prelude.{◌≡◌};
 ghost use Rattle.epoch_board.specs.Private.Rule.{word_of, pair_of};
 
 /// What a board shows: an epoch, and the sequence number after its batch. Before the first pair is published, both are 0.
-#[derive(Clone, Copy, Debug, PartialEq, Eq, PartialOrd, Ord)]
+#[derive(Clone, Copy, PartialEq, Eq, PartialOrd, Ord)]
 pub struct Seen {
     pub epoch: u32,
     pub sequence: u32,

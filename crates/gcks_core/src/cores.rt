@@ -28,7 +28,7 @@ use std::marker::Model;
 use tree_store::{Head, TreeStore, a_file_has_one_group};
 
 /// One group in its journal.
-#[derive(Debug, Drop)]
+#[derive(Drop)]
 pub struct Core<D: Disk, G: Signer, R: Draws> {
     pub(crate) store: TreeStore<D>,
     pub(crate) head: Head,

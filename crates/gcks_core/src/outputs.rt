@@ -5,7 +5,7 @@ use gd_edges::{Draws, Signer};
 use group_terms::{List, Wrap};
 
 /// What a core stands on: a disk for its journal, who signs its pushes, and where its keys come from.
-#[derive(Debug, Drop)]
+#[derive(Drop)]
 pub struct Parts<D, G, R> {
     pub disk: D,
     pub signer: G,
@@ -13,7 +13,7 @@ pub struct Parts<D, G, R> {
 }
 
 /// What a group is made with: the depth of its tree, 1 to 9, its name, and how far its epochs and its sequence numbers may go.
-#[derive(Clone, Copy, Debug, PartialEq, Eq)]
+#[derive(Clone, Copy, PartialEq, Eq)]
 pub struct NewGroup {
     pub depth: u8,
     pub name: GroupName,
@@ -21,14 +21,14 @@ pub struct NewGroup {
 }
 
 /// Why no core was made or opened, and what it would stand on.
-#[derive(Debug, Drop)]
+#[derive(Drop)]
 pub struct Opening<D, G, R> {
     pub refusal: Refusal,
     pub parts: Parts<D, G, R>,
 }
 
 /// A core that was opened, and the pair of its last batch, where that one sent a pair.
-#[derive(Debug, Drop)]
+#[derive(Drop)]
 pub struct CoreOpened<D: Disk, G: Signer, R: Draws> {
     pub core: Core<D, G, R>,
     pub resent: Option<PushPair>,
@@ -36,7 +36,7 @@ pub struct CoreOpened<D: Disk, G: Signer, R: Draws> {
 
 /// What a batch puts out: the epoch that it made, the number of the last push, how many members there are, what is encrypted, and the pair of pushes if
 /// somebody stayed.
-#[derive(Debug, Drop)]
+#[derive(Drop)]
 pub struct CoreOutput {
     pub epoch: u32,
     pub sequence: u32,

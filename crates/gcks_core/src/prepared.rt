@@ -8,7 +8,7 @@ use group_terms::{BatchValues, List, Octets};
 use std::marker::Model;
 
 /// A batch with all that it makes: the values of its keys, its record, what it puts out, and what it makes of the tree.
-#[derive(Debug, Drop)]
+#[derive(Drop)]
 pub struct Prepared {
     pub(crate) values: BatchValues,
     pub(crate) text: Octets,

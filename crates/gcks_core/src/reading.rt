@@ -28,7 +28,7 @@ use tree_journal::JournalRefusal;
 use tree_store::{Head, Stored, TreeStore};
 
 /// The group that a journal has: its tree, the values of its keys, and the pair of its last batch, if that sent one.
-#[derive(Debug, Drop)]
+#[derive(Drop)]
 pub(crate) struct Found {
     pub(crate) head: Head,
     pub(crate) tree: PresentTree,
@@ -37,7 +37,7 @@ pub(crate) struct Found {
 }
 
 /// What was read so far. The last batch is not in the tree yet, so that its pair can be made.
-#[derive(Debug, Drop)]
+#[derive(Drop)]
 struct Walk {
     tree: PresentTree,
     kept: KeptValues,

@@ -10,7 +10,7 @@ use group_terms::{List, NoMemory, Octets};
 use std::alloc::Global;
 
 /// Which part of what was not synced a crash leaves on the disk.
-#[derive(Clone, Copy, Debug, PartialEq, Eq)]
+#[derive(Clone, Copy)]
 pub(crate) enum Crash {
     Nothing,
     All,
@@ -22,7 +22,7 @@ pub(crate) enum Crash {
 }
 
 /// What a crash leaves of one write or cut.
-#[derive(Clone, Copy, Debug, PartialEq, Eq)]
+#[derive(Clone, Copy)]
 pub(crate) enum Fate {
     Lost,
     Whole,

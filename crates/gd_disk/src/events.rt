@@ -1,7 +1,7 @@
 use group_terms::Octets;
 
 /// What was done to the octets of a disk in memory, with the octets that undo it.
-#[derive(Debug, Drop)]
+#[derive(Drop)]
 pub(crate) enum Event {
     /// These octets were written at a place, over the others.
     Wrote {

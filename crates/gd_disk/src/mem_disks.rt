@@ -14,7 +14,7 @@ use std::marker::Model;
 
 /// A disk in memory, which fails at chosen calls and can be crashed. It keeps all that was done to
 /// it.
-#[derive(Debug, Drop)]
+#[derive(Drop)]
 pub struct MemDisk {
     alloc: Global,
     octets: Octets,

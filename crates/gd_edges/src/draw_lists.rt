@@ -6,7 +6,7 @@ use group_terms::List;
 use std::marker::Model;
 
 /// Blocks that are listed, which come again and again: for tests, in which the order of draws is to be seen.
-#[derive(Debug, Drop)]
+#[derive(Drop)]
 pub struct DrawList {
     blocks: List<[u8; 16]>,
     place: u64,

@@ -4,7 +4,7 @@ use arrayvec::ArrayVec;
 use std::marker::Model;
 
 /// A signature: 1 to 512 octets.
-#[derive(Debug, Drop)]
+#[derive(Drop)]
 pub struct SigBytes {
     octets: ArrayVec<u8, 512>,
 }

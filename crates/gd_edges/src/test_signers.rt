@@ -15,7 +15,7 @@ const TEST_KIND: SignKind = SignKind {
 const TEST_SIZE: usize = 32;
 
 /// Signs by HMAC with SHA-256 under a key that everybody knows: for tests alone.
-#[derive(Clone, Copy, Debug, Default, PartialEq, Eq)]
+#[derive(Clone, Copy, Default, PartialEq, Eq)]
 pub struct TestSigner;
 
 impl TestSigner {
@@ -56,7 +56,7 @@ impl Signer for TestSigner {
 }
 
 /// Accepts what a [`TestSigner`] signs, and nothing else: for tests alone.
-#[derive(Clone, Copy, Debug, Default, PartialEq, Eq)]
+#[derive(Clone, Copy, Default, PartialEq, Eq)]
 pub struct TestVerifier;
 
 impl TestVerifier {

@@ -8,7 +8,7 @@ use std::alloc::Global;
 use std::marker::Model;
 
 /// A sink that keeps its octets in memory, and fails at chosen calls.
-#[derive(Debug, Drop)]
+#[derive(Drop)]
 pub struct TextSink {
     octets: Octets,
     schedule: Schedule,

@@ -7,7 +7,7 @@ use group_terms::{List, Octets, Schedule};
 use std::marker::Model;
 
 /// A text in memory, read as a source that fails at chosen calls.
-#[derive(Debug, Drop)]
+#[derive(Drop)]
 pub struct TextSource {
     text: Octets,
     at: usize,

@@ -14,7 +14,7 @@ use group_terms::{NoMemory, Octets, WireFault, WireWhat};
 const SHORT_FORM: u16 = 0x8000;
 
 /// What an attribute says (RFC 2408 section 3.3).
-#[derive(Clone, Copy, Debug, PartialEq, Eq)]
+#[derive(Clone, Copy, PartialEq, Eq)]
 pub struct Attribute {
     /// Its kind, without the bit of the form.
     pub kind: u16,
@@ -24,7 +24,7 @@ pub struct Attribute {
 }
 
 /// The value of an attribute.
-#[derive(Clone, Copy, Debug, PartialEq, Eq)]
+#[derive(Clone, Copy, PartialEq, Eq)]
 pub enum AttrValue {
     /// A number.
     Short { number: u16 },
@@ -33,7 +33,7 @@ pub enum AttrValue {
 }
 
 /// The type of an attribute.
-#[derive(Clone, Copy, Debug, PartialEq, Eq)]
+#[derive(Clone, Copy, PartialEq, Eq)]
 pub struct AttributeType {
     pub kind: u16,
     /// Whether a number comes next, in the short form.

@@ -16,7 +16,7 @@ use group_terms::{NoMemory, Octets, WireFault, WireWhat};
 pub const HASH_OCTETS: usize = 32;
 
 /// Who or what a payload names (RFC 2408 section 3.8).
-#[derive(Clone, Copy, Debug, PartialEq, Eq)]
+#[derive(Clone, Copy, PartialEq, Eq)]
 pub struct Identification<'a> {
     /// The kind of the identification.
     pub id_type: u8,

@@ -26,7 +26,7 @@ const FIRST: u32 = 16;
 const BLOCK: usize = 16;
 
 /// Where a payload stands.
-#[derive(Clone, Copy, Debug, Default, PartialEq, Eq)]
+#[derive(Clone, Copy, Default, PartialEq, Eq)]
 pub struct Part {
     pub kind: u8,
     /// The place of its generic header in the datagram.
@@ -47,7 +47,7 @@ impl Part {
 }
 
 /// The payloads of a chain, in their order: at most 8.
-#[derive(Debug, Drop)]
+#[derive(Drop)]
 pub struct Chain {
     parts: ArrayVec<Part, MOST_PAYLOADS>,
 }
@@ -86,7 +86,7 @@ impl Chain {
 }
 
 /// What is wrong with a chain first, and the payloads up to there.
-#[derive(Debug, Drop)]
+#[derive(Drop)]
 pub struct ChainFault {
     pub fault: WireFault,
     pub before: Chain,
@@ -109,7 +109,7 @@ pub fn read_chain(first: u8, due: &[u8], text: &[u8], base: u32) -> Result<Chain
 }
 
 /// The kind that was named for the next payload, 0 for none, and the place in the datagram of the octet that names it.
-#[derive(Clone, Copy, Debug, PartialEq, Eq)]
+#[derive(Clone, Copy, PartialEq, Eq)]
 pub struct Named {
     pub kind: u8,
     pub at: u32,

@@ -23,7 +23,7 @@ const PULL: u8 = 32;
 const PUSH: u8 = 33;
 
 /// What a header says (RFC 2408 section 3.1).
-#[derive(Clone, Copy, Debug, PartialEq, Eq)]
+#[derive(Clone, Copy, PartialEq, Eq)]
 pub struct Header {
     /// The cookies of initiator and responder.
     pub cookies: [u8; 16],

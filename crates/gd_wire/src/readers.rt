@@ -15,7 +15,7 @@ const HEADER: usize = 4;
 ///
 /// Each call that reads gives a field and goes on after it, or tells the first fault, with its place in the datagram. Where a call tells a
 /// fault the text is not read on.
-#[derive(Debug, Drop)]
+#[derive(Drop)]
 pub struct Reader<'a> {
     base: u32,
     at: usize,

@@ -9,7 +9,7 @@ use std::marker::Model;
 /// Room that is reserved once, into which texts are put one after the other. Putting one takes no memory, and copies it once.
 ///
 /// Contracts see its octets, and how many there is `room` for.
-#[derive(Debug, Drop)]
+#[derive(Drop)]
 pub struct Room {
     octets: Vec<u8>,
 }

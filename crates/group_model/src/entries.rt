@@ -4,7 +4,7 @@ ghost use Rattle.group_model.specs.declared.entries.Refusal.TheVariants as refus
 use crate::{KeyName, List, LkhId, MemberName, MemberNames, NoMemory, Octets, PushRefusal, Wrap};
 
 /// One event of a history: what was asked of the key server, what the outside did meanwhile, and what was answered.
-#[derive(Debug, Drop)]
+#[derive(Drop)]
 pub struct Entry {
     pub asked: Asked,
     pub outside: Outside,
@@ -12,7 +12,7 @@ pub struct Entry {
 }
 
 /// What is asked of the key server.
-#[derive(Debug, Drop)]
+#[derive(Drop)]
 pub enum Asked {
     /// To make a group with a tree of this depth.
     Create { depth: u8 },
@@ -43,7 +43,7 @@ pub enum Asked {
 }
 
 /// What the outside did during a request.
-#[derive(Clone, Copy, Debug, PartialEq, Eq)]
+#[derive(Clone, Copy, PartialEq, Eq)]
 pub struct Outside {
     /// A call on the disk failed.
     pub disk_failed: bool,
@@ -54,7 +54,7 @@ pub struct Outside {
 }
 
 /// What is answered.
-#[derive(Debug, Drop)]
+#[derive(Drop)]
 pub enum Answer {
     Done,
     /// The change is pending.
@@ -111,14 +111,14 @@ pub enum Answer {
 }
 
 /// What is counted, and may go no further than the group's limit.
-#[derive(Clone, Copy, Debug, PartialEq, Eq)]
+#[derive(Clone, Copy, PartialEq, Eq)]
 pub enum Counter {
     Epoch,
     Sequence,
 }
 
 /// Why the key server refuses a request.
-#[derive(Clone, Copy, Debug, PartialEq, Eq)]
+#[derive(Clone, Copy, PartialEq, Eq)]
 pub enum Refusal {
     /// It has to be opened again first.
     NeedsReopen,
@@ -149,7 +149,7 @@ impl From<NoMemory> for Refusal {
 }
 
 /// What a batch puts out.
-#[derive(Debug, Drop)]
+#[derive(Drop)]
 pub struct Output {
     /// The epoch that it made.
     pub epoch: u32,
@@ -165,7 +165,7 @@ pub struct Output {
 }
 
 /// The two pushes of a batch (RFC 6407 section 4): the new tree keys, and under them the new traffic key.
-#[derive(Debug, Drop)]
+#[derive(Drop)]
 pub struct PushPair {
     /// The sequence number of the membership push; the traffic push has the next.
     pub first: u32,
@@ -176,14 +176,14 @@ pub struct PushPair {
 }
 
 /// A reply as it was sent: what it says by key names, and its datagram.
-#[derive(Debug, Drop)]
+#[derive(Drop)]
 pub struct SentReply {
     pub says: SymReply,
     pub datagram: Octets,
 }
 
 /// What a reply to a member says (RFC 6407 section 3.2): the keys on its way to the root, and the traffic key.
-#[derive(Debug, Drop)]
+#[derive(Drop)]
 pub struct SymReply {
     pub member: MemberName,
     /// The epoch whose keys these are.
@@ -193,7 +193,7 @@ pub struct SymReply {
 }
 
 /// A group as somebody sees it who asks.
-#[derive(Debug, Drop)]
+#[derive(Drop)]
 pub struct GroupSeen {
     pub depth: u8,
     pub epoch: u32,
@@ -203,14 +203,14 @@ pub struct GroupSeen {
 }
 
 /// A member and its leaf.
-#[derive(Clone, Copy, Debug, PartialEq, Eq)]
+#[derive(Clone, Copy, PartialEq, Eq)]
 pub struct Standing {
     pub leaf: LkhId,
     pub member: MemberName,
 }
 
 /// Keys in an order in which each follows from what is held and from those before it.
-#[derive(Debug, Drop)]
+#[derive(Drop)]
 pub struct Derivation {
     pub names: List<KeyName>,
 }

@@ -10,7 +10,7 @@ use crate::{List, LkhId, MemberName, NoMemory};
 use std::alloc::Global;
 
 /// A leaf that changed hands.
-#[derive(Clone, Copy, Debug)]
+#[derive(Clone, Copy)]
 pub(crate) struct Handover {
     leaf: LkhId,
     before: Holder,

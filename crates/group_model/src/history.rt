@@ -17,7 +17,7 @@ use std::marker::Model;
 /// The batches of a group, each of which made an epoch, with a tree of one depth.
 ///
 /// An epoch is the number of batches up to it; at epoch 0 nobody is a member. A batch takes memory for its changes, and not for the tree.
-#[derive(Debug, Drop)]
+#[derive(Drop)]
 pub struct History {
     depth: u8,
     rows: List<Row>,
@@ -26,7 +26,7 @@ pub struct History {
 }
 
 /// A batch, the leaves that changed hands, and how many members there were then.
-#[derive(Debug, Drop)]
+#[derive(Drop)]
 struct Row {
     changes: List<Change>,
     handovers: List<Handover>,

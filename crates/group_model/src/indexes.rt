@@ -12,7 +12,7 @@ use std::alloc::Global;
 use std::collections::HashMap;
 
 /// The place of each member's leaf by its name, as long as there is room for that; without it names are looked for leaf by leaf.
-#[derive(Debug, Drop)]
+#[derive(Drop)]
 pub(crate) struct NameIndex {
     places: Option<HashMap<MemberName, usize>>,
 }

@@ -14,7 +14,7 @@ use std::marker::Model;
 /// Who has which leaf at the present epoch, and when each position got its key.
 ///
 /// It knows no older epoch, so it takes the same memory after each batch. It stands for every list of batches that has made it.
-#[derive(Debug, Drop)]
+#[derive(Drop)]
 pub struct PresentTree {
     pub(crate) depth: u8,
     pub(crate) epoch: u32,

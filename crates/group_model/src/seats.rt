@@ -15,7 +15,7 @@ use group_terms::LeafMarks;
 use std::alloc::Global;
 
 /// A leaf, and who has it from now on.
-#[derive(Clone, Copy, Debug)]
+#[derive(Clone, Copy)]
 pub(crate) struct Seat {
     /// The lowest leaf has the place 0.
     pub(crate) place: usize,
@@ -23,7 +23,7 @@ pub(crate) struct Seat {
 }
 
 /// The leaves that change hands, one after the other, and the leaves after that.
-#[derive(Debug, Drop)]
+#[derive(Drop)]
 pub(crate) struct Seating {
     pub(crate) seats: List<Seat>,
     /// Those that somebody has.

@@ -15,7 +15,7 @@ use group_terms::{LeafMarks, a_mark_is_that_of_a_child};
 use std::alloc::Global;
 
 /// What a batch makes of a tree. It costs the depth for each change, and a copy of a mark for each position.
-#[derive(Debug, Drop)]
+#[derive(Drop)]
 pub struct TreeStep {
     pub(crate) epoch: u32,
     pub(crate) sequence: u32,

@@ -14,7 +14,7 @@ use group_terms::marks_above;
 use std::alloc::Global;
 
 /// Who has each leaf, and the last change of each position.
-#[derive(Debug, Drop)]
+#[derive(Drop)]
 pub(crate) struct Tree {
     pub(crate) holders: List<Holder>,
     pub(crate) made: List<Option<u32>>,

@@ -12,7 +12,7 @@ use std::alloc::Global;
 use std::collections::HashMap;
 
 /// The place of each peer by its name, as long as there is memory for that; without it names are looked for one by one.
-#[derive(Debug, Drop)]
+#[derive(Drop)]
 pub(crate) struct NameIndex {
     places: Option<HashMap<MemberName, usize>>,
 }

@@ -9,7 +9,7 @@ use group_terms::{Keyed, MemberName, PushRefusal};
 use member_store::{MemberStore, Older, Room, Taken};
 
 /// A member of a run; it has no store before it is told its keys.
-#[derive(Debug, Drop)]
+#[derive(Drop)]
 pub struct Peer {
     pub name: MemberName,
     pub store: Option<MemberStore>,

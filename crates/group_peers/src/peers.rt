@@ -16,7 +16,7 @@ use std::marker::Model;
 /// The members of a run by their names, in the order in which they were noted; each has a store once it was told its keys.
 ///
 /// Contracts see the peers as `items`, and beside them `spare`, how many more there is room for. No two have the same name.
-#[derive(Debug, Drop)]
+#[derive(Drop)]
 pub struct Peers {
     list: Vec<Peer>,
     index: NameIndex,

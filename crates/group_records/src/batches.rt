@@ -17,7 +17,7 @@ use std::alloc::Global;
 const BATCH: u8 = 1;
 
 /// A batch with the epoch that it made, the number of the last push after it, and the values of the keys that it made.
-#[derive(Debug, Drop)]
+#[derive(Drop)]
 pub struct Stored {
     pub batch: Batch,
     pub epoch: u32,

@@ -18,7 +18,7 @@ pub(crate) const VERSION: u8 = 1;
 
 /// What a group is made with: the depth of its tree, its name, the SPI of its rekey datagrams (RFC 6407 section 5.3), and how far its epochs
 /// and its sequence numbers may go.
-#[derive(Clone, Copy, Debug, PartialEq, Eq)]
+#[derive(Clone, Copy, PartialEq, Eq)]
 pub struct Head {
     pub depth: u8,
     pub name: GroupName,

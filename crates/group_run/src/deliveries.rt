@@ -2,7 +2,7 @@
 use group_model::MemberName;
 
 /// A push of this number that is given to the member at this place: the first that was granted a join has the place 0.
-#[derive(Clone, Copy, Debug, PartialEq, Eq)]
+#[derive(Clone, Copy, PartialEq, Eq)]
 pub struct Delivery {
     pub place: usize,
     pub member: MemberName,

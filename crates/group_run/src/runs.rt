@@ -15,7 +15,7 @@ use sym_closure::Sent;
 /// A group that runs: its key server, the stores of its members, and the history of all that was asked of them.
 ///
 /// Each request adds one entry. It may run out of memory before it does anything; then the history is as it was.
-#[derive(Debug, Drop)]
+#[derive(Drop)]
 pub struct GroupRun<D: Disk, G: Signer, R: Draws> {
     pub(crate) core: Core<D, G, R>,
     pub(crate) peers: Peers,

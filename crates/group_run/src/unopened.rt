@@ -4,7 +4,7 @@ use group_model::{Entry, List};
 
 /// What is left where no group was made or opened: the history, which has the refusal, or nothing where memory ran out before anything was done; and what the
 /// group would stand on.
-#[derive(Debug, Drop)]
+#[derive(Drop)]
 pub struct Unopened<D, G, R> {
     pub history: List<Entry>,
     pub parts: Parts<D, G, R>,

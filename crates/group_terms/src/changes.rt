@@ -10,7 +10,7 @@ use std::marker::Model;
 pub const MOST_CHANGES: usize = 32;
 
 /// A change of membership: a member goes out, or a name comes in.
-#[derive(Clone, Copy, Debug, PartialEq, Eq)]
+#[derive(Clone, Copy, PartialEq, Eq)]
 pub enum Change {
     Out { member: MemberName },
     In { member: MemberName },
@@ -42,7 +42,7 @@ impl Default for Change {
 }
 
 /// The changes that one epoch takes up together, in the order in which they were asked for; at most 32.
-#[derive(Debug, Drop)]
+#[derive(Drop)]
 pub struct Batch {
     changes: ArrayVec<Change, MOST_CHANGES>,
 }

@@ -2,7 +2,7 @@ ghost use Rattle.std.specs.Prelude.{◌≡◌, ◌≤◌};
 ghost use Rattle.group_terms.specs.Faults.{Rose, one_more};
 
 /// A call to the outside failed; the object that was called counted a fault.
-#[derive(Clone, Copy, Debug, PartialEq, Eq)]
+#[derive(Clone, Copy, PartialEq, Eq)]
 pub struct Failed;
 
 /// The count of calls or faults with one more; at its last value it stays.

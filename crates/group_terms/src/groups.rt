@@ -8,7 +8,7 @@ use crate::names::{MOST_OCTETS, field_of};
 use std::marker::Model;
 
 /// The name of a group: 1 to 32 octets of any value (RFC 2407 section 4.6.2.1).
-#[derive(Clone, Copy, Debug, Hash)]
+#[derive(Clone, Copy, Hash)]
 pub struct GroupName {
     octets: [u8; MOST_OCTETS],
     length: u8,

@@ -1,7 +1,7 @@
 use crate::{LkhId, MemberName};
 
 /// What a key is called, whatever its octets are.
-#[derive(Clone, Copy, Debug, PartialEq, Eq, Hash)]
+#[derive(Clone, Copy, PartialEq, Eq, Hash)]
 pub enum KeyName {
     /// The key that a position of the tree was given in the epoch `made` (RFC 2627 section 5.4).
     Node { id: LkhId, made: u32 },
@@ -12,7 +12,7 @@ pub enum KeyName {
 }
 
 /// A key encrypted under another one: who holds `by` learns `gives` (Wong, Gouda and Lam).
-#[derive(Clone, Copy, Debug, PartialEq, Eq, Hash)]
+#[derive(Clone, Copy, PartialEq, Eq, Hash)]
 pub struct Wrap {
     pub by: KeyName,
     pub gives: KeyName,

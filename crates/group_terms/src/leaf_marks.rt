@@ -8,7 +8,7 @@ use std::alloc::Global;
 use std::marker::Model;
 
 /// A mark for each leaf of a tree of a depth from 0 to 9. To change one costs the depth.
-#[derive(Debug, Drop)]
+#[derive(Drop)]
 pub struct LeafMarks {
     depth: u8,
     /// For each number up to that of the last leaf, whether a marked leaf stands at this position or below it.

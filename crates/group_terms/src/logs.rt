@@ -7,7 +7,7 @@ use std::marker::Model;
 /// A list whose room is reserved before something is done, so that noting it down afterwards cannot fail.
 ///
 /// Contracts see its items beside `spare`, how many more it has room for.
-#[derive(Debug, Drop)]
+#[derive(Drop)]
 pub struct Log<T> {
     items: Vec<T>,
 }

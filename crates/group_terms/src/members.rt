@@ -10,7 +10,7 @@ use std::marker::Model;
 pub const MOST_MEMBERS: usize = 8;
 
 /// Names of members in the order in which they were given, at most 8; one may come twice.
-#[derive(Debug, Drop)]
+#[derive(Drop)]
 pub struct MemberNames {
     names: ArrayVec<MemberName, MOST_MEMBERS>,
 }

@@ -11,7 +11,7 @@ use std::marker::Model;
 pub(crate) const MOST_OCTETS: usize = 32;
 
 /// What a script calls a member: 1 to 32 octets out of a to z, 0 to 9 and `_`.
-#[derive(Clone, Copy, Debug)]
+#[derive(Clone, Copy)]
 pub struct MemberName {
     octets: [u8; MOST_OCTETS],
     length: u8,

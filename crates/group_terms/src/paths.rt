@@ -9,7 +9,7 @@ use std::marker::Model;
 pub const LONGEST_PATH: usize = 16;
 
 /// The key of a position, and the epoch in which it was made.
-#[derive(Clone, Copy, Debug, Default, PartialEq, Eq)]
+#[derive(Clone, Copy, Default, PartialEq, Eq)]
 pub struct PathKey {
     pub id: LkhId,
     pub made: u32,
@@ -17,7 +17,7 @@ pub struct PathKey {
 }
 
 /// Keys from a leaf up to the root (RFC 2627 section 5.4); at most 16.
-#[derive(Debug, Drop)]
+#[derive(Drop)]
 pub struct Path {
     keys: ArrayVec<PathKey, LONGEST_PATH>,
 }
@@ -60,7 +60,7 @@ impl Path {
 
 /// What a member learns when it registers: the epoch, which is also that of the root's key, the last sequence number that was used, the SPI
 /// of rekey datagrams, the keys of its path, and the key of the traffic.
-#[derive(Debug, Drop)]
+#[derive(Drop)]
 pub struct Keyed {
     pub epoch: u32,
     pub sequence: u32,

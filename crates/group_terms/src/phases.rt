@@ -2,7 +2,7 @@ use crate::{IV_OCTETS, KEY_OCTETS, MemberName};
 
 /// What a member and the server share after phase 1 (RFC 2409 section 5): the cookies of both, the key under which messages are
 /// authenticated, the key of AES under which they are encrypted, and the last block of what was encrypted.
-#[derive(Clone, Copy, Debug, Default, PartialEq, Eq)]
+#[derive(Clone, Copy, Default, PartialEq, Eq)]
 pub struct Phase1 {
     pub member: MemberName,
     pub cookies: [u8; 16],

@@ -5,7 +5,7 @@ use crate::faults::counted_on;
 use crate::{Failed, List};
 
 /// How many calls an object had, which of them fail, and how many did.
-#[derive(Debug, Drop)]
+#[derive(Drop)]
 pub struct Schedule {
     pub calls: u64,
     pub fails: List<u64>,

@@ -7,14 +7,14 @@ pub const IV_OCTETS: usize = 16;
 pub const KEY_OCTETS: usize = 16;
 
 /// The value of a position's key: a key of AES with 128 bits, and the IV with which what it encrypts begins (RFC 6407 section 5.6.3.1).
-#[derive(Clone, Copy, Debug, Default, PartialEq, Eq)]
+#[derive(Clone, Copy, Default, PartialEq, Eq)]
 pub struct NodeValue {
     pub iv: [u8; IV_OCTETS],
     pub key: [u8; KEY_OCTETS],
 }
 
 /// The value of a traffic key: the key of AES, that of HMAC with SHA-256, and the SPI by which it goes (RFC 6407 section 5.6.1).
-#[derive(Clone, Copy, Debug, PartialEq, Eq)]
+#[derive(Clone, Copy, PartialEq, Eq)]
 pub struct TrafficValue {
     pub cipher_key: [u8; KEY_OCTETS],
     pub integrity_key: [u8; 32],
@@ -22,14 +22,14 @@ pub struct TrafficValue {
 }
 
 /// The value that was drawn for the new key of a position.
-#[derive(Clone, Copy, Debug, Default, PartialEq, Eq)]
+#[derive(Clone, Copy, Default, PartialEq, Eq)]
 pub struct Drawn {
     pub id: LkhId,
     pub value: NodeValue,
 }
 
 /// The values of the keys that a batch makes: of its positions, rising, and of the traffic.
-#[derive(Debug, Drop)]
+#[derive(Drop)]
 pub struct BatchValues {
     pub nodes: List<Drawn>,
     pub traffic: TrafficValue,

@@ -10,7 +10,7 @@ use std::alloc::Global;
 use std::marker::Model;
 
 /// The values that the keys of a group have now: those of the positions of its tree, and that of the traffic.
-#[derive(Debug, Drop)]
+#[derive(Drop)]
 pub struct KeptValues {
     nodes: List<NodeValue>,
     traffic: Option<TrafficValue>,

@@ -23,7 +23,7 @@ const SIGNATURE_KEY: u16 = 3;
 pub(crate) const VERSION: u8 = 1;
 
 /// What an array is for: the keys of a path for one who comes in, or keys for some who stay.
-#[derive(Clone, Copy, Debug, PartialEq, Eq)]
+#[derive(Clone, Copy)]
 pub(crate) enum ArrayKind {
     Download,
     Update,

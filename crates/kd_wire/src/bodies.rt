@@ -22,7 +22,7 @@ pub(crate) const LKH_SPI_SIZE: u8 = 16;
 
 /// What a key download payload gives (RFC 6407 section 5.6): a traffic key alone; the SPI of rekey datagrams and where update arrays stand;
 /// or a traffic key, that SPI, and the keys of a path.
-#[derive(Debug, Drop)]
+#[derive(Drop)]
 pub struct KdView {
     pub tek: Option<TrafficValue>,
     pub lkh_spi: Option<[u8; 16]>,

@@ -13,7 +13,7 @@ use gd_cipher::{Key128, cbc_seal};
 use group_terms::{IV_OCTETS, NoMemory, NodeValue, Octets, PathKey};
 
 /// A key that is to be sealed under another one.
-#[derive(Clone, Copy, Debug, PartialEq, Eq)]
+#[derive(Clone, Copy, PartialEq, Eq)]
 pub struct WrapJob {
     pub by: PathKey,
     pub gives: PathKey,

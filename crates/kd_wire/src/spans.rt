@@ -9,7 +9,7 @@ use std::marker::Model;
 
 /// Where the update arrays of a body stand: from the first octet of the first one to the place after the last one, counted from the body's
 /// first octet, and how many there are.
-#[derive(Clone, Copy, Debug, PartialEq, Eq)]
+#[derive(Clone, Copy, PartialEq, Eq)]
 pub struct UpdateSpan {
     pub start: usize,
     pub end: usize,
@@ -42,7 +42,7 @@ impl UpdateSpan {
 }
 
 /// The update arrays of a body, one after the other.
-#[derive(Debug, Drop)]
+#[derive(Drop)]
 pub struct Updates<'a> {
     left: u32,
     handle: Option<u32>,

@@ -7,7 +7,7 @@ use group_terms::WireFault;
 
 /// The places in the datagram of the SPIs of the packet for a traffic key and of that for keys of the tree, where there is one. Where such
 /// a SPI is not that of another payload, this is the place to tell.
-#[derive(Clone, Copy, Debug, PartialEq, Eq)]
+#[derive(Clone, Copy, PartialEq, Eq)]
 pub struct SpiPlaces {
     pub tek: Option<u32>,
     pub lkh: Option<u32>,

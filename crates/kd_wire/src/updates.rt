@@ -8,7 +8,7 @@ use group_terms::LkhId;
 use std::marker::Model;
 
 /// An update array (RFC 6407 section 5.6.3.2): the position and the epoch of the key that it names, and the keys that it gives.
-#[derive(Debug, Drop)]
+#[derive(Drop)]
 pub struct UpdateArray<'a> {
     pub by: LkhId,
     pub by_made: u32,
@@ -16,7 +16,7 @@ pub struct UpdateArray<'a> {
 }
 
 /// A key that an update array gives, and the position and the epoch of the key that seals it.
-#[derive(Clone, Copy, Debug, PartialEq, Eq)]
+#[derive(Clone, Copy, PartialEq, Eq)]
 pub struct SealedKey {
     pub by: LkhId,
     pub by_made: u32,
@@ -24,7 +24,7 @@ pub struct SealedKey {
 }
 
 /// A key that an update array gives: its position, the epoch in which it was made, and its IV and octets, sealed.
-#[derive(Clone, Copy, Debug, PartialEq, Eq)]
+#[derive(Clone, Copy, PartialEq, Eq)]
 pub struct UpdateKey {
     pub id: LkhId,
     pub made: u32,
@@ -33,7 +33,7 @@ pub struct UpdateKey {
 
 /// The keys of an update array, one after the other. The key that the array names seals the first one, and each further one is sealed by
 /// the key before it.
-#[derive(Debug, Drop)]
+#[derive(Drop)]
 pub struct SealedKeys<'a> {
     by: LkhId,
     by_made: u32,

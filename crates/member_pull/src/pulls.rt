@@ -12,7 +12,7 @@ use std::alloc::Global;
 use std::marker::Model;
 
 /// A pull that is under way (RFC 6407 section 3.2).
-#[derive(Debug, Drop)]
+#[derive(Drop)]
 pub struct MemberPull {
     phase: Phase1,
     message: [u8; 4],
@@ -21,7 +21,7 @@ pub struct MemberPull {
 }
 
 /// What a pull waits for. An IV is the last block of the message before it.
-#[derive(Debug, Drop)]
+#[derive(Drop)]
 pub enum Step {
     /// The server's answer to the first message.
     Second {
@@ -46,7 +46,7 @@ impl Model for MemberPull {
 }
 
 /// A pull that began, and its first message.
-#[derive(Debug, Drop)]
+#[derive(Drop)]
 pub struct Begun {
     pub pull: MemberPull,
     pub datagram: Octets,

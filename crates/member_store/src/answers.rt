@@ -2,7 +2,7 @@
 use thiserror::Error;
 
 /// What a push gave that was taken.
-#[derive(Clone, Copy, Debug, PartialEq, Eq)]
+#[derive(Clone, Copy, PartialEq, Eq)]
 pub enum Taken {
     /// New keys of the tree: the root's key is now that of this epoch.
     Root { epoch: u32 },

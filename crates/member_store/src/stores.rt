@@ -16,7 +16,7 @@ use std::marker::Model;
 
 /// The keys that a member of a group has (RFC 6407 section 4): those of its path, and the traffic key. It lives in memory, and takes none
 /// after it is made.
-#[derive(Debug, Drop)]
+#[derive(Drop)]
 pub struct MemberStore {
     spi: [u8; 16],
     path: Path,

@@ -4,7 +4,7 @@ use group_terms::Octets;
 use sa_wire::SaPolicy;
 
 /// What the member's first message says, and the IV of the next one.
-#[derive(Debug, Drop)]
+#[derive(Drop)]
 pub struct First {
     pub message: [u8; 4],
     pub ni: Nonce,
@@ -15,7 +15,7 @@ pub struct First {
 }
 
 /// What the server's answer says, and the IV of the next message.
-#[derive(Debug, Drop)]
+#[derive(Drop)]
 pub struct Second {
     pub nr: Nonce,
     pub policy: SaPolicy,
@@ -23,7 +23,7 @@ pub struct Second {
 }
 
 /// The member agreed; the IV of the next message.
-#[derive(Clone, Copy, Debug, PartialEq, Eq)]
+#[derive(Clone, Copy, PartialEq, Eq)]
 pub struct Third {
     pub next_iv: [u8; 16],
 }

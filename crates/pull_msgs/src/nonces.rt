@@ -12,7 +12,7 @@ const FEWEST: usize = 8;
 const MOST: usize = 128;
 
 /// A nonce (RFC 2408 section 3.13): 8 to 128 octets (RFC 6407 section 5.8).
-#[derive(Debug, Drop)]
+#[derive(Drop)]
 pub struct Nonce {
     octets: ArrayVec<u8, MOST>,
 }

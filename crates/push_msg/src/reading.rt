@@ -15,7 +15,7 @@ use group_terms::{SignKind, WireFault, WireWhat};
 use kd_wire::{KdView, Updates, read_kd};
 
 /// What is read of the payloads of a push.
-#[derive(Clone, Copy, Debug)]
+#[derive(Clone, Copy)]
 pub(crate) struct PushRead<'a> {
     pub(crate) sequence: u32,
     pub(crate) body: OpenBody,

@@ -10,7 +10,7 @@ use std::marker::Model;
 const MOST: usize = 65_507;
 
 /// Room in which pushes are opened one after the other. It is reserved once, and serves for all stores of a process.
-#[derive(Debug, Drop)]
+#[derive(Drop)]
 pub struct Room {
     pub(crate) octets: Octets,
     /// Where the body of the key download is.

@@ -12,7 +12,7 @@ use group_terms::{SignKind, WireFault, WireWhat};
 use sa_wire::{PlacedKek, PlacedSa, read_placed_sa};
 
 /// Which push it is: one of keys of the tree, for the Rekey SA with this SPI, or one of the traffic key with this SPI.
-#[derive(Clone, Copy, Debug, PartialEq, Eq)]
+#[derive(Clone, Copy)]
 pub(crate) enum Row {
     Membership { spi: [u8; 16] },
     Traffic { spi: [u8; 4] },

@@ -12,7 +12,7 @@ use sa_wire::{KekPolicy, SaPolicy, TekPolicy};
 use std::alloc::Global;
 
 /// What both pushes begin with: the SPI of the Rekey SA, and the number of this push.
-#[derive(Clone, Copy, Debug, PartialEq, Eq)]
+#[derive(Clone, Copy, PartialEq, Eq)]
 pub struct PushHead {
     pub spi: [u8; 16],
     pub sequence: u32,

@@ -13,7 +13,7 @@ use group_terms::{WireFault, WireWhat};
 
 /// An attribute that was found: its kind, its number in the short form, else 0, and the place in the datagram of what comes after its type,
 /// in the long form after its length.
-#[derive(Clone, Copy, Debug, Default, PartialEq, Eq)]
+#[derive(Clone, Copy, Default)]
 pub(crate) struct Found {
     pub kind: u16,
     pub number: u16,

@@ -5,14 +5,14 @@ ghost use Rattle.sa_wire.specs.Policies.{policy_of, option_kek, option_tek};
 use crate::policies::{KekPolicy, SaPolicy, TekPolicy};
 
 /// What a group uses, and where in the datagram the SPIs and the numbers of the signature's attributes are.
-#[derive(Clone, Copy, Debug, PartialEq, Eq)]
+#[derive(Clone, Copy, PartialEq, Eq)]
 pub struct PlacedSa {
     pub kek: Option<PlacedKek>,
     pub tek: Option<PlacedTek>,
 }
 
 /// The policy of the KEK, with the places of its SPI and of the numbers for its signatures.
-#[derive(Clone, Copy, Debug, PartialEq, Eq)]
+#[derive(Clone, Copy, PartialEq, Eq)]
 pub struct PlacedKek {
     pub policy: KekPolicy,
     pub spi_at: u32,
@@ -21,7 +21,7 @@ pub struct PlacedKek {
 }
 
 /// The policy of the TEK, with the place of its SPI.
-#[derive(Clone, Copy, Debug, PartialEq, Eq)]
+#[derive(Clone, Copy, PartialEq, Eq)]
 pub struct PlacedTek {
     pub policy: TekPolicy,
     pub spi_at: u32,

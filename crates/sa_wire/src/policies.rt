@@ -12,21 +12,21 @@ use gd_wire::Reader;
 use group_terms::{SignKind, WireFault, WireWhat};
 
 /// What a group uses (RFC 6407 section 5.2).
-#[derive(Clone, Copy, Debug, PartialEq, Eq)]
+#[derive(Clone, Copy, PartialEq, Eq)]
 pub struct SaPolicy {
     pub kek: Option<KekPolicy>,
     pub tek: Option<TekPolicy>,
 }
 
 /// The policy of the key that encrypts keys: rekey datagrams go by this SPI, and are signed so (RFC 6407 section 5.3).
-#[derive(Clone, Copy, Debug, PartialEq, Eq)]
+#[derive(Clone, Copy, PartialEq, Eq)]
 pub struct KekPolicy {
     pub spi: [u8; 16],
     pub sign: SignKind,
 }
 
 /// The policy of the key that encrypts traffic, which goes by this SPI (RFC 6407 section 5.5).
-#[derive(Clone, Copy, Debug, PartialEq, Eq)]
+#[derive(Clone, Copy, PartialEq, Eq)]
 pub struct TekPolicy {
     pub spi: [u8; 4],
 }

@@ -12,7 +12,7 @@ use crate::numbers::{
 pub(crate) const MOST_RULES: usize = 7;
 
 /// What is taken of an attribute: in the short form the numbers from `least` to `most`.
-#[derive(Clone, Copy, Debug, Default, PartialEq, Eq)]
+#[derive(Clone, Copy, Default)]
 pub(crate) struct Rule {
     pub kind: u16,
     pub least: u16,

@@ -11,7 +11,7 @@ use group_model::{MemberName, MemberNames};
 pub const MOST_LINE_OCTETS: usize = 200;
 
 /// What a line of a script says.
-#[derive(Debug, PartialEq, Drop)]
+#[derive(PartialEq, Drop)]
 pub enum Line {
     /// A comment, or a line without words.
     Nothing,

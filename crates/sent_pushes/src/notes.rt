@@ -6,7 +6,7 @@ ghost use Rattle.sent_pushes.specs.Notes as of;
 ghost use Rattle.sent_pushes.specs.Private.Searches.{is_from, number_at};
 
 /// Where the last push of a number was sent.
-#[derive(Clone, Copy, Debug, PartialEq, Eq)]
+#[derive(Clone, Copy, PartialEq, Eq)]
 pub struct Note {
     pub number: u32,
     pub place: usize,

@@ -10,7 +10,7 @@ use std::marker::Model;
 /// For each sequence number, the place of the entry that sent the last push of it.
 ///
 /// Contracts see the notes as `items`, by rising number, and beside them `spare`, how many more there is room for.
-#[derive(Debug, Drop)]
+#[derive(Drop)]
 pub struct SentPushes {
     notes: Vec<Note>,
 }

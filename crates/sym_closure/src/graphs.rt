@@ -9,7 +9,7 @@ use std::alloc::Global;
 use std::marker::Model;
 
 /// Keys, each with its place as its number, and under each the numbers of the keys that it gives.
-#[derive(Debug, Drop)]
+#[derive(Drop)]
 pub(crate) struct KeyGraph {
     keys: Once<KeyName>,
     given: Vec<List<usize>>,

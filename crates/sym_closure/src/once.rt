@@ -10,7 +10,7 @@ use std::hash::Hash;
 use std::marker::Model;
 
 /// Items in the order in which they came first, each once, and the place of each.
-#[derive(Debug, Drop)]
+#[derive(Drop)]
 pub(crate) struct Once<T: Eq + Hash> {
     items: List<T>,
     places: HashMap<T, usize>,

@@ -7,7 +7,7 @@ use std::alloc::Global;
 use std::marker::Model;
 
 /// Numbers below a bound, each once, in the order in which they were reached.
-#[derive(Debug, Drop)]
+#[derive(Drop)]
 pub(crate) struct Reached {
     order: List<usize>,
     marks: Vec<bool>,

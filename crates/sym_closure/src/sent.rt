@@ -18,7 +18,7 @@ use std::marker::Model;
 
 /// What a history sent so far, kept so that a question need not go over all of it. The graph leads from each key to the keys under
 /// which it was given, for these are few, while many may follow from one key.
-#[derive(Debug, Drop)]
+#[derive(Drop)]
 pub struct Sent {
     graph: KeyGraph,
     count: usize,

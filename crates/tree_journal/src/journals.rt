@@ -20,7 +20,7 @@ const PIECE: usize = 4 + MOST + 1;
 pub(crate) const FIRST: u64 = 9;
 
 /// A journal on a disk.
-#[derive(Debug, Drop)]
+#[derive(Drop)]
 pub struct Journal<D: Disk> {
     pub(crate) disk: D,
     pub(crate) closed: bool,

@@ -26,7 +26,7 @@ const HEAD: usize = 5;
 const NEAR: usize = 2048;
 
 /// What the octets of a gate and a length say.
-#[derive(Clone, Copy, Debug, PartialEq, Eq)]
+#[derive(Clone, Copy)]
 pub(crate) enum Head {
     /// The gate is closed.
     Shut,
@@ -37,7 +37,7 @@ pub(crate) enum Head {
 }
 
 /// What stands at a place of a file.
-#[derive(Debug, Drop)]
+#[derive(Drop)]
 pub(crate) enum Found {
     /// An open gate, and a whole record.
     Record { body: Octets },
@@ -48,7 +48,7 @@ pub(crate) enum Found {
 }
 
 /// What the first octets at a place of a file tell of what stands there.
-#[derive(Debug, Drop)]
+#[derive(Drop)]
 pub(crate) enum Near {
     /// All of it.
     Whole { found: Found },

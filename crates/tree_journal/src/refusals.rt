@@ -24,7 +24,7 @@ pub enum JournalRefusal {
 }
 
 /// Why no journal is made or opened, and the disk.
-#[derive(Debug, Drop)]
+#[derive(Drop)]
 pub struct FormatRefusal<D: Disk> {
     pub why: JournalRefusal,
     pub disk: D,

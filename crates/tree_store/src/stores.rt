@@ -11,7 +11,7 @@ use std::marker::Model;
 use tree_journal::Journal;
 
 /// The group on a disk.
-#[derive(Debug, Drop)]
+#[derive(Drop)]
 pub struct TreeStore<D: Disk> {
     pub(crate) journal: Journal<D>,
     pub(crate) head: Head,
