@@ -3,6 +3,7 @@ pub mod ArrayPlaces
 pub mod EpochLemmas
 pub mod FormLemmas
 pub mod JobLemmas
+pub mod KeyFacts
 pub mod LoopLemmas
 pub mod NextPlaces
 pub mod PlaceLemmas

@@ -1,3 +1,4 @@
+pub mod DueFacts
 pub mod GroupLemmas
 pub mod MakeLemmas
 pub mod OneGroup
