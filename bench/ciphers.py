@@ -2,7 +2,7 @@
 
     python3 bench/ciphers.py        at the top of the repository
 
-It builds `cipher_bench`, and prints for each row what that does in a second, what openssl does, and openssl's figure divided by ours.
+It builds `wire_cases`, and prints for each row what that does in a second, what openssl does, and openssl's figure divided by ours.
 Rows: a key of 128 bits expanded and a text sealed or opened under it by cipher block chaining, of 18 KiB, in MiB/s, and of 64 octets, in
 thousands a second; a key expanded and two blocks encrypted, the work of one wrap, in thousands a second; the 286 update arrays that a batch
 may send in a tree of 512 leaves, in batches a second; the membership push with them, written and opened, in pushes a second; and HMAC with
@@ -17,8 +17,8 @@ import tempfile
 import time
 
 TOP = pathlib.Path(__file__).resolve().parent.parent
-CRATE = TOP / "crates" / "cipher_bench"
-PROGRAM = CRATE / "out" / "cipher_bench"
+CRATE = TOP / "crates" / "wire_cases"
+PROGRAM = CRATE / "out" / "wire_cases"
 # the processor's AES and carry-less products off, and nothing else
 NO_HARDWARE = dict(os.environ, OPENSSL_ia32cap="~0x200000200000000:~0x0")
 MIB = 1 << 20
@@ -26,10 +26,18 @@ MIB = 1 << 20
 LONG = 18 * 1024
 
 
-def seconds(words):
+def run(program, count):
+    """What a program prints that does its work so often: ours reads a line with the work, and those in C have words."""
+    ours = program[0] == PROGRAM
+    words = program[:1] if ours else [*program, str(count)]
+    given = f"repeat {program[1]} {count}\n" if ours else ""
+    return subprocess.run(words, input=given, check=True, capture_output=True, text=True, env=NO_HARDWARE).stdout
+
+
+def seconds(program, count):
     """The time of one run."""
     start = time.perf_counter()
-    subprocess.run(words, check=True, capture_output=True, env=NO_HARDWARE)
+    run(program, count)
     return time.perf_counter() - start
 
 
@@ -38,17 +46,17 @@ def a_second(programs, count):
     whole, none = ({program: [] for program in programs} for _ in range(2))
     for _ in range(5):
         for program in programs:
-            whole[program].append(seconds([*program, str(count)]))
-            none[program].append(seconds([*program, "0"]))
+            whole[program].append(seconds(program, count))
+            none[program].append(seconds(program, 0))
     return [count / (min(whole[program]) - min(none[program])) for program in programs]
 
 
 def openssl_speed(*words):
     """Octets a second, of pieces of 4,096."""
-    run = subprocess.run(
+    done = subprocess.run(
         ["openssl", "speed", "-mr", "-elapsed", "-seconds", "3", "-bytes", "4096", *words],
         check=True, capture_output=True, text=True, env=NO_HARDWARE)
-    rows = [line for line in run.stdout.splitlines() if line.startswith("+F:")]
+    rows = [line for line in done.stdout.splitlines() if line.startswith("+F:")]
     return float(rows[-1].rsplit(":", 1)[1])
 
 
@@ -60,9 +68,9 @@ def built(folder, source):
 
 
 def compared(work, theirs, count, unit):
-    """What `cipher_bench WORK` and a program of the same work do in a second, in such units, once both have been seen to do the same."""
+    """What `repeat WORK` of `wire_cases` and a program of the same work do in a second, in such units, once both have been seen to do the same."""
     programs = [(PROGRAM, work), theirs]
-    ours, others = (subprocess.run([*program, "3"], check=True, capture_output=True).stdout for program in programs)
+    ours, others = (run(program, 3) for program in programs)
     assert ours == others, "the two programs differ"
     return [often * unit for often in a_second(programs, count)]
 
@@ -75,7 +83,7 @@ def processor():
 
 def main():
     assert platform.machine() == "x86_64", "the switches for openssl are those of x86-64"
-    subprocess.run(["rt", "run", "--", "seal", "1"], cwd=CRATE, check=True, stdout=subprocess.DEVNULL)
+    subprocess.run(["rt", "run"], cwd=CRATE, check=True, stdin=subprocess.DEVNULL, stdout=subprocess.DEVNULL)
     with tempfile.TemporaryDirectory() as folder:
         chain, wrap, updates, pushes = (built(folder, source) for source in ("chain.c", "wrap.c", "updates.c", "pushes.c"))
         rows = [

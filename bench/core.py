@@ -2,7 +2,7 @@
 
     python3 bench/core.py [FOLDER]        at the top of the repository
 
-It builds `core_bench` and `bench/core.c`, which each make a group in a tree of 512 leaves and close batches: they queue the changes, find what a
+It builds `core_cases` and `bench/core.c`, which each make a group in a tree of 512 leaves and close batches: they queue the changes, find what a
 batch renews, draw its keys, seal its pushes, find what its newcomers are told, and store it. For each work it prints the middle one of the times that
 each takes in runs by turns, our time divided by that of C, and the most memory that each had. The works are 512 members of whom 32 then go out at
 once; many batches of 32 changes; and many of four. On no disk they show the sealing and the planning alone. The files lie in a new folder in FOLDER,
@@ -20,10 +20,11 @@ import subprocess
 import sys
 import tempfile
 import time
+import typing
 
 TOP = pathlib.Path(__file__).resolve().parent.parent
-CRATE = TOP / "crates" / "core_bench"
-PROGRAM = CRATE / "out" / "core_bench"
+CRATE = TOP / "crates" / "core_cases"
+PROGRAM = CRATE / "out" / "core_cases"
 # the processor's AES and carry-less products off, and nothing else
 NO_HARDWARE = dict(os.environ, OPENSSL_ia32cap="~0x200000200000000:~0x0")
 DEPTH = "9"
@@ -37,26 +38,36 @@ WORKS = [
     ("4 changes each, no disk", "small", 10_000, False),
 ]
 # the works of the runs that are compared, and the batches of which calls are counted
-COMPARED = ["large", "100", "small", "1000"]
+COMPARED = [("large", 100), ("small", 1_000)]
 COUNTED = 200
 # an odd number, so that one is in the middle
 RUNS = 3
 
 
-def run(words):
+class Command(typing.NamedTuple):
+    """The words that start a program, and what it is given on standard input."""
+
+    words: list
+    given: str = ""
+
+
+def run(command):
     """What a program prints."""
-    return subprocess.run(words, check=True, capture_output=True, text=True, env=NO_HARDWARE).stdout
+    return subprocess.run(
+        command.words, input=command.given, check=True, capture_output=True, text=True, env=NO_HARDWARE).stdout
 
 
-def work_words(program, disk, kind, count):
-    """The words that have a program do a work."""
-    return [program, disk, DEPTH, kind, str(count)]
+def work(program, disk, *works):
+    """What has a program do works, each a kind of batches and how many there are: ours reads a line for each, and that in C has them as words."""
+    if program == PROGRAM:
+        return Command([program], "".join(f"work {disk} {DEPTH} {kind} {count}\n" for kind, count in works))
+    return Command([program, disk, DEPTH, *(str(word) for pair in works for word in pair)])
 
 
-def seconds(words):
+def seconds(command):
     """The time of one run, from the start of the program to its end."""
     start = time.perf_counter()
-    run(words)
+    run(command)
     return time.perf_counter() - start
 
 
@@ -71,10 +82,12 @@ def full_pipe():
     return out, into
 
 
-def peak(words):
+def peak(command):
     """The most memory that a run had at once, in KiB. The system is asked while the program waits to print, which is the last it does."""
     out, into = full_pipe()
-    with subprocess.Popen(words, stdout=into, env=NO_HARDWARE) as process:
+    with subprocess.Popen(command.words, stdin=subprocess.PIPE, stdout=into, text=True, env=NO_HARDWARE) as process:
+        process.stdin.write(command.given)
+        process.stdin.close()
         told = pathlib.Path(f"/proc/{process.pid}")
         while (told / "syscall").read_text().split()[1:2] != ["0x1"]:
             time.sleep(0.001)
@@ -87,7 +100,8 @@ def peak(words):
 def calls(program, folder, count):
     """How often each call to the system is made in a run."""
     log, path = folder / "calls", folder / "counted"
-    run(["strace", "-f", "-qq", "-o", log, *work_words(program, path, "small", count)])
+    words, given = work(program, path, ("small", count))
+    run(Command(["strace", "-f", "-qq", "-o", log, *words], given))
     path.unlink()
     lines = [line.split(maxsplit=1)[1] for line in log.read_text().splitlines()]
     return collections.Counter(line.split("(", 1)[0] for line in lines)
@@ -106,14 +120,14 @@ def check_same(programs, folder):
     left = []
     for program in programs:
         path = folder / "compared"
-        left.append((run([program, path, DEPTH, *COMPARED]), path.read_bytes()))
+        left.append((run(work(program, path, *COMPARED)), path.read_bytes()))
         path.unlink()
     assert left[0] == left[1], "the two programs differ"
 
 
 def file_system(folder):
     """Its type, which must be one on a device."""
-    kind = run(["df", "--output=fstype", folder]).split()[-1]
+    kind = run(Command(["df", "--output=fstype", folder])).split()[-1]
     assert kind not in ("tmpfs", "ramfs"), f"{folder} is in memory; name a folder on a device"
     return kind
 
@@ -124,24 +138,24 @@ def processor():
     return names[0].split(":", 1)[1].strip()
 
 
-def on_disk(call, words, disk):
-    """What a call gives of a program's words, with no file left."""
-    answer = call(words)
+def on_disk(call, command, disk):
+    """What a call gives of a command, with no file left."""
+    answer = call(command)
     disk.unlink(missing_ok=True)
     return answer
 
 
-def print_row(programs, folder, work):
+def print_row(programs, folder, row):
     """Times a work by turns, and prints what each program took."""
-    name, kind, count, keeps = work
+    name, kind, count, keeps = row
     disk = folder / "timed"
-    words = {program: work_words(program, disk if keeps else "-", kind, count) for program in programs}
+    commands = {program: work(program, disk if keeps else "-", (kind, count)) for program in programs}
     times = {program: [] for program in programs}
     for _ in range(RUNS):
         for program in programs:
-            times[program].append(on_disk(seconds, words[program], disk))
+            times[program].append(on_disk(seconds, commands[program], disk))
     ours, others = (statistics.median(times[program]) * 1000 for program in programs)
-    most = [on_disk(peak, words[program], disk) for program in programs]
+    most = [on_disk(peak, commands[program], disk) for program in programs]
     print(f"{name:28}{count:8}{ours:12.1f}{others:12.1f}{ours / others:8.2f}{most[0]:11}{most[1]:9}", flush=True)
 
 
@@ -149,11 +163,11 @@ def main():
     with tempfile.TemporaryDirectory(dir=(sys.argv[1:] or ["/var/tmp"])[0]) as name:
         folder = pathlib.Path(name)
         kind = file_system(folder)
-        subprocess.run(["rt", "run", "--", "-", DEPTH], cwd=CRATE, check=True, stdout=subprocess.DEVNULL)
+        subprocess.run(["rt", "run"], cwd=CRATE, check=True, stdin=subprocess.DEVNULL, stdout=subprocess.DEVNULL)
         theirs = folder / "core"
         subprocess.run(["cc", "-O2", "-o", theirs, TOP / "bench" / "core.c", "-lcrypto"], check=True)
         programs = [PROGRAM, theirs]
-        version = run(["openssl", "version"]).split()[1]
+        version = run(Command(["openssl", "version"])).split()[1]
         print(f"{processor()}, {kind}, openssl {version}")
         check_same(programs, folder)
         if shutil.which("strace"):
@@ -163,8 +177,8 @@ def main():
         else:
             print("strace is missing, so calls are not counted (apt-get install strace)")
         print(f"{'':28}{'batches':>8}{'ours, ms':>12}{'C, ms':>12}{'ratio':>8}{'ours, KiB':>11}{'C, KiB':>9}")
-        for work in WORKS:
-            print_row(programs, folder, work)
+        for row in WORKS:
+            print_row(programs, folder, row)
 
 
 main()

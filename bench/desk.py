@@ -2,7 +2,7 @@
 
     python3 bench/desk.py        at the top of the repository
 
-It builds `desk_bench` and `bench/desk.rs`, and prints for 1, 2, 4 and 16 threads how many thousand turns all threads together make at each in
+It builds `thread_cases` and `bench/desk.rs`, and prints for 1, 2, 4 and 16 threads how many thousand turns all threads together make at each in
 a second, and the second figure divided by the first. A turn adds a number to a sum and to the list of all numbers.
 """
 
@@ -12,10 +12,16 @@ import tempfile
 import time
 
 TOP = pathlib.Path(__file__).resolve().parent.parent
-CRATE = TOP / "crates" / "desk_bench"
-PROGRAM = CRATE / "out" / "desk_bench"
+CRATE = TOP / "crates" / "thread_cases"
+PROGRAM = CRATE / "out" / "thread_cases"
 TURNS_OF_A_ROUND = 64 * 4096
 ROUNDS = {1: 40, 2: 20, 4: 10, 16: 10}
+
+
+def run(program, threads, rounds):
+    """What a program prints; ours is told by a word what it has to do."""
+    what = ["turns"] if program == PROGRAM else []
+    return subprocess.run([program, *what, str(threads), str(rounds)], check=True, capture_output=True).stdout
 
 
 def seconds(program, threads, rounds):
@@ -23,7 +29,7 @@ def seconds(program, threads, rounds):
     times = []
     for _ in range(3):
         start = time.perf_counter()
-        subprocess.run([program, str(threads), str(rounds)], check=True, capture_output=True)
+        run(program, threads, rounds)
         times.append(time.perf_counter() - start)
     return min(times)
 
@@ -38,14 +44,12 @@ def built(folder):
     """The same work in Rust."""
     program = pathlib.Path(folder) / "desk"
     subprocess.run(["rustc", "--edition", "2021", "-O", "-o", program, TOP / "bench" / "desk.rs"], check=True)
-    ours = subprocess.run([PROGRAM, "3", "2"], check=True, capture_output=True).stdout
-    theirs = subprocess.run([program, "3", "2"], check=True, capture_output=True).stdout
-    assert ours == theirs, "the two programs differ"
+    assert run(PROGRAM, 3, 2) == run(program, 3, 2), "the two programs differ"
     return program
 
 
 def main():
-    subprocess.run(["rt", "run", "--", "1", "0"], cwd=CRATE, check=True, stdout=subprocess.DEVNULL)
+    subprocess.run(["rt", "run", "--", "turns", "1", "0"], cwd=CRATE, check=True, stdout=subprocess.DEVNULL)
     with tempfile.TemporaryDirectory() as folder:
         theirs = built(folder)
         print("threads  desk, thousands/s  mutex, thousands/s  ratio")

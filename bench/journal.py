@@ -2,7 +2,7 @@
 
     python3 bench/journal.py [FOLDER]        at the top of the repository
 
-It builds `journal_bench` and `bench/journal.c`, which each make an empty journal and append 1,000 records with bodies of 300 octets to it. It
+It builds `journal_cases` and `bench/journal.c`, which each make an empty journal and append 1,000 records with bodies of 300 octets to it. It
 prints the middle one of the times that each takes in runs by turns, and our time divided by that of C. The files lie in a new folder in FOLDER,
 or else in /var/tmp, which has to be on a device. Before that it sees that both write the same file, and counts their calls to the system with
 strace: 1,000 appends are 2,000 writes and 2,000 syncs, and no other call.
@@ -18,23 +18,30 @@ import tempfile
 import time
 
 TOP = pathlib.Path(__file__).resolve().parent.parent
-CRATE = TOP / "crates" / "journal_bench"
-PROGRAM = CRATE / "out" / "journal_bench"
+CRATE = TOP / "crates" / "journal_cases"
+PROGRAM = CRATE / "out" / "journal_cases"
 APPENDS = 1_000
 # an odd number, so that one is in the middle
 RUNS = 31
 
 
-def run(words):
-    """What a program prints."""
-    return subprocess.run(words, check=True, capture_output=True, text=True).stdout
+def run(words, given=""):
+    """What a program prints that is given this on standard input."""
+    return subprocess.run(words, input=given, check=True, capture_output=True, text=True).stdout
+
+
+def append(program, path, count, before=()):
+    """What a program prints that appends so many records, started by the words before it: ours reads a line, and that in C has words."""
+    if program == PROGRAM:
+        return run([*before, program], f"append {path} {count}\n")
+    return run([*before, program, path, str(count)])
 
 
 def seconds(program, folder):
     """The time of one run, from the start of the program to its end, on a new file."""
     path = folder / "timed"
     start = time.perf_counter()
-    run([program, path, str(APPENDS)])
+    append(program, path, APPENDS)
     taken = time.perf_counter() - start
     path.unlink()
     return taken
@@ -43,7 +50,7 @@ def seconds(program, folder):
 def calls(program, folder, count):
     """How often each call to the system is made in a run."""
     log, path = folder / "calls", folder / "counted"
-    run(["strace", "-f", "-qq", "-o", log, program, path, str(count)])
+    append(program, path, count, ["strace", "-f", "-qq", "-o", log])
     path.unlink()
     lines = [line.split(maxsplit=1)[1] for line in log.read_text().splitlines()]
     return collections.Counter(line.split("(", 1)[0] for line in lines)
@@ -62,7 +69,7 @@ def check_files(programs, folder):
     left = []
     for program in programs:
         path = folder / "compared"
-        left.append((run([program, path, str(APPENDS)]), path.read_bytes()))
+        left.append((append(program, path, APPENDS), path.read_bytes()))
         path.unlink()
     assert left[0] == left[1], "the two programs differ"
 
@@ -84,7 +91,7 @@ def main():
     with tempfile.TemporaryDirectory(dir=(sys.argv[1:] or ["/var/tmp"])[0]) as name:
         folder = pathlib.Path(name)
         kind = file_system(folder)
-        subprocess.run(["rt", "run", "--", folder / "built", "0"], cwd=CRATE, check=True, stdout=subprocess.DEVNULL)
+        subprocess.run(["rt", "run"], cwd=CRATE, check=True, stdin=subprocess.DEVNULL, stdout=subprocess.DEVNULL)
         theirs = folder / "journal"
         subprocess.run(["cc", "-O2", "-o", theirs, TOP / "bench" / "journal.c"], check=True)
         programs = [PROGRAM, theirs]

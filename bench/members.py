@@ -2,7 +2,7 @@
 
     python3 bench/members.py        at the top of the repository
 
-It builds `member_bench` and `bench/members.c`, and has the first make a group and leave its pushes in a file. Both then give each push of that file to
+It builds `member_cases` and `bench/members.c`, and has the first make a group and leave its pushes in a file. Both then give each push of that file to
 the stores of 16 members: a store decrypts the push under its root's key, reads its payloads, checks its signature and its number, and takes the keys of
 its path or the traffic key. A member that went out finds no path, and its reply makes its store anew when it comes back. For each group the script prints
 how often a store read a push, the middle one of the processor times that each program takes in runs by turns, our time divided by that of C, and the
@@ -20,10 +20,11 @@ import statistics
 import subprocess
 import tempfile
 import time
+import typing
 
 TOP = pathlib.Path(__file__).resolve().parent.parent
-CRATE = TOP / "crates" / "member_bench"
-PROGRAM = CRATE / "out" / "member_bench"
+CRATE = TOP / "crates" / "member_cases"
+PROGRAM = CRATE / "out" / "member_cases"
 # the processor's AES and carry-less products off, and nothing else
 NO_HARDWARE = dict(os.environ, OPENSSL_ia32cap="~0x200000200000000:~0x0")
 # the name of each group, the depth of its tree, how many go out with a batch, and how many batches there are
@@ -38,17 +39,33 @@ CHANGES = 300
 RUNS = 9
 
 
-def run(words):
+class Command(typing.NamedTuple):
+    """The words that start a program, and what it is given on standard input."""
+
+    words: list
+    given: str = ""
+
+
+def run(command):
     """What a program prints."""
-    return subprocess.run(words, check=True, capture_output=True, text=True, env=NO_HARDWARE).stdout
+    return subprocess.run(
+        command.words, input=command.given, check=True, capture_output=True, text=True, env=NO_HARDWARE).stdout
 
 
-def seconds(words):
+def started(command, into):
+    """A program that prints into this, and has been given all of its standard input."""
+    process = subprocess.Popen(command.words, stdin=subprocess.PIPE, stdout=into, text=True, env=NO_HARDWARE)
+    process.stdin.write(command.given)
+    process.stdin.close()
+    return process
+
+
+def seconds(command):
     """The processor time of one run."""
-    with subprocess.Popen(words, stdout=subprocess.DEVNULL, env=NO_HARDWARE) as process:
+    with started(command, subprocess.DEVNULL) as process:
         _, status, used = os.wait4(process.pid, 0)
         process.returncode = os.waitstatus_to_exitcode(status)
-    assert process.returncode == 0, f"{words} ended with {process.returncode}"
+    assert process.returncode == 0, f"{command} ended with {process.returncode}"
     return used.ru_utime + used.ru_stime
 
 
@@ -63,10 +80,10 @@ def full_pipe():
     return out, into
 
 
-def peak(words):
+def peak(command):
     """The most memory that a run had at once, in KiB. The system is asked while the program waits to print, which is the last it does."""
     out, into = full_pipe()
-    with subprocess.Popen(words, stdout=into, env=NO_HARDWARE) as process:
+    with started(command, into) as process:
         told = pathlib.Path(f"/proc/{process.pid}")
         while (told / "syscall").read_text().split()[1:2] != ["0x1"]:
             time.sleep(0.001)
@@ -79,13 +96,13 @@ def peak(words):
 def written(folder, depth, going, count):
     """A file with the pushes of a group."""
     path = folder / f"{depth}-{going}-{count}.pushes"
-    run([PROGRAM, "write", path, str(depth), str(going), str(count)])
+    run(Command([PROGRAM], f"write {path} {depth} {going} {count}\n"))
     return path
 
 
 def commands(theirs, path):
-    """The words that have each program read a file: first ours."""
-    return [[PROGRAM, "read", path], [theirs, path]]
+    """What has each program read a file: first ours, which reads a line."""
+    return [Command([PROGRAM], f"read {path}\n"), Command([theirs, path])]
 
 
 def pushes(octets):
@@ -144,20 +161,20 @@ def print_row(theirs, folder, group):
     often = int(re.search(r"(\d+) times read", ours)[1])
     times = [[], []]
     for _ in range(RUNS):
-        for words, taken in zip(both, times):
-            taken.append(seconds(words))
+        for command, taken in zip(both, times):
+            taken.append(seconds(command))
     ours, others = (statistics.median(taken) * 1000 for taken in times)
-    most = [peak(words) for words in both]
+    most = [peak(command) for command in both]
     print(f"{name:34}{often:9}{ours:10.0f}{others:10.0f}{ours / others:8.2f}{most[0]:11}{most[1]:9}", flush=True)
 
 
 def main():
     with tempfile.TemporaryDirectory(dir="/var/tmp") as name:
         folder = pathlib.Path(name)
-        subprocess.run(["rt", "run", "--", "write", folder / "first", "4", "1", "1"], cwd=CRATE, check=True, stdout=subprocess.DEVNULL)
+        subprocess.run(["rt", "run"], cwd=CRATE, check=True, stdin=subprocess.DEVNULL, stdout=subprocess.DEVNULL)
         theirs = folder / "members"
         subprocess.run(["cc", "-O2", "-o", theirs, TOP / "bench" / "members.c", "-lcrypto"], check=True)
-        print(f"{processor()}, openssl {run(['openssl', 'version']).split()[1]}")
+        print(f"{processor()}, openssl {run(Command(['openssl', 'version'])).split()[1]}")
         print(f"{CHANGES} files were changed, with the same answers: {check_answers(theirs, folder)}")
         print(f"{'':34}{'readings':>9}{'ours, ms':>10}{'C, ms':>10}{'ratio':>8}{'ours, KiB':>11}{'C, KiB':>9}")
         for group in GROUPS:

@@ -2,7 +2,7 @@
 
     python3 bench/store.py [FOLDER]        at the top of the repository
 
-It builds `store_bench` and `bench/store.c`, which each read the journal of a group in a tree of 512 leaves, test the form of each record, and see
+It builds `journal_cases` and `bench/store.c`, which each read the journal of a group in a tree of 512 leaves, test the form of each record, and see
 whether each batch is the one that is due. It makes journals of 1,000 and of 10,000 batches with four changes each. For each it prints the best of
 the times that each program takes in runs by turns, our time divided by that of C, and the most memory that each had. The files lie in a new
 folder in FOLDER, or else in /var/tmp. Before that it sees that both answer alike, for whole journals and for such as were changed.
@@ -18,8 +18,8 @@ import tempfile
 import time
 
 TOP = pathlib.Path(__file__).resolve().parent.parent
-CRATE = TOP / "crates" / "store_bench"
-PROGRAM = CRATE / "out" / "store_bench"
+CRATE = TOP / "crates" / "journal_cases"
+PROGRAM = CRATE / "out" / "journal_cases"
 COUNTS = [1_000, 10_000]
 RUNS = 31
 # the batches of the journal that is changed: members come in, then go out, then come in
@@ -29,18 +29,24 @@ BEGINNING = 9
 LIMIT = BEGINNING + 5 + 19
 
 
-def run(words):
-    """What a program prints, and its status."""
-    done = subprocess.run(words, capture_output=True, text=True)
-    assert done.returncode in (0, 1), f"{words} ended with {done.returncode}"
-    return done.returncode, done.stdout
+def command(program, path):
+    """The words that start a program, and what it is given on standard input, to open a store: ours reads a line, and that in C has a word."""
+    return ([program], f"open {path}\n") if program == PROGRAM else ([program, path], "")
+
+
+def opened(program, path):
+    """What a program prints that opens a store; one without a group has its place in that."""
+    words, given = command(program, path)
+    done = subprocess.run(words, input=given, capture_output=True, text=True)
+    refused = done.stdout.startswith("no group at ")
+    assert done.returncode == (0 if program == PROGRAM else int(refused)), f"{words} ended with {done.returncode}"
+    return done.stdout
 
 
 def made(folder, count):
     """A journal with so many batches."""
     path = folder / f"{count}.store"
-    status, _ = run([PROGRAM, path, str(count)])
-    assert status == 0, f"{count} batches were not made"
+    subprocess.run([PROGRAM], input=f"make {path} {count}\n", check=True, capture_output=True, text=True)
     return path
 
 
@@ -79,17 +85,18 @@ def check_answers(programs, folder):
     count = refused = 0
     for octets in [whole, *changed(whole)]:
         path.write_bytes(octets)
-        answers = [run([program, path]) for program in programs]
+        answers = [opened(program, path) for program in programs]
         assert answers[0] == answers[1], f"the two programs differ at {path}: {answers}"
         count += octets != whole
-        refused += answers[0][0]
+        refused += answers[0].startswith("no group at ")
     return count, refused
 
 
 def seconds(program, path):
     """The time of one run, from the start of the program to its end."""
+    words, given = command(program, path)
     start = time.perf_counter()
-    subprocess.run([program, path], check=True, stdout=subprocess.DEVNULL)
+    subprocess.run(words, input=given, check=True, stdout=subprocess.DEVNULL, text=True)
     return time.perf_counter() - start
 
 
@@ -107,7 +114,10 @@ def full_pipe():
 def peak(program, path):
     """The most memory that a run had at once, in KiB. The system is asked while the program waits to print its line, which is the last it does."""
     out, into = full_pipe()
-    with subprocess.Popen([program, path], stdout=into) as process:
+    words, given = command(program, path)
+    with subprocess.Popen(words, stdin=subprocess.PIPE, stdout=into, text=True) as process:
+        process.stdin.write(given)
+        process.stdin.close()
         told = pathlib.Path(f"/proc/{process.pid}")
         while (told / "syscall").read_text().split()[1:2] != ["0x1"]:
             time.sleep(0.001)
@@ -126,7 +136,7 @@ def processor():
 def main():
     with tempfile.TemporaryDirectory(dir=(sys.argv[1:] or ["/var/tmp"])[0]) as name:
         folder = pathlib.Path(name)
-        subprocess.run(["rt", "run", "--", folder / "built", "0"], cwd=CRATE, check=True, stdout=subprocess.DEVNULL)
+        subprocess.run(["rt", "run"], cwd=CRATE, check=True, stdin=subprocess.DEVNULL, stdout=subprocess.DEVNULL)
         theirs = folder / "store"
         subprocess.run(["cc", "-O2", "-o", theirs, TOP / "bench" / "store.c"], check=True)
         programs = [PROGRAM, theirs]
@@ -136,7 +146,7 @@ def main():
         print(f"{'batches':>10}{'ours, ms':>10}{'C, ms':>10}{'ratio':>8}{'ours, KiB':>12}{'C, KiB':>10}")
         for count in COUNTS:
             path = made(folder, count)
-            assert run([PROGRAM, path]) == run([theirs, path]), "the two programs differ"
+            assert opened(PROGRAM, path) == opened(theirs, path), "the two programs differ"
             times = {program: [] for program in programs}
             for _ in range(RUNS):
                 for program in programs:

@@ -6,5 +6,3 @@ pub use refusals::QueueRefusal;
 
 mod queues;
 mod refusals;
-#[cfg(test)]
-mod tests;

@@ -7,5 +7,3 @@ mod arguments;
 mod commands;
 mod found;
 mod numbers;
-#[cfg(test)]
-mod tests;

@@ -24,8 +24,6 @@ use std::io::{BufRead, BufReader};
 mod cases;
 mod lines;
 mod runs;
-#[cfg(test)]
-mod tests;
 mod texts;
 
 fn main(rt: HostRuntime) -> io::Result<()> {

@@ -1,120 +1,100 @@
 //! What batches put out.
 
 use crate::cases::TestCore;
-use crate::keyed::keyed_line;
-use crate::texts::{Detail, Shown, refused};
+use crate::keyed::add_keyed;
+use crate::texts::{Detail, add_refused, add_shown};
+use case_lines::Text;
 use gcks_core::{CoreOutput, Prepared, PushPair};
-use group_terms::{Batch, Change, KeyName, Octets, Wrap};
+use group_terms::{Batch, KeyName, Octets, Wrap};
 use std::alloc::Global;
-use std::{fmt, io};
 
 /// Closes the batch: its epoch, what it encrypts, its pushes, and what those are told who come in.
-pub fn batch(alloc: Global, detail: Detail, core: &mut TestCore) -> io::Result<String> {
+pub fn batch(alloc: Global, detail: Detail, core: &mut TestCore, text: &mut Text) {
     let prepared = match core.prepare(alloc) {
         Ok(prepared) => prepared,
-        Err(why) => return refused(alloc, "batch", why),
+        Err(why) => return add_refused("batch", why, text),
     };
-    let replies = replies(alloc, detail, core.queued(), &prepared)?;
+    let mut replies = Text::new(alloc);
+    add_replies(alloc, detail, core.queued(), &prepared, &mut replies);
     match core.commit(prepared) {
-        Ok(output) => put_out(alloc, detail, &output, replies.as_str()),
-        Err(why) => refused(alloc, "batch", why),
+        Ok(output) => add_made(detail, &output, &replies, text),
+        Err(why) => add_refused("batch", why, text),
     }
+}
+
+/// What a batch puts out, and then the replies.
+fn add_made(detail: Detail, output: &CoreOutput, replies: &Text, text: &mut Text) {
+    add_output(detail, output, text);
+    text.add_text(replies);
 }
 
 /// What those are told who come in with a batch.
-fn replies(
-    alloc: Global,
-    detail: Detail,
-    batch: &Batch,
-    prepared: &Prepared,
-) -> io::Result<String> {
-    let mut text = String::new(alloc);
+fn add_replies(alloc: Global, detail: Detail, batch: &Batch, prepared: &Prepared, text: &mut Text) {
     for change in batch.changes() {
-        text.push_str(reply(alloc, detail, change, prepared)?.as_str())?;
-    }
-    Ok(text)
-}
-
-fn reply(
-    alloc: Global,
-    detail: Detail,
-    change: &Change,
-    prepared: &Prepared,
-) -> io::Result<String> {
-    let member = change.member();
-    match prepared.keyed(member) {
-        Some(keyed) => keyed_line(alloc, detail, member, keyed),
-        None => Ok(String::new(alloc)),
+        let member = change.member();
+        if let Some(keyed) = prepared.keyed(member) {
+            add_keyed(alloc, detail, member, keyed, text);
+        }
     }
 }
 
-fn put_out(
-    alloc: Global,
-    detail: Detail,
-    output: &CoreOutput,
-    replies: &str,
-) -> io::Result<String> {
-    let CoreOutput {
-        epoch,
-        sequence,
-        members,
-        ..
-    } = output;
-    let wraps = wraps(alloc, output.wraps.as_slice())?;
-    let pushes = pushes(alloc, detail, &output.pushes)?;
-    Ok(format!(in alloc;
-        "epoch {epoch} sequence {sequence} members {members}\n{wraps}{pushes}{replies}"
-    )?)
+fn add_output(detail: Detail, output: &CoreOutput, text: &mut Text) {
+    text.add("epoch ");
+    text.add_number(u64::from(output.epoch));
+    text.add(" sequence ");
+    text.add_number(u64::from(output.sequence));
+    text.add(" members ");
+    text.add_number(u64::from(output.members));
+    text.add("\n");
+    for wrap in output.wraps.as_slice() {
+        add_wrap(wrap, text);
+    }
+    add_pair(detail, &output.pushes, text);
 }
 
-fn wraps(alloc: Global, wraps: &[Wrap]) -> io::Result<String> {
-    let mut text = String::new(alloc);
-    for wrap in wraps {
-        let (by, gives) = (Key { name: wrap.by }, Key { name: wrap.gives });
-        text.push_str(format!(in alloc; "wrap {by} {gives}\n")?.as_str())?;
-    }
-    Ok(text)
+fn add_wrap(wrap: &Wrap, text: &mut Text) {
+    text.add("wrap ");
+    add_key(wrap.by, text);
+    text.add(" ");
+    add_key(wrap.gives, text);
+    text.add("\n");
 }
 
 /// The pair of a batch, if it sent one.
-pub fn pushes(alloc: Global, detail: Detail, pair: &Option<PushPair>) -> io::Result<String> {
-    match pair {
-        Some(pair) => pushes_of(alloc, detail, pair),
-        None => Ok(String::new(alloc)),
+pub fn add_pair(detail: Detail, pair: &Option<PushPair>, text: &mut Text) {
+    if let Some(pair) = pair {
+        let first = u64::from(pair.first);
+        add_push(detail, first, &pair.membership, text);
+        add_push(detail, first + 1, &pair.traffic, text);
     }
 }
 
-fn pushes_of(alloc: Global, detail: Detail, pair: &PushPair) -> io::Result<String> {
-    let first = u64::from(pair.first);
-    let membership = push(alloc, detail, first, &pair.membership)?;
-    let traffic = push(alloc, detail, first + 1, &pair.traffic)?;
-    Ok(format!(in alloc; "{membership}{traffic}")?)
-}
-
-fn push(alloc: Global, detail: Detail, number: u64, datagram: &Octets) -> io::Result<String> {
-    let size = datagram.len();
-    let octets = Shown {
-        detail,
-        octets: datagram.as_slice(),
-    };
-    Ok(format!(in alloc; "push {number} {size} {octets}\n")?)
+fn add_push(detail: Detail, number: u64, datagram: &Octets, text: &mut Text) {
+    text.add("push ");
+    text.add_number(number);
+    text.add(" ");
+    text.add_number(datagram.len() as u64);
+    text.add(" ");
+    add_shown(detail, datagram.as_slice(), text);
+    text.add("\n");
 }
 
 /// `POSITION.EPOCH`, `traffic.EPOCH`, or `phase`, which no batch encrypts.
-#[derive(Clone, Copy)]
-struct Key {
-    name: KeyName,
+fn add_key(name: KeyName, text: &mut Text) {
+    match name {
+        KeyName::Node { id, made } => {
+            text.add_number(u64::from(id.number()));
+            add_epoch(made, text);
+        }
+        KeyName::Traffic { made } => {
+            text.add("traffic");
+            add_epoch(made, text);
+        }
+        KeyName::Phase { .. } => text.add("phase"),
+    }
 }
 
-impl fmt::Display for Key {
-    fn fmt<W: fmt::Write>(&self, f: &mut fmt::Formatter<W>) -> fmt::Result {
-        match self.name {
-            KeyName::Node { id, made } => {
-                let id = id.number();
-                write!(f, "{id}.{made}")
-            }
-            KeyName::Traffic { made } => write!(f, "traffic.{made}"),
-            KeyName::Phase { .. } => write!(f, "phase"),
-        }
-    }
+fn add_epoch(made: u32, text: &mut Text) {
+    text.add(".");
+    text.add_number(u64::from(made));
 }

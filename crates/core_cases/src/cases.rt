@@ -1,22 +1,19 @@
 //! A case: a group and what it is asked.
 ghost use Rattle.std.specs.Prelude.{◌≤◌};
 
-use crate::batches::{batch, pushes};
-use crate::keyed::keyed_line;
-use crate::lines::{Call, Line, Request};
-use crate::looks::{counts, look, show, state};
-use crate::texts::{Detail, Shown, answered, refused};
-use gcks_core::{
-    Core, CoreOpened, GroupName, MemberName, NewGroup, Opening, Parts, PushPair, Refusal,
-};
+use crate::batches::{add_pair, batch};
+use crate::looks::{add_counts, show, state};
+use crate::requests::ask;
+use crate::runs::work;
+use crate::texts::{Detail, add_refused, add_shown, detail_of};
+use case_lines::{Cases, Text, long_number, number, octets};
+use gcks_core::{Core, CoreOpened, GroupName, MemberName, NewGroup, Opening, Parts};
 use gd_disk::MemDisk;
 use gd_edges::{ChaChaDraws, TestSigner};
-use group_terms::{List, Octets};
+use group_terms::List;
 use std::alloc::Global;
-use std::io;
-use std::io::ErrorKind;
 
-pub type TestParts = Parts<MemDisk, TestSigner, ChaChaDraws>;
+type TestParts = Parts<MemDisk, TestSigner, ChaChaDraws>;
 
 pub type TestCore = Core<MemDisk, TestSigner, ChaChaDraws>;
 
@@ -30,18 +27,23 @@ const GROUP: &[u8] = b"console";
 /// No disk has more octets.
 const FARTHEST: usize = 1 << 62;
 
-/// A group that is open, or what one is made of.
-#[derive(Drop)]
-enum Group {
-    Closed { parts: TestParts },
-    Open { core: TestCore },
-}
-
-/// A case so far.
+/// A case so far: the group, while it is open, and else what one is made of.
 #[derive(Drop)]
 pub struct Case {
     detail: Detail,
-    group: Option<Group>,
+    parts: Option<TestParts>,
+    core: Option<TestCore>,
+}
+
+impl Cases for Case {
+    fn answer(&mut self, rt: &HostRuntime, words: &[&str], text: &mut Text) -> Option<()> {
+        let (word, rest) = words.split_first()?;
+        match rest {
+            [] => self.call(rt.alloc(), word, text),
+            [only] => self.with_one(rt.alloc(), word, only, rest, text),
+            _ => self.with_more(rt, word, rest, text),
+        }
+    }
 }
 
 impl Case {
@@ -54,206 +56,228 @@ impl Case {
         };
         Case {
             detail,
-            group: Some(Group::Closed { parts }),
+            parts: Some(parts),
+            core: None,
         }
     }
 
-    /// Does what a line asks for, and says what came of it. `InvalidInput` where the line has to come before or after the group is opened.
-    pub fn answer(&mut self, alloc: Global, line: Line) -> io::Result<String> {
-        match line {
-            Line::Case { name, seed, detail } => {
-                *self = Case::begin(alloc, seed, detail);
-                Ok(format!(in alloc; "case {name}\n")?)
-            }
-            Line::Faults { calls } => self.put_disk(alloc, MemDisk::planned(alloc, calls)),
-            Line::Disk { image } => self.put_image(alloc, image),
-            Line::New { depth, limit } => self.create(alloc, depth, limit),
-            Line::Crash { choice } => self.crash(alloc, choice),
-            Line::Named { request, member } => self.ask(alloc, request, &member),
-            Line::Plain { call } => self.call(alloc, call),
+    /// What a word alone asks for.
+    fn call(&mut self, alloc: Global, word: &str, text: &mut Text) -> Option<()> {
+        match word {
+            "open" => self.open(alloc, text),
+            "close" => self.close(text),
+            _ => match &mut self.core {
+                Some(core) => call_core(alloc, self.detail, core, word, text),
+                None => None,
+            },
         }
     }
 
-    fn call(&mut self, alloc: Global, call: Call) -> io::Result<String> {
-        let detail = self.detail;
-        match call {
-            Call::Open => self.open(alloc),
-            Call::Batch => batch(alloc, detail, self.core()?),
-            Call::Reopen => reopen(alloc, detail, self.core()?),
-            Call::Halt => halt(alloc, self.core()?),
-            Call::Show => show(alloc, self.core()?),
-            Call::State => state(alloc, detail, self.core()?),
-            Call::Draw => draw(alloc, self.core()?),
-            Call::Close => self.close(alloc),
-        }
-    }
-
-    fn ask(&mut self, alloc: Global, request: Request, member: &MemberName) -> io::Result<String> {
-        let detail = self.detail;
-        let core = self.core()?;
-        match request {
-            Request::Join => join(alloc, core, member),
-            Request::Leave => leave(alloc, core, member),
-            Request::Tell => tell(alloc, detail, core, member),
-            Request::Look => look(alloc, core, member),
-        }
-    }
-
-    /// The group, which has to be open.
-    fn core(&mut self) -> io::Result<&mut TestCore> {
-        match &mut self.group {
-            Some(Group::Open { core }) => Ok(core),
-            _ => Err(ErrorKind::InvalidInput.into()),
-        }
-    }
-
-    /// What a group is made of. No group may be open.
-    fn take_parts(&mut self) -> io::Result<TestParts> {
-        match self.group.take() {
-            Some(Group::Closed { parts }) => Ok(parts),
-            _ => Err(ErrorKind::InvalidInput.into()),
-        }
-    }
-
-    /// What the group is made of, which is closed if it was open.
-    fn take_apart(&mut self) -> io::Result<TestParts> {
-        match self.group.take() {
-            Some(Group::Closed { parts }) => Ok(parts),
-            Some(Group::Open { core }) => Ok(core.into_parts()),
-            None => Err(ErrorKind::InvalidInput.into()),
-        }
-    }
-
-    fn put_image(&mut self, alloc: Global, image: Octets) -> io::Result<String> {
-        if image.len() > FARTHEST {
-            return Err(ErrorKind::FileTooLarge.into());
-        }
-        self.put_disk(alloc, MemDisk::holding(alloc, image))
-    }
-
-    /// Another disk in place of the one that was there.
-    fn put_disk(&mut self, alloc: Global, disk: MemDisk) -> io::Result<String> {
-        let parts = self.take_parts()?;
-        self.keep_parts(with_disk(parts, disk));
-        self.disk_line(alloc)
-    }
-
-    fn close(&mut self, alloc: Global) -> io::Result<String> {
-        let parts = self.take_apart()?;
-        self.keep_parts(parts);
-        self.disk_line(alloc)
-    }
-
-    fn crash(&mut self, alloc: Global, choice: u64) -> io::Result<String> {
-        let parts = self.take_apart()?;
-        self.keep_parts(crashed(parts, choice)?);
-        self.disk_line(alloc)
-    }
-
-    fn keep_parts(&mut self, parts: TestParts) {
-        self.group = Some(Group::Closed { parts });
-    }
-
-    fn keep_core(&mut self, core: TestCore) {
-        self.group = Some(Group::Open { core });
-    }
-
-    /// What the disk of a group has that is not open.
-    fn disk_line(&self, alloc: Global) -> io::Result<String> {
-        match &self.group {
-            Some(Group::Closed { parts }) => disk_text(alloc, self.detail, &parts.disk),
-            _ => Err(ErrorKind::InvalidInput.into()),
-        }
-    }
-
-    fn create(&mut self, alloc: Global, depth: u8, limit: u32) -> io::Result<String> {
-        if depth == 0 || depth > 9 || limit == 0 {
-            return Err(ErrorKind::InvalidInput.into());
-        }
-        let name = group_name()?;
-        let parts = self.take_parts()?;
-        let group = NewGroup { depth, name, limit };
-        match self.keep_made(create(alloc, parts, &group)) {
-            None => Ok(format!(in alloc; "new depth {depth}\n")?),
-            Some(refusal) => refused(alloc, "new", refusal),
-        }
-    }
-
-    /// Keeps the group that was made, or what it would be made of; why it was not made, if it was not.
-    fn keep_made(&mut self, made: Result<TestCore, TestOpening>) -> Option<Refusal> {
-        match made {
-            Ok(core) => {
-                self.keep_core(core);
-                None
-            }
-            Err(Opening { refusal, parts }) => {
-                self.keep_parts(parts);
-                Some(refusal)
-            }
-        }
-    }
-
-    fn open(&mut self, alloc: Global) -> io::Result<String> {
-        let parts = self.take_parts()?;
-        match self.keep_opened(open(alloc, parts)) {
-            Ok(resent) => self.opened_line(alloc, &resent),
-            Err(refusal) => refused(alloc, "open", refusal),
-        }
-    }
-
-    /// Keeps the group that was opened, or what it is made of; the pair that was sent again, or why it was not opened.
-    fn keep_opened(
+    /// What a word asks for with another one.
+    fn with_one(
         &mut self,
-        opened: Result<TestOpened, TestOpening>,
-    ) -> Result<Option<PushPair>, Refusal> {
-        match opened {
-            Ok(CoreOpened { core, resent }) => {
-                self.keep_core(core);
-                Ok(resent)
-            }
-            Err(Opening { refusal, parts }) => {
-                self.keep_parts(parts);
-                Err(refusal)
-            }
+        alloc: Global,
+        word: &str,
+        only: &str,
+        rest: &[&str],
+        text: &mut Text,
+    ) -> Option<()> {
+        match word {
+            "faults" => self.put_faults(alloc, rest, text),
+            "disk" => self.put_image(alloc, only, text),
+            "crash" => self.crash(long_number(only)?, text),
+            _ => self.ask_core(alloc, word, only, text),
         }
     }
 
-    /// What is said of a group that was opened.
-    fn opened_line(&mut self, alloc: Global, resent: &Option<PushPair>) -> io::Result<String> {
-        let detail = self.detail;
-        let core = self.core()?;
-        let depth = core.depth();
-        let counts = counts(alloc, core)?;
-        let pushes = pushes(alloc, detail, resent)?;
-        Ok(format!(in alloc; "open depth {depth} {counts}\n{pushes}")?)
+    /// What a word asks of a name.
+    fn ask_core(&mut self, alloc: Global, word: &str, name: &str, text: &mut Text) -> Option<()> {
+        let member = MemberName::read(name.as_bytes())?;
+        match &mut self.core {
+            Some(core) => ask(alloc, self.detail, core, word, &member, text),
+            None => None,
+        }
     }
-}
 
-/// The same with another disk.
-fn with_disk(parts: TestParts, disk: MemDisk) -> TestParts {
-    let Parts { signer, draws, .. } = parts;
-    Parts {
-        disk,
-        signer,
-        draws,
+    /// What a word asks for with several others.
+    fn with_more(
+        &mut self,
+        rt: &HostRuntime,
+        word: &str,
+        rest: &[&str],
+        text: &mut Text,
+    ) -> Option<()> {
+        match word {
+            "case" => self.begin_anew(rt.alloc(), rest, text),
+            "faults" => self.put_faults(rt.alloc(), rest, text),
+            "new" => self.new_group(rt.alloc(), rest, text),
+            "work" => work(rt, rest, text),
+            _ => None,
+        }
     }
-}
 
-/// The same with the disk that a crash leaves.
-fn crashed(parts: TestParts, choice: u64) -> io::Result<TestParts> {
-    let Parts {
-        disk,
-        signer,
-        draws,
-    } = parts;
-    match disk.crashed(choice) {
-        Ok(disk) => Ok(Parts {
+    /// Another case.
+    fn begin_anew(&mut self, alloc: Global, words: &[&str], text: &mut Text) -> Option<()> {
+        let [name, seed, detail] = words else {
+            return None;
+        };
+        let seed = long_number(seed)?;
+        *self = Case::begin(alloc, seed, detail_of(detail)?);
+        text.add("case ");
+        text.add(name);
+        text.add("\n");
+        Some(())
+    }
+
+    fn put_faults(&mut self, alloc: Global, words: &[&str], text: &mut Text) -> Option<()> {
+        let mut calls = List::new(alloc);
+        for word in words {
+            calls.push(long_number(word)?).ok()?;
+        }
+        self.put_disk(MemDisk::planned(alloc, calls), text)
+    }
+
+    fn put_image(&mut self, alloc: Global, word: &str, text: &mut Text) -> Option<()> {
+        let image = octets(alloc, word)?;
+        if image.len() > FARTHEST {
+            return None;
+        }
+        self.put_disk(MemDisk::holding(alloc, List::from_vec(image)), text)
+    }
+
+    /// Another disk in place of the one that was there. No group may be open.
+    fn put_disk(&mut self, disk: MemDisk, text: &mut Text) -> Option<()> {
+        match &mut self.parts {
+            Some(parts) => {
+                parts.disk = disk;
+                self.add_disk(text)
+            }
+            None => None,
+        }
+    }
+
+    fn close(&mut self, text: &mut Text) -> Option<()> {
+        self.parts = self.take_apart();
+        self.add_disk(text)
+    }
+
+    fn crash(&mut self, choice: u64, text: &mut Text) -> Option<()> {
+        let Parts {
             disk,
             signer,
             draws,
-        }),
-        Err(_) => Err(ErrorKind::OutOfMemory.into()),
+        } = self.take_apart()?;
+        let disk = disk.crashed(choice).ok()?;
+        self.parts = Some(Parts {
+            disk,
+            signer,
+            draws,
+        });
+        self.add_disk(text)
     }
+
+    /// What the group is made of, which is closed if it was open.
+    fn take_apart(&mut self) -> Option<TestParts> {
+        match self.core.take() {
+            Some(core) => Some(core.into_parts()),
+            None => self.parts.take(),
+        }
+    }
+
+    /// What the disk of a group has that is not open: `disk SIZE OCTETS`.
+    fn add_disk(&self, text: &mut Text) -> Option<()> {
+        let Some(parts) = &self.parts else {
+            return None;
+        };
+        let image = parts.disk.image();
+        text.add("disk ");
+        text.add_number(image.len() as u64);
+        text.add(" ");
+        add_shown(self.detail, image, text);
+        text.add("\n");
+        Some(())
+    }
+
+    fn new_group(&mut self, alloc: Global, words: &[&str], text: &mut Text) -> Option<()> {
+        let [depth, limit] = words else {
+            return None;
+        };
+        let (depth, limit) = (depth.parse::<u8>().ok()?, number(limit)?);
+        if depth == 0 || depth > 9 || limit == 0 {
+            return None;
+        }
+        let name = GroupName::read(GROUP)?;
+        let group = NewGroup { depth, name, limit };
+        let made = create(alloc, self.parts.take()?, &group);
+        self.keep_made(made, depth, text);
+        Some(())
+    }
+
+    /// Keeps the group that was made, or what it would be made of.
+    fn keep_made(&mut self, made: Result<TestCore, TestOpening>, depth: u8, text: &mut Text) {
+        match made {
+            Ok(core) => {
+                self.core = Some(core);
+                text.add("new depth ");
+                text.add_number(u64::from(depth));
+                text.add("\n");
+            }
+            Err(Opening { refusal, parts }) => {
+                self.parts = Some(parts);
+                add_refused("new", refusal, text);
+            }
+        }
+    }
+
+    fn open(&mut self, alloc: Global, text: &mut Text) -> Option<()> {
+        let opened = open(alloc, self.parts.take()?);
+        self.keep_opened(opened, text);
+        Some(())
+    }
+
+    /// Keeps the group that was opened, or what it is made of.
+    fn keep_opened(&mut self, opened: Result<TestOpened, TestOpening>, text: &mut Text) {
+        match opened {
+            Ok(opened) => {
+                add_opened(self.detail, &opened, text);
+                self.core = Some(opened.core);
+            }
+            Err(Opening { refusal, parts }) => {
+                self.parts = Some(parts);
+                add_refused("open", refusal, text);
+            }
+        }
+    }
+}
+
+/// What is said of a group that was opened.
+fn add_opened(detail: Detail, opened: &TestOpened, text: &mut Text) {
+    text.add("open depth ");
+    text.add_number(u64::from(opened.core.depth()));
+    text.add(" ");
+    add_counts(&opened.core, text);
+    text.add("\n");
+    add_pair(detail, &opened.resent, text);
+}
+
+/// What a word alone asks of a group that is open.
+fn call_core(
+    alloc: Global,
+    detail: Detail,
+    core: &mut TestCore,
+    word: &str,
+    text: &mut Text,
+) -> Option<()> {
+    match word {
+        "batch" => batch(alloc, detail, core, text),
+        "reopen" => reopen(alloc, detail, core, text),
+        "halt" => halt(core, text),
+        "show" => show(core, text),
+        "state" => state(alloc, detail, core, text),
+        "draw" => draw(core, text),
+        _ => return None,
+    }
+    Some(())
 }
 
 /// Opens a group, of which nothing more is said.
@@ -270,71 +294,25 @@ fn create(alloc: Global, parts: TestParts, group: &NewGroup) -> Result<TestCore,
     Core::create(alloc, parts, group)
 }
 
-fn group_name() -> io::Result<GroupName> {
-    match GroupName::read(GROUP) {
-        Some(name) => Ok(name),
-        None => Err(ErrorKind::InvalidInput.into()),
-    }
-}
-
-/// What a disk has.
-fn disk_text(alloc: Global, detail: Detail, disk: &MemDisk) -> io::Result<String> {
-    let image = disk.image();
-    let size = image.len();
-    let octets = Shown {
-        detail,
-        octets: image,
-    };
-    Ok(format!(in alloc; "disk {size} {octets}\n")?)
-}
-
-fn join(alloc: Global, core: &mut TestCore, member: &MemberName) -> io::Result<String> {
-    if core.is_member(member) {
-        return answered(alloc, member, Ok("nothing"));
-    }
-    match core.join(member) {
-        Ok(()) => answered(alloc, member, Ok("queued")),
-        Err(why) => answered(alloc, member, Err(why)),
-    }
-}
-
-fn leave(alloc: Global, core: &mut TestCore, member: &MemberName) -> io::Result<String> {
-    match core.leave(member) {
-        Ok(()) => answered(alloc, member, Ok("leaving")),
-        Err(why) => answered(alloc, member, Err(why)),
-    }
-}
-
-fn tell(alloc: Global, detail: Detail, core: &TestCore, member: &MemberName) -> io::Result<String> {
-    if !core.is_member(member) {
-        return answered(alloc, member, Ok("stranger"));
-    }
-    match core.reply(member) {
-        Ok(keyed) => keyed_line(alloc, detail, member, &keyed),
-        Err(why) => answered(alloc, member, Err(why)),
-    }
-}
-
-fn reopen(alloc: Global, detail: Detail, core: &mut TestCore) -> io::Result<String> {
+fn reopen(alloc: Global, detail: Detail, core: &mut TestCore, text: &mut Text) {
     match core.reopen(alloc) {
         Ok(resent) => {
-            let counts = counts(alloc, core)?;
-            let pushes = pushes(alloc, detail, &resent)?;
-            Ok(format!(in alloc; "reopened {counts}\n{pushes}")?)
+            text.add("reopened ");
+            add_counts(core, text);
+            text.add("\n");
+            add_pair(detail, &resent, text);
         }
-        Err(why) => refused(alloc, "reopen", why),
+        Err(why) => add_refused("reopen", why, text),
     }
 }
 
-fn halt(alloc: Global, core: &mut TestCore) -> io::Result<String> {
+fn halt(core: &mut TestCore, text: &mut Text) {
     core.halt();
-    Ok(format!(in alloc; "halted\n")?)
+    text.add("halted\n");
 }
 
-fn draw(alloc: Global, core: &mut TestCore) -> io::Result<String> {
-    let block = Shown {
-        detail: Detail::Octets,
-        octets: &core.draw(),
-    };
-    Ok(format!(in alloc; "drew {block}\n")?)
+fn draw(core: &mut TestCore, text: &mut Text) {
+    text.add("drew ");
+    text.add_hex(&core.draw());
+    text.add("\n");
 }

@@ -1,54 +1,51 @@
 //! What members are told.
 
-use crate::texts::{Detail, Name, Shown};
+use crate::texts::{Detail, add_shown};
+use case_lines::Text;
 use gcks_core::{Keyed, MemberName};
-use group_terms::{PathKey, TrafficValue};
+use group_terms::{NoMemory, Octets, PathKey, TrafficValue};
 use std::alloc::Global;
-use std::io;
 
 /// `NAME keyed EPOCH OCTETS`: the octets are the sequence number, the SPI, each key of the path with its position, its epoch and its IV, and then the
 /// traffic key.
-pub fn keyed_line(
+pub fn add_keyed(
     alloc: Global,
     detail: Detail,
     member: &MemberName,
     keyed: &Keyed,
-) -> io::Result<String> {
-    let octets = octets_of(alloc, keyed)?;
-    let name = Name {
-        text: member.text(),
-    };
-    let octets = Shown {
-        detail,
-        octets: octets.as_slice(),
-    };
-    let epoch = keyed.epoch;
-    Ok(format!(in alloc; "{name} keyed {epoch} {octets}\n")?)
-}
-
-fn octets_of(alloc: Global, keyed: &Keyed) -> io::Result<Vec<u8>> {
-    let mut octets = Vec::new(alloc);
-    octets.extend_from_slice(&keyed.sequence.to_be_bytes())?;
-    octets.extend_from_slice(&keyed.spi)?;
-    for key in keyed.path.keys() {
-        add_key(&mut octets, key)?;
+    text: &mut Text,
+) {
+    text.add_letters(member.text());
+    text.add(" keyed ");
+    text.add_number(u64::from(keyed.epoch));
+    text.add(" ");
+    let mut octets = Octets::new(alloc);
+    match write_keyed(keyed, &mut octets) {
+        Ok(()) => add_shown(detail, octets.as_slice(), text),
+        Err(NoMemory) => text.lose(),
     }
-    add_traffic(&mut octets, &keyed.traffic)?;
-    Ok(octets)
+    text.add("\n");
 }
 
-fn add_key(octets: &mut Vec<u8>, key: &PathKey) -> io::Result<()> {
-    octets.extend_from_slice(&key.id.number().to_be_bytes())?;
-    octets.extend_from_slice(&key.made.to_be_bytes())?;
-    octets.extend_from_slice(&key.value.iv)?;
-    octets.extend_from_slice(&key.value.key)?;
-    Ok(())
+fn write_keyed(keyed: &Keyed, octets: &mut Octets) -> Result<(), NoMemory> {
+    octets.extend(&keyed.sequence.to_be_bytes())?;
+    octets.extend(&keyed.spi)?;
+    for key in keyed.path.keys() {
+        write_key(key, octets)?;
+    }
+    write_traffic(&keyed.traffic, octets)
+}
+
+fn write_key(key: &PathKey, octets: &mut Octets) -> Result<(), NoMemory> {
+    octets.extend(&key.id.number().to_be_bytes())?;
+    octets.extend(&key.made.to_be_bytes())?;
+    octets.extend(&key.value.iv)?;
+    octets.extend(&key.value.key)
 }
 
 /// The key of the cipher, that of the integrity algorithm, and the SPI.
-pub fn add_traffic(octets: &mut Vec<u8>, traffic: &TrafficValue) -> io::Result<()> {
-    octets.extend_from_slice(&traffic.cipher_key)?;
-    octets.extend_from_slice(&traffic.integrity_key)?;
-    octets.extend_from_slice(&traffic.spi)?;
-    Ok(())
+pub fn write_traffic(traffic: &TrafficValue, octets: &mut Octets) -> Result<(), NoMemory> {
+    octets.extend(&traffic.cipher_key)?;
+    octets.extend(&traffic.integrity_key)?;
+    octets.extend(&traffic.spi)
 }

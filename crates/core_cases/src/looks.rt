@@ -1,41 +1,43 @@
 //! What a core shows of its group.
 
 use crate::cases::TestCore;
-use crate::keyed::add_traffic;
-use crate::texts::{Detail, Name, Shown};
+use crate::keyed::write_traffic;
+use crate::texts::{Detail, add_shown};
+use case_lines::Text;
 use gcks_core::{LkhId, MemberName, TrafficValue};
-use group_terms::{Batch, Change};
+use group_terms::{Change, NoMemory, Octets};
 use std::alloc::Global;
-use std::io;
 
 /// The last leaf of the deepest tree.
 const LAST_LEAF: u16 = 1023;
 
 /// `epoch E sequence S members M`.
-pub fn counts(alloc: Global, core: &TestCore) -> io::Result<String> {
-    let (epoch, sequence, members) = (core.epoch(), core.sequence(), core.members());
-    Ok(format!(in alloc; "epoch {epoch} sequence {sequence} members {members}")?)
+pub fn add_counts(core: &TestCore, text: &mut Text) {
+    text.add("epoch ");
+    text.add_number(u64::from(core.epoch()));
+    text.add(" sequence ");
+    text.add_number(u64::from(core.sequence()));
+    text.add(" members ");
+    text.add_number(u64::from(core.members()));
 }
 
 /// The counts of a group, and who has which leaf.
-pub fn show(alloc: Global, core: &TestCore) -> io::Result<String> {
-    let counts = counts(alloc, core)?;
-    let mut text = format!(in alloc; "group {counts}\n")?;
+pub fn show(core: &TestCore, text: &mut Text) {
+    text.add("group ");
+    add_counts(core, text);
+    text.add("\n");
     for number in 1..=LAST_LEAF {
-        text.push_str(leaf(alloc, core, number)?.as_str())?;
+        add_leaf(core, number, text);
     }
-    Ok(text)
 }
 
-fn leaf(alloc: Global, core: &TestCore, number: u16) -> io::Result<String> {
-    match holder(core, number) {
-        Some(member) => {
-            let name = Name {
-                text: member.text(),
-            };
-            Ok(format!(in alloc; "leaf {number} {name}\n")?)
-        }
-        None => Ok(String::new(alloc)),
+fn add_leaf(core: &TestCore, number: u16, text: &mut Text) {
+    if let Some(member) = holder(core, number) {
+        text.add("leaf ");
+        text.add_number(u64::from(number));
+        text.add(" ");
+        text.add_letters(member.text());
+        text.add("\n");
     }
 }
 
@@ -44,76 +46,67 @@ fn holder(core: &TestCore, number: u16) -> Option<MemberName> {
 }
 
 /// What is known of a name: its leaf, or `-`, and whether a change of it waits.
-pub fn look(alloc: Global, core: &TestCore, member: &MemberName) -> io::Result<String> {
-    let name = Name {
-        text: member.text(),
-    };
-    let change = if core.pending(member) {
-        "pending"
-    } else {
-        "idle"
-    };
+pub fn look(core: &TestCore, member: &MemberName, text: &mut Text) {
+    text.add_letters(member.text());
+    text.add(" leaf ");
     match core.place(member) {
-        Some(leaf) => {
-            let leaf = leaf.number();
-            Ok(format!(in alloc; "{name} leaf {leaf} {change}\n")?)
-        }
-        None => Ok(format!(in alloc; "{name} leaf - {change}\n")?),
+        Some(leaf) => text.add_number(u64::from(leaf.number())),
+        None => text.add("-"),
     }
+    text.add(if core.pending(member) {
+        " pending\n"
+    } else {
+        " idle\n"
+    });
 }
 
 /// The name of the group, the depth of its tree, the SPI and the signature's kind of its pushes, the place of its draws, whether it has to be opened
 /// again, its traffic key and the changes that wait.
-pub fn state(alloc: Global, detail: Detail, core: &TestCore) -> io::Result<String> {
-    let head = head(alloc, core)?;
-    let draws = core.draws_at();
-    let need = if core.needs_reopen() {
-        "halted"
+pub fn state(alloc: Global, detail: Detail, core: &TestCore, text: &mut Text) {
+    add_head(core, text);
+    text.add(" draws ");
+    text.add_number(core.draws_at());
+    text.add(if core.needs_reopen() {
+        " halted traffic "
     } else {
-        "open"
-    };
-    let traffic = traffic(alloc, detail, core.traffic())?;
-    let queue = queue(alloc, core.queued())?;
-    Ok(format!(in alloc; "state {head} draws {draws} {need} traffic {traffic}{queue}\n")?)
-}
-
-fn head(alloc: Global, core: &TestCore) -> io::Result<String> {
-    let (name, depth, spi, kind) = (core.name(), core.depth(), core.spi(), core.sign_kind());
-    let name = Name { text: name.text() };
-    let spi = Shown {
-        detail: Detail::Octets,
-        octets: &spi,
-    };
-    let (algorithm, bits) = (kind.algorithm, kind.key_bits);
-    Ok(format!(in alloc; "{name} depth {depth} spi {spi} kind {algorithm} {bits}")?)
-}
-
-fn traffic(alloc: Global, detail: Detail, value: Option<TrafficValue>) -> io::Result<String> {
-    let mut octets = Vec::new(alloc);
-    if let Some(value) = value {
-        add_traffic(&mut octets, &value)?;
+        " open traffic "
+    });
+    add_traffic(alloc, detail, core.traffic(), text);
+    for change in core.queued().changes() {
+        add_change(change, text);
     }
-    let octets = Shown {
-        detail,
-        octets: octets.as_slice(),
-    };
-    Ok(format!(in alloc; "{octets}")?)
+    text.add("\n");
 }
 
-fn queue(alloc: Global, batch: &Batch) -> io::Result<String> {
-    let mut text = String::new(alloc);
-    for change in batch.changes() {
-        text.push_str(change_word(alloc, change)?.as_str())?;
-    }
-    Ok(text)
+fn add_head(core: &TestCore, text: &mut Text) {
+    text.add("state ");
+    text.add_letters(core.name().text());
+    text.add(" depth ");
+    text.add_number(u64::from(core.depth()));
+    text.add(" spi ");
+    text.add_hex(&core.spi());
+    let kind = core.sign_kind();
+    text.add(" kind ");
+    text.add_number(u64::from(kind.algorithm));
+    text.add(" ");
+    text.add_number(u64::from(kind.key_bits));
 }
 
-fn change_word(alloc: Global, change: &Change) -> io::Result<String> {
-    let name = Name {
-        text: change.member().text(),
+fn add_traffic(alloc: Global, detail: Detail, value: Option<TrafficValue>, text: &mut Text) {
+    let Some(value) = value else {
+        return text.add("-");
     };
-    match change {
-        Change::In { .. } => Ok(format!(in alloc; " in {name}")?),
-        Change::Out { .. } => Ok(format!(in alloc; " out {name}")?),
+    let mut octets = Octets::new(alloc);
+    match write_traffic(&value, &mut octets) {
+        Ok(()) => add_shown(detail, octets.as_slice(), text),
+        Err(NoMemory) => text.lose(),
     }
+}
+
+fn add_change(change: &Change, text: &mut Text) {
+    text.add(match change {
+        Change::In { .. } => " in ",
+        Change::Out { .. } => " out ",
+    });
+    text.add_letters(change.member().text());
 }

@@ -19,40 +19,30 @@
 //! draw                             the next block of the draws, for somebody else
 //! crash CHOICE                     the group is gone, and the disk is as a crash of this number leaves it
 //! close                            the group is closed, and the disk is as it is
+//! work DISK DEPTH KIND COUNT       many batches of another group, so that their time can be taken from outside
 //! ```
+//!
+//! A work makes a group in a tree of this depth, from 5 to 9, on the file at the path DISK, whatever that held, or with `-` on no disk at all. It closes
+//! so many batches: those of the kind `large` have 32 changes each, and those of `small` four. Members come in until the tree is full, or nearly full.
+//! From then on as many go out as a batch has changes, and others come in, in turn. What came of it is printed, and the group of the case stays.
 #![tactic(auto)]
 
+use case_lines::answer_all;
 use cases::Case;
-use lines::read_line;
 use std::io;
-use std::io::{BufRead, BufReader};
 use texts::Detail;
 
 mod batches;
 mod cases;
 mod keyed;
-mod lines;
 mod looks;
+mod no_disks;
+mod requests;
+mod runs;
+mod tallies;
 mod texts;
+mod works;
 
 fn main(rt: HostRuntime) -> io::Result<()> {
-    let mut case = Case::begin(rt.alloc(), 0, Detail::Octets);
-    answer_all(&rt, &mut case)
-}
-
-/// Answers standard input, line by line.
-fn answer_all(rt: &HostRuntime, case: &mut Case) -> io::Result<()> {
-    let input = BufReader::new(rt.alloc(), rt.reader())?;
-    for line in input.lines(rt.alloc()) {
-        let line = line?;
-        answer(rt, case, line.as_str())?;
-    }
-    Ok(())
-}
-
-fn answer(rt: &HostRuntime, case: &mut Case, line: &str) -> io::Result<()> {
-    let line = read_line(rt.alloc(), line)?;
-    let answer = case.answer(rt.alloc(), line)?;
-    print!(rt; "{answer}")?;
-    Ok(())
+    answer_all(&rt, &mut Case::begin(rt.alloc(), 0, Detail::Octets))
 }

@@ -1,9 +1,8 @@
-//! How names, octets and refusals are written.
+//! How octets and refusals are written.
 
+use case_lines::Text;
 use gcks_core::{Counter, MemberName, Refusal};
 use sha2::{Digest, Sha256};
-use std::alloc::Global;
-use std::{fmt, io};
 
 /// How octets are written.
 #[derive(Clone, Copy)]
@@ -12,97 +11,72 @@ pub enum Detail {
     Hashes,
 }
 
+pub fn detail_of(word: &str) -> Option<Detail> {
+    match word {
+        "octets" => Some(Detail::Octets),
+        "hashes" => Some(Detail::Hashes),
+        _ => None,
+    }
+}
+
 /// Octets in hexadecimal, or their SHA-256; `-` for none.
-#[derive(Clone, Copy)]
-pub struct Shown<'a> {
-    pub detail: Detail,
-    pub octets: &'a [u8],
-}
-
-impl fmt::Display for Shown<'_> {
-    fn fmt<W: fmt::Write>(&self, f: &mut fmt::Formatter<W>) -> fmt::Result {
-        if self.octets.is_empty() {
-            return write!(f, "-");
-        }
-        match self.detail {
-            Detail::Octets => fmt_hex(self.octets, f),
-            Detail::Hashes => fmt_hex(&Sha256::digest(self.octets), f),
-        }
+pub fn add_shown(detail: Detail, octets: &[u8], text: &mut Text) {
+    if octets.is_empty() {
+        return text.add("-");
     }
-}
-
-fn fmt_hex<W: fmt::Write>(octets: &[u8], f: &mut fmt::Formatter<W>) -> fmt::Result {
-    for octet in octets {
-        write!(f, "{octet:02x}")?;
-    }
-    Ok(())
-}
-
-/// A text of letters, digits and other characters of one octet.
-#[derive(Clone, Copy)]
-pub struct Name<'a> {
-    pub text: &'a [u8],
-}
-
-impl fmt::Display for Name<'_> {
-    fn fmt<W: fmt::Write>(&self, f: &mut fmt::Formatter<W>) -> fmt::Result {
-        for octet in self.text {
-            let letter = char::from(*octet);
-            write!(f, "{letter}")?;
-        }
-        Ok(())
+    match detail {
+        Detail::Octets => text.add_hex(octets),
+        Detail::Hashes => text.add_hex(&Sha256::digest(octets)),
     }
 }
 
 /// Why something was refused.
-#[derive(Clone, Copy)]
-pub struct Why {
-    pub refusal: Refusal,
-}
-
-impl fmt::Display for Why {
-    fn fmt<W: fmt::Write>(&self, f: &mut fmt::Formatter<W>) -> fmt::Result {
-        match self.refusal {
-            Refusal::NeedsReopen => write!(f, "needs-reopen"),
-            Refusal::NotMember => write!(f, "not-member"),
-            Refusal::AlreadyPending => write!(f, "already-pending"),
-            Refusal::TreeFull { held } => write!(f, "tree-full {held}"),
-            Refusal::BatchFull { pending } => write!(f, "batch-full {pending}"),
-            Refusal::Spent { counter, at } => fmt_spent(counter, at, f),
-            Refusal::DiskFault => write!(f, "disk-fault"),
-            Refusal::NotAJournal { at } => write!(f, "not-a-journal {at}"),
-            Refusal::NoMemory => write!(f, "no-memory"),
+fn add_refusal(refusal: Refusal, text: &mut Text) {
+    match refusal {
+        Refusal::NeedsReopen => text.add("needs-reopen"),
+        Refusal::NotMember => text.add("not-member"),
+        Refusal::AlreadyPending => text.add("already-pending"),
+        Refusal::TreeFull { held } => add_with_number("tree-full ", u64::from(held), text),
+        Refusal::BatchFull { pending } => {
+            add_with_number("batch-full ", u64::from(pending), text);
         }
+        Refusal::Spent { counter, at } => add_with_number(spent(counter), u64::from(at), text),
+        Refusal::DiskFault => text.add("disk-fault"),
+        Refusal::NotAJournal { at } => add_with_number("not-a-journal ", at, text),
+        Refusal::NoMemory => text.add("no-memory"),
     }
 }
 
-fn fmt_spent<W: fmt::Write>(counter: Counter, at: u32, f: &mut fmt::Formatter<W>) -> fmt::Result {
+fn spent(counter: Counter) -> &'static str {
     match counter {
-        Counter::Epoch => write!(f, "spent epoch {at}"),
-        Counter::Sequence => write!(f, "spent sequence {at}"),
+        Counter::Epoch => "spent epoch ",
+        Counter::Sequence => "spent sequence ",
     }
+}
+
+fn add_with_number(words: &str, number: u64, text: &mut Text) {
+    text.add(words);
+    text.add_number(number);
 }
 
 /// `WHAT refused REASON`.
-pub fn refused(alloc: Global, what: &str, refusal: Refusal) -> io::Result<String> {
-    let why = Why { refusal };
-    Ok(format!(in alloc; "{what} refused {why}\n")?)
+pub fn add_refused(what: &str, refusal: Refusal, text: &mut Text) {
+    text.add(what);
+    text.add(" refused ");
+    add_refusal(refusal, text);
+    text.add("\n");
 }
 
-/// What becomes of a request of a member: `NAME WORD`, or `NAME refused REASON`.
-pub fn answered(
-    alloc: Global,
-    member: &MemberName,
-    answer: Result<&str, Refusal>,
-) -> io::Result<String> {
-    let name = Name {
-        text: member.text(),
-    };
-    match answer {
-        Ok(word) => Ok(format!(in alloc; "{name} {word}\n")?),
-        Err(refusal) => {
-            let why = Why { refusal };
-            Ok(format!(in alloc; "{name} refused {why}\n")?)
-        }
-    }
+/// `NAME WORD`: what becomes of a request of a member.
+pub fn add_answer(member: &MemberName, word: &str, text: &mut Text) {
+    text.add_letters(member.text());
+    text.add(" ");
+    text.add(word);
+    text.add("\n");
+}
+
+/// `NAME refused REASON`.
+pub fn add_why(member: &MemberName, refusal: Refusal, text: &mut Text) {
+    text.add_letters(member.text());
+    add_refused("", refusal, text);
 }

@@ -22,7 +22,5 @@ mod passes;
 mod plays;
 mod rounds;
 mod rules;
-#[cfg(test)]
-mod tests;
 mod turns;
 mod views;

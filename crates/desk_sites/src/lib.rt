@@ -9,11 +9,6 @@ use std::sync::Wait;
 use std::thread;
 use std::thread::Threads;
 
-#[cfg(test)]
-mod sums;
-#[cfg(test)]
-mod tests;
-
 /// Where turns are made.
 pub trait Site {
     type Pass;

@@ -2,6 +2,14 @@
 #![tactic(auto)]
 
 #[cfg(test)]
-mod disks;
+mod crashes;
+#[cfg(test)]
+mod faults;
+#[cfg(test)]
+mod files;
 #[cfg(test)]
 mod journals;
+#[cfg(test)]
+mod reads;
+#[cfg(test)]
+mod reopened;

@@ -12,5 +12,3 @@ mod laws;
 mod pairs;
 mod passes;
 mod rule;
-#[cfg(test)]
-mod tests;

@@ -14,15 +14,9 @@ pub use macs::{Hmac, phase2_iv};
 
 mod blocks;
 mod chains;
-#[cfg(test)]
-mod cipher_tests;
 mod columns;
 mod keys;
 mod laws;
-#[cfg(test)]
-mod mac_tests;
 mod macs;
 mod schedules;
 mod tables;
-#[cfg(test)]
-mod test_octets;

@@ -27,8 +27,6 @@ mod sources;
 mod std_sinks;
 mod std_sources;
 mod test_signers;
-#[cfg(test)]
-mod tests;
 mod text_sinks;
 mod text_sources;
 mod verifiers;

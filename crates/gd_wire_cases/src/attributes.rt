@@ -1,59 +1,56 @@
 //! Data attributes of both forms.
-use gd_wire::{AttrValue, WireFault, WireWhat, read_attribute, write_long, write_short};
-use group_terms::{List, Octets};
-use std::alloc::Global;
-use std::test::Fail;
+ghost use Rattle.std.specs.Prelude.{◌≤◌, length};
+
+use gd_wire::{AttrValue, Attribute, WireFault, WireWhat, read_attribute, write_long, write_short};
+use group_terms::{List, NoMemory};
 
 /// An attribute of the short form, and one of the long form.
 const OCTETS: [u8; 12] = [0x80, 1, 0, 1, 0, 4, 0, 4, 0, 1, 0x51, 0x80];
 
+const SHORT: Attribute = Attribute {
+    kind: 1,
+    value: AttrValue::Short { number: 1 },
+    next: 4,
+};
+
+const LONG: Attribute = Attribute {
+    kind: 4,
+    value: AttrValue::Long {
+        start: 8,
+        length: 4,
+    },
+    next: 12,
+};
+
 #[test]
-fn attributes_are_written(rt: HostRuntime) -> Result<(), Fail> {
-    let text = both(rt.alloc())?;
-    assert_eq!(rt; text.as_slice(), OCTETS.as_slice());
+fn attributes_are_written_and_read(rt: HostRuntime) -> Result<(), NoMemory> {
+    let mut text = List::new(rt.alloc());
+    write_short(1, 1, &mut text)?;
+    write_long(4, &[0, 1, 0x51, 0x80], &mut text)?;
+    let read = (read_attribute(&OCTETS, 0, 10) == Ok(SHORT))
+        & (read_attribute(&OCTETS, 4, 10) == Ok(LONG));
+    assert!(rt; read & (text.as_slice() == OCTETS.as_slice()));
     Ok(())
 }
 
-fn both(alloc: Global) -> Result<Octets, Fail> {
-    let mut text = List::new(alloc);
-    write_short(1, 1, &mut text)?;
-    write_long(4, &[0, 1, 0x51, 0x80], &mut text)?;
-    Ok(text)
-}
+/// Where the second of them is cut off, and where a field is missing then.
+const CUT: [(usize, u32); 6] = [(4, 14), (5, 14), (6, 16), (7, 16), (8, 18), (11, 18)];
 
-#[test]
-fn attributes_are_read(rt: HostRuntime) {
-    let (start, length) = (8, 4);
-    assert_eq!(rt; read_from(0), Ok((1, AttrValue::Short { number: 1 }, 4)));
-    assert_eq!(rt;
-        read_from(4),
-        Ok((4, AttrValue::Long { start, length }, 12))
-    );
-}
-
-/// The kind and the value of the attribute at a place, and the place after it.
-fn read_from(at: usize) -> Result<(u16, AttrValue, usize), WireFault> {
-    read_attribute(&OCTETS, at.min(12), 10).map(|read| (read.kind, read.value, read.next))
-}
-
-/// The second of them, cut off at each length.
 #[test]
 fn an_attribute_that_is_cut_off_is_short(rt: HostRuntime) {
-    let what = WireWhat::Short;
-    for (end, at) in [(4, 14), (5, 14), (6, 16), (7, 16), (8, 18), (11, 18)] {
-        assert_eq!(rt; told_of_front(end), Some(WireFault { what, at }));
-    }
+    assert!(rt; CUT.iter().all(|(end, at)| is_short(*end, *at)));
 }
 
-fn told_of_front(end: usize) -> Option<WireFault> {
+fn is_short(end: usize, at: u32) -> bool {
     let (front, _) = OCTETS.split_at(end.max(4).min(12));
-    read_attribute(front, 4, 10).err()
+    let what = WireWhat::Short;
+    read_attribute(front, 4, 10) == Err(WireFault { what, at })
 }
 
-/// The place that is changed, what it gets, and what is read, or told, of the attribute.
+/// The place that is changed, what it gets, and the kind and the next place that are read then, or else the place of the fault.
 type Changed = (usize, u8, Result<(u16, usize), u32>);
 
-const SHORT: [Changed; 5] = [
+const SHORT_CHANGED: [Changed; 5] = [
     (0, 0x00, Err(14)),
     (0, 0x81, Ok((0x0101, 4))),
     (1, 0x02, Ok((2, 4))),
@@ -61,7 +58,7 @@ const SHORT: [Changed; 5] = [
     (3, 0x00, Ok((1, 4))),
 ];
 
-const LONG: [Changed; 9] = [
+const LONG_CHANGED: [Changed; 9] = [
     (0, 0x80, Ok((4, 4))),
     (0, 0x01, Ok((0x0104, 8))),
     (1, 0x05, Ok((5, 8))),
@@ -74,38 +71,25 @@ const LONG: [Changed; 9] = [
 ];
 
 #[test]
-fn each_octet_of_a_short_attribute_is_looked_at(rt: HostRuntime) {
-    for (at, octet, answer) in SHORT {
-        assert_eq!(rt;
-            changed_attribute([0x80, 1, 0, 1, 0, 0, 0, 0], 4, at, octet),
-            answer
-        );
-    }
+fn each_octet_of_an_attribute_is_looked_at(rt: HostRuntime) {
+    let (short, long) = OCTETS.split_at(4);
+    let short = SHORT_CHANGED.iter().all(|row| is_read_changed(short, row));
+    let long = LONG_CHANGED.iter().all(|row| is_read_changed(long, row));
+    assert!(rt; short & long);
 }
 
-#[test]
-fn each_octet_of_a_long_attribute_is_looked_at(rt: HostRuntime) {
-    for (at, octet, answer) in LONG {
-        assert_eq!(rt;
-            changed_attribute([0, 4, 0, 4, 0, 1, 0x51, 0x80], 8, at, octet),
-            answer
-        );
+fn is_read_changed(octets: &[u8], row: &Changed) -> bool
+    requires { length octets.now ≤ 8 }
+{
+    let (at, octet, answer) = row;
+    let mut text = [0; 8];
+    text[..octets.len()].copy_from_slice(octets);
+    if let Some(place) = text.get_mut(*at) {
+        *place = *octet;
     }
-}
-
-/// The kind that is read of an attribute with one octet changed, and the place after it; or else the place of its fault.
-fn changed_attribute(
-    mut text: [u8; 8],
-    size: usize,
-    at: usize,
-    octet: u8,
-) -> Result<(u16, usize), u32> {
-    if let Some(place) = text.get_mut(at) {
-        *place = octet;
-    }
-    let (text, _) = text.split_at(size.min(8));
-    match read_attribute(text, 0, 10) {
+    let read = match read_attribute(&text[..octets.len()], 0, 10) {
         Ok(read) => Ok((read.kind, read.next)),
         Err(fault) => Err(fault.at),
-    }
+    };
+    read == *answer
 }

@@ -1,8 +1,7 @@
 //! Headers of datagrams, and what is told of those with a fault.
 use gd_wire::{Header, WireFault, WireWhat, read_header, write_header};
-use group_terms::List;
+use group_terms::NoMemory;
 use std::alloc::Global;
-use std::test::Fail;
 
 const PUSH: Header = Header {
     cookies: [7; 16],
@@ -12,29 +11,22 @@ const PUSH: Header = Header {
     length: 44,
 };
 
-/// A header and 16 octets.
-fn push() -> [u8; 44] {
-    let mut datagram = [0; 44];
-    datagram[..28].copy_from_slice(&write_header(&PUSH));
-    datagram
-}
-
-fn told(what: WireWhat, at: u32) -> Option<WireFault> {
-    Some(WireFault { what, at })
-}
-
-/// What is told of the first octets of a push.
-fn told_of_front(end: usize) -> Option<WireFault> {
-    let datagram = push();
-    let (front, _) = datagram.split_at(end.min(44));
-    read_header(front, 33).err()
-}
+/// Its octets, and 16 octets after them.
+const TEXT: [u8; 44] = [
+    7, 7, 7, 7, 7, 7, 7, 7, 7, 7, 7, 7, 7, 7, 7, 7, 8, 0x10, 33, 1, 0, 0, 0, 0, 0, 0, 0, 44, 0, 0,
+    0, 0, 0, 0, 0, 0, 0, 0, 0, 0, 0, 0, 0, 0,
+];
 
 #[test]
-fn a_header_is_read(rt: HostRuntime) {
-    assert_eq!(rt; read_header(&push(), 33), Ok(PUSH));
-    assert_eq!(rt; told_of_front(27), told(WireWhat::Short, 27));
-    assert_eq!(rt; told_of_front(28), told(WireWhat::Length, 24));
+fn a_header_is_written_and_read(rt: HostRuntime) {
+    let written = write_header(&PUSH).as_slice() == &TEXT[..28];
+    let short = (0..28).all(|end| is_told(&TEXT[..end], WireWhat::Short, end as u32));
+    let long = is_told(&TEXT[..28], WireWhat::Length, 24);
+    assert!(rt; written & short & long & (read_header(&TEXT, 33) == Ok(PUSH)));
+}
+
+fn is_told(datagram: &[u8], what: WireWhat, at: u32) -> bool {
+    read_header(datagram, 33) == Err(WireFault { what, at })
 }
 
 /// Faults of a header: the place that is changed, what it gets, and what is told.
@@ -46,100 +38,49 @@ const FAULTS: [(u32, u8, WireWhat); 5] = [
     (24, 0x01, WireWhat::Length),
 ];
 
-/// Where two places are changed the first counts.
+/// Where the last octet of the length is changed too the first fault counts.
 #[test]
 fn headers_are_read_up_to_their_first_fault(rt: HostRuntime) {
-    for (at, octet, what) in FAULTS {
-        assert_eq!(rt; told_alone_and_with_another(at, octet), [told(what, at); 2]);
+    assert!(rt; FAULTS.iter().all(|row| is_first(row)));
+}
+
+fn is_first((at, octet, what): &(u32, u8, WireWhat)) -> bool {
+    let mut text = TEXT;
+    if let Some(place) = text.get_mut(*at as usize) {
+        *place = *octet;
     }
+    let alone = is_told(&text, *what, *at);
+    text[27] = 45;
+    alone & is_told(&text, *what, *at)
 }
 
-/// What is told of a push with one octet changed, and with the last octet of its length changed too.
-fn told_alone_and_with_another(at: u32, octet: u8) -> [Option<WireFault>; 2] {
-    let alone = with_octet(push(), at as usize, octet);
-    let both = with_octet(alone, 27, 45);
-    [read_header(&alone, 33).err(), read_header(&both, 33).err()]
-}
-
-fn with_octet(mut datagram: [u8; 44], at: usize, octet: u8) -> [u8; 44] {
-    if let Some(place) = datagram.get_mut(at) {
-        *place = octet;
-    }
-    datagram
-}
-
-#[test]
-fn a_header_that_is_cut_off_is_short(rt: HostRuntime) {
-    for end in 0..28 {
-        assert_eq!(rt; told_of_front(end), told(WireWhat::Short, end as u32));
-    }
-}
-
-/// The first and the last of the octets of which the same is told.
-const OCTETS: [(usize, usize, Option<WireFault>); 7] = [
+/// The first and the last of the octets of which the same is told, and at which place.
+const OCTETS: [(usize, usize, Option<(WireWhat, u32)>); 7] = [
     (0, 16, None),
-    (
-        17,
-        17,
-        Some(WireFault {
-            what: WireWhat::Version,
-            at: 17,
-        }),
-    ),
-    (
-        18,
-        18,
-        Some(WireFault {
-            what: WireWhat::Kind { number: 32 },
-            at: 18,
-        }),
-    ),
-    (
-        19,
-        19,
-        Some(WireFault {
-            what: WireWhat::Value,
-            at: 19,
-        }),
-    ),
-    (
-        20,
-        23,
-        Some(WireFault {
-            what: WireWhat::Value,
-            at: 20,
-        }),
-    ),
-    (
-        24,
-        27,
-        Some(WireFault {
-            what: WireWhat::Length,
-            at: 24,
-        }),
-    ),
+    (17, 17, Some((WireWhat::Version, 17))),
+    (18, 18, Some((WireWhat::Kind { number: 32 }, 18))),
+    (19, 19, Some((WireWhat::Value, 19))),
+    (20, 23, Some((WireWhat::Value, 20))),
+    (24, 27, Some((WireWhat::Length, 24))),
     (28, 43, None),
 ];
 
 /// A header with the lowest bit of each of its octets changed in turn.
 #[test]
 fn each_octet_of_a_header_is_looked_at(rt: HostRuntime) {
-    for (first, last, fault) in OCTETS {
-        assert!(rt; are_told(first, last, fault), "{first}");
-    }
-}
-
-fn are_told(first: usize, last: usize, fault: Option<WireFault>) -> bool {
-    (first..=last).all(|at| changed_header(at) == fault)
+    let holds = OCTETS.iter().all(|(first, last, told)| (*first..=*last).all(|at| told_changed(at)
+        == *told));
+    assert!(rt; holds);
 }
 
 /// What is told of a push with the lowest bit of one octet changed.
-fn changed_header(at: usize) -> Option<WireFault> {
-    let mut datagram = push();
-    if let Some(octet) = datagram.get_mut(at) {
+fn told_changed(at: usize) -> Option<(WireWhat, u32)> {
+    let mut text = TEXT;
+    if let Some(octet) = text.get_mut(at) {
         *octet ^= 1;
     }
-    read_header(&datagram, 33).err()
+    let WireFault { what, at } = read_header(&text, 33).err()?;
+    Some((what, at))
 }
 
 const LONG: Header = Header {
@@ -147,27 +88,36 @@ const LONG: Header = Header {
     ..PUSH
 };
 
+/// The number of octets, and what is read of them.
+const SIZES: [(usize, Result<Header, WireFault>); 3] = [
+    (65_500, Ok(LONG)),
+    (
+        65_507,
+        Err(WireFault {
+            what: WireWhat::Length,
+            at: 24,
+        }),
+    ),
+    (
+        65_508,
+        Err(WireFault {
+            what: WireWhat::Length,
+            at: 65_507,
+        }),
+    ),
+];
+
 /// A datagram has at most 65,507 octets.
 #[test]
-fn datagrams_are_as_long_as_udp_holds(rt: HostRuntime) -> Result<(), Fail> {
-    let table = [
-        (65_500, None),
-        (65_507, told(WireWhat::Length, 24)),
-        (65_508, told(WireWhat::Length, 65_507)),
-    ];
-    for (octets, fault) in table {
-        assert_eq!(rt; told_of_long(rt.alloc(), octets)?, fault);
-    }
-    Ok(())
+fn datagrams_are_as_long_as_udp_holds(rt: HostRuntime) {
+    assert!(rt; SIZES.iter().all(|(size, answer)| read_long(rt.alloc(), *size) == Ok(*answer)));
 }
 
-/// What is told of a datagram of so many octets, whose header says 65,500. If it is read, its header is as it was written.
-fn told_of_long(alloc: Global, octets: usize) -> Result<Option<WireFault>, Fail> {
-    let mut datagram = List::copy_of(alloc, &write_header(&LONG))?;
-    datagram.extend(&vec![in alloc; 0; octets.saturating_sub(28)]?)?;
-    match read_header(datagram.as_slice(), 33) {
-        Ok(header) if header != LONG => Err("another header".into()),
-        Ok(_) => Ok(None),
-        Err(fault) => Ok(Some(fault)),
+/// What is read of a datagram of so many octets, whose header says 65,500.
+fn read_long(alloc: Global, size: usize) -> Result<Result<Header, WireFault>, NoMemory> {
+    let mut datagram = vec![in alloc; 0; size]?;
+    if let Some(head) = datagram.as_mut_slice().first_chunk_mut() {
+        *head = write_header(&LONG);
     }
+    Ok(read_header(datagram.as_slice(), 33))
 }

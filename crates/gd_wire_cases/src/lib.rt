@@ -1,4 +1,4 @@
-//! Tests of the framing: headers, attributes, chains of payloads, and their bodies.
+//! Tests of the framing, of headers, attributes, chains of payloads and their bodies, and of the policies in the SA payload.
 #![tactic(auto)]
 
 #[cfg(test)]
@@ -10,4 +10,8 @@ mod chains;
 #[cfg(test)]
 mod headers;
 #[cfg(test)]
+mod octets;
+#[cfg(test)]
 mod payloads;
+#[cfg(test)]
+mod policies;

@@ -1,9 +1,9 @@
-//! Tests of the tree at the present epoch, and of histories.
+//! Tests of the tree at the present epoch, and of histories, on small groups with known keys.
 #![tactic(auto)]
 
 #[cfg(test)]
 mod histories;
 #[cfg(test)]
-mod texts;
+mod keys;
 #[cfg(test)]
 mod trees;

@@ -1,225 +1,216 @@
+//! What a tree says of its steps, and what it is after each of them.
 ghost use Rattle.std.specs.Prelude.{◌+◌, ◌^◌, ◌<◌};
 ghost use Rattle.group_model.specs.Steps.{IsReady};
 
-use crate::texts::{batch_of, named, push_keys, push_number, push_wraps};
-use group_model::{List, LkhId, PresentTree, TreeStep, Wrap};
+use crate::keys::{Epoch, are_keys, are_wraps, batch_of, epoch_of, named};
+use group_model::{LkhId, NoMemory, PresentTree, TreeStep};
 use std::alloc::Global;
-use std::process::Abort;
-use std::test::Fail;
 
-/// Who goes out and who comes in with a batch.
-type Changes = [&'static str; 2];
+/// A step, with the tree after it.
+struct Step {
+    /// Who goes out, and who comes in.
+    batch: [&'static str; 2],
+    /// The positions for whose keys values are drawn; `None` where the step would be past the limit.
+    drawn: Option<&'static [u16]>,
+    sequence: u32,
+    tree: Epoch,
+}
+
+/// The first step, in which `a`, `b` and `c` come in.
+const FIRST: Step = Step {
+    batch: ["", "abc"],
+    drawn: Some(&[1, 2, 3, 4, 5, 6]),
+    sequence: 0,
+    tree: Epoch {
+        epoch: 1,
+        members: 3,
+        leaves: [4, 5, 6, 0],
+        made: [1, 1, 1, 1, 1, 1, 0, 0],
+        wraps: &[],
+    },
+};
+
+/// With a limit of 3 the third step would be past it, and leaves the tree as it is.
+const STEPS: [Step; 3] = [
+    FIRST,
+    Step {
+        batch: ["b", ""],
+        drawn: Some(&[1, 2]),
+        sequence: 2,
+        tree: Epoch {
+            epoch: 2,
+            members: 2,
+            leaves: [4, 0, 6, 0],
+            made: [2, 2, 1, 1, 2, 1, 0, 0],
+            wraps: &[
+                [(4, 1), (2, 2)],
+                [(2, 2), (1, 2)],
+                [(3, 1), (1, 2)],
+                [(1, 2), (0, 2)],
+            ],
+        },
+    },
+    Step {
+        batch: ["", ""],
+        drawn: None,
+        sequence: 2,
+        tree: Epoch {
+            epoch: 2,
+            members: 2,
+            leaves: [4, 0, 6, 0],
+            made: [2, 2, 1, 1, 2, 1, 0, 0],
+            wraps: &[],
+        },
+    },
+];
 
 /// A tree goes on by steps, each of which says for which keys values are drawn and what is encrypted, and none goes past a limit.
 #[test]
-fn steps_make_what_their_batch_makes(rt: HostRuntime) -> Result<(), Fail> {
-    let mut text = String::new(rt.alloc());
-    push_steps(
-        &rt,
-        rt.alloc(),
-        [["", "abc"], ["b", ""], ["", ""]],
-        &mut text,
-    )?;
-    assert_eq!(rt;
-        text.as_str(),
-        "1 sequence 0 drawn 1 2 3 4 5 6 wraps\n\
-         epoch 1 sequence 0 members 3 of 4 at 4 5 6 - last 1 1 1 1 1 1 - -\n\
-         2 sequence 2 drawn 1 2 wraps 4.1 2.2, 2.2 1.2, 3.1 1.2, 1.2 traffic.2,\n\
-         epoch 2 sequence 2 members 2 of 4 at 4 - 6 - last 2 2 1 1 2 1 - -\n\
-         past the limit\n\
-         epoch 2 sequence 2 members 2 of 4 at 4 - 6 - last 2 2 1 1 2 1 - -\n"
-    );
-    Ok(())
+fn steps_make_what_their_batch_makes(rt: HostRuntime) {
+    assert!(rt; are_steps(rt.alloc()) == Ok(true));
 }
 
-/// One comes in where another goes out: before the step is taken it is known how many members there are then, which leaf who comes in has, and when each
-/// of the positions 1 to 7 is changed last.
-#[test]
-fn steps_say_what_comes_of_them(rt: HostRuntime) -> Result<(), Fail> {
-    let alloc = rt.alloc();
+fn are_steps(alloc: Global) -> Result<bool, NoMemory> {
     let mut tree = PresentTree::new(alloc, 2)?;
-    go_on(&rt, alloc, &mut tree, ["", "abc"])?;
-    let mut text = String::new(alloc);
-    push_what_comes(&rt, alloc, &tree, ["b", "d"], &mut text)?;
-    assert_eq!(rt; text.as_str(), "members 3 joined 5 last 2 2 1 1 2 1 -");
-    Ok(())
-}
-
-#[test]
-fn members_have_their_place_and_path(rt: HostRuntime) -> Result<(), Fail> {
-    let alloc = rt.alloc();
-    let mut tree = PresentTree::new(alloc, 2)?;
-    go_on(&rt, alloc, &mut tree, ["", "abc"])?;
-    assert_eq!(rt; tree.depth(), 2);
-    look_at_members(&rt, &tree)?;
-    let mut text = String::new(alloc);
-    push_keys(&mut text, &tree.path(alloc, &named(b'c')?)?)?;
-    assert_eq!(rt; text.as_str(), " 6.1 3.1 1.1");
-    Ok(())
-}
-
-/// c is a member and has leaf 6, and d is none.
-fn look_at_members(rt: &impl Abort, tree: &PresentTree) -> Result<(), Fail> {
-    assert_eq!(rt;
-        (tree.is_member(&named(b'c')?), tree.is_member(&named(b'd')?)),
-        (true, false)
-    );
-    assert_eq!(rt; tree.member_at(position(6)?), Some(named(b'c')?));
-    assert_eq!(rt; tree.member_at(position(7)?), None);
-    Ok(())
-}
-
-/// Takes the step of a batch of those who go out and those who come in.
-fn go_on(
-    rt: &impl Abort,
-    alloc: Global,
-    tree: &mut PresentTree,
-    [outs, ins]: Changes,
-) -> Result<(), Fail> {
-    let batch = batch_of(rt, outs, ins)?;
-    assert!(rt; tree.fits(&batch));
-    let step = tree.step(alloc, &batch, 3)?.ok_or("a step")?;
-    tree.advance(step);
-    Ok(())
-}
-
-/// Takes the steps of batches one after another, and says of each what it is and which tree it leaves.
-fn push_steps(
-    rt: &impl Abort,
-    alloc: Global,
-    batches: [Changes; 3],
-    text: &mut String,
-) -> Result<(), Fail> {
-    let mut tree = PresentTree::new(alloc, 2)?;
-    for changes in batches {
-        push_step(rt, alloc, &mut tree, changes, text)?;
-        push_tree(&tree, text)?;
+    let mut holds = true;
+    for step in &STEPS {
+        holds &= is_taken(alloc, &mut tree, step) & is_tree(&tree, step);
     }
-    Ok(())
+    Ok(holds)
 }
 
-/// Takes the step of a batch, with a limit of 3, and says in a line what it is.
-fn push_step(
-    rt: &impl Abort,
-    alloc: Global,
-    tree: &mut PresentTree,
-    [outs, ins]: Changes,
-    text: &mut String,
-) -> Result<(), Fail> {
-    let batch = batch_of(rt, outs, ins)?;
-    assert!(rt; tree.fits(&batch));
-    let Some(step) = tree.step(alloc, &batch, 3)? else {
-        text.push_str("past the limit\n")?;
-        return Ok(());
+/// A tree says who has which leaf and which keys. Before a step is taken it says what comes of it.
+#[test]
+fn trees_say_who_is_there_and_what_comes(rt: HostRuntime) {
+    assert!(rt; is_tree_of_three(rt.alloc()) == Ok(true));
+}
+
+fn is_tree_of_three(alloc: Global) -> Result<bool, NoMemory> {
+    let mut tree = PresentTree::new(alloc, 2)?;
+    Ok(is_taken(alloc, &mut tree, &FIRST) & has_members(alloc, &tree) & is_foreseen(alloc, &tree))
+}
+
+/// `c` is a member and has leaf 6, and `d` is none.
+fn has_members(alloc: Global, tree: &PresentTree) -> bool {
+    let (Some(c), Some(d)) = (named(b'c'), named(b'd')) else {
+        return false;
     };
-    push_drawn(&step, text)?;
-    push_encrypted(&tree.wraps(alloc, &step)?, text)?;
-    tree.advance(step);
-    Ok(())
+    let (Some(leaf), Some(free)) = (LkhId::new(6), LkhId::new(7)) else {
+        return false;
+    };
+    let Ok(path) = tree.path(alloc, &c) else {
+        return false;
+    };
+    (tree.depth() == 2)
+        & tree.is_member(&c)
+        & !tree.is_member(&d)
+        & (tree.member_at(leaf) == Some(c))
+        & tree.member_at(free).is_none()
+        & are_keys(path.as_slice(), &[(6, 1), (3, 1), (1, 1)])
 }
 
-/// The epoch and the number of a step, and the keys for which it draws values.
-fn push_drawn(step: &TreeStep, text: &mut String) -> Result<(), Fail> {
-    write!(text, "{} sequence {} drawn", step.epoch(), step.sequence())?;
-    push_positions(step.drawn(), text)
+/// `d` comes in where `b` goes out: before the step is taken it is known how many members there are then, which leaf `d` has, and when each of the
+/// positions 1 to 7 is changed last.
+fn is_foreseen(alloc: Global, tree: &PresentTree) -> bool {
+    let Some(batch) = batch_of("b", "d") else {
+        return false;
+    };
+    if !tree.fits(&batch) {
+        return false;
+    }
+    let Ok(Some(step)) = tree.step(alloc, &batch, 3) else {
+        return false;
+    };
+    (tree.members_after(&step) == 3)
+        & are_positions(step.joined(), &[5])
+        & is_made_after(tree, &step, &[2, 2, 1, 1, 2, 1, 0])
 }
 
-/// What comes of the step of a batch of those who go out and those who come in.
-fn push_what_comes(
-    rt: &impl Abort,
-    alloc: Global,
-    tree: &PresentTree,
-    [outs, ins]: Changes,
-    text: &mut String,
-) -> Result<(), Fail> {
-    let batch = batch_of(rt, outs, ins)?;
-    assert!(rt; tree.fits(&batch));
-    let step = tree.step(alloc, &batch, 3)?.ok_or("a step")?;
-    push_members(tree, &step, text)?;
-    push_changes_after(rt, tree, &step, text)
-}
-
-/// How many members there are after a step, and the leaves of those who come in with it.
-fn push_members(tree: &PresentTree, step: &TreeStep, text: &mut String) -> Result<(), Fail>
+/// Whether these are the epochs at which the positions 1 to 7 get their last keys, once a step is taken.
+fn is_made_after(tree: &PresentTree, step: &TreeStep, want: &[u32; 7]) -> bool
     requires { IsReady tree.now step.now }
 {
-    write!(text, "members {} joined", tree.members_after(step))?;
-    push_positions(step.joined(), text)
+    let mut same = true;
+    for (number, made) in (1..8).zip(want) {
+        match LkhId::new(number) {
+            Some(id) if usize::from(number) < 2 * tree.leaves() => {
+                same &= tree.last_after(step, id) == epoch_of(*made);
+            }
+            _ => same = false,
+        }
+    }
+    same
 }
 
-/// When each of the positions 1 to 7 was changed last, once a step is taken.
-fn push_changes_after(
-    rt: &impl Abort,
-    tree: &PresentTree,
-    step: &TreeStep,
-    text: &mut String,
-) -> Result<(), Fail>
+/// Takes the step of a batch, with a limit of 3. Whether it is this one.
+fn is_taken(alloc: Global, tree: &mut PresentTree, want: &Step) -> bool {
+    let [outs, ins] = want.batch;
+    let Some(batch) = batch_of(outs, ins) else {
+        return false;
+    };
+    if !tree.fits(&batch) {
+        return false;
+    }
+    match tree.step(alloc, &batch, 3) {
+        Ok(Some(step)) => {
+            let same = is_step(alloc, tree, &step, want);
+            tree.advance(step);
+            same
+        }
+        Ok(None) => want.drawn.is_none(),
+        Err(NoMemory) => false,
+    }
+}
+
+/// Whether this is the epoch and the number of a step, and whether it draws these values and encrypts these keys.
+fn is_step(alloc: Global, tree: &PresentTree, step: &TreeStep, want: &Step) -> bool
     requires { IsReady tree.now step.now }
 {
-    text.push_str(" last")?;
-    for number in 1..8 {
-        let id = position(number)?;
-        assert!(rt; usize::from(id.number()) < 2 * tree.leaves());
-        push_number(text, tree.last_after(step, id))?;
+    let (Some(drawn), Ok(wraps)) = (want.drawn, tree.wraps(alloc, step)) else {
+        return false;
+    };
+    (step.epoch() == want.tree.epoch)
+        & (step.sequence() == want.sequence)
+        & are_positions(step.drawn(), drawn)
+        & are_wraps(wraps.as_slice(), want.tree.wraps)
+}
+
+fn are_positions(ids: &[LkhId], want: &[u16]) -> bool {
+    let mut same = ids.len() == want.len();
+    for (id, number) in ids.iter().zip(want) {
+        same &= id.number() == *number;
     }
-    Ok(())
+    same
 }
 
-/// What is encrypted, at the end of a line.
-fn push_encrypted(wraps: &List<Wrap>, text: &mut String) -> Result<(), Fail> {
-    text.push_str(" wraps")?;
-    push_wraps(text, wraps)?;
-    text.push_str("\n")?;
-    Ok(())
+/// Whether the tree is that of the epoch after a step.
+fn is_tree(tree: &PresentTree, want: &Step) -> bool {
+    (tree.epoch() == want.tree.epoch)
+        & (tree.sequence() == want.sequence)
+        & (tree.members() == want.tree.members)
+        & (tree.leaves() == 4)
+        & has_leaves(tree, &want.tree.leaves)
+        & is_made(tree, &want.tree.made)
 }
 
-fn push_positions(ids: &[LkhId], text: &mut String) -> Result<(), Fail> {
-    for id in ids {
-        push_number(text, Some(u32::from(id.number())))?;
+fn has_leaves(tree: &PresentTree, want: &[u16; 4]) -> bool {
+    let mut same = true;
+    for (letter, leaf) in b"abcd".iter().zip(want) {
+        match named(*letter) {
+            Some(member) => same &= tree.place(&member) == LkhId::new(*leaf),
+            None => same = false,
+        }
     }
-    Ok(())
+    same
 }
 
-/// The tree in one line: which leaves a to d have, and when each of the positions 1 to 8 was changed last.
-fn push_tree(tree: &PresentTree, text: &mut String) -> Result<(), Fail> {
-    push_counts(tree, text)?;
-    push_places(tree, text)?;
-    push_changes(tree, text)
-}
-
-fn push_counts(tree: &PresentTree, text: &mut String) -> Result<(), Fail> {
-    write!(text, "epoch {} sequence {}", tree.epoch(), tree.sequence())?;
-    write!(text, " members {} of {}", tree.members(), tree.leaves())?;
-    Ok(())
-}
-
-fn push_places(tree: &PresentTree, text: &mut String) -> Result<(), Fail> {
-    text.push_str(" at")?;
-    for letter in b"abcd" {
-        push_number(text, leaf_of(tree, *letter)?)?;
+fn is_made(tree: &PresentTree, want: &[u32; 8]) -> bool {
+    let mut same = true;
+    for (number, made) in (1..9).zip(want) {
+        match LkhId::new(number) {
+            Some(id) => same &= tree.last(id) == epoch_of(*made),
+            None => same = false,
+        }
     }
-    Ok(())
-}
-
-/// The leaf that a member has.
-fn leaf_of(tree: &PresentTree, letter: u8) -> Result<Option<u32>, Fail> {
-    let member = named(letter)?;
-    match tree.place(&member) {
-        Some(leaf) => Ok(Some(u32::from(leaf.number()))),
-        None => Ok(None),
-    }
-}
-
-fn push_changes(tree: &PresentTree, text: &mut String) -> Result<(), Fail> {
-    text.push_str(" last")?;
-    for number in 1..9 {
-        let id = position(number)?;
-        push_number(text, tree.last(id))?;
-    }
-    text.push_str("\n")?;
-    Ok(())
-}
-
-fn position(number: u16) -> Result<LkhId, Fail> {
-    Ok(LkhId::new(number).ok_or("a position")?)
+    same
 }

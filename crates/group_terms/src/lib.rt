@@ -40,7 +40,5 @@ mod positions;
 mod pushes;
 mod schedules;
 mod signatures;
-#[cfg(test)]
-mod tests;
 mod values;
 mod wires;

@@ -1,112 +1,66 @@
-//! Asks what journals images are: each line of standard input has `journal` and the octets of a file in hexadecimal (`-` for none). For each a
-//! line has the sizes of the records, or the place at which the file is no journal; and what the group is after its batches, or the place at which
-//! the file is no group's journal.
+//! Asks what journals are. Each line of standard input asks for one thing, and is answered by a line. An image is the octets of a file, in hexadecimal (`-`
+//! for none): the answer has the sizes of the records, or the place at which the file is no journal; and what the group is after its batches, or the place at
+//! which the file is no group's journal.
 //!
 //! ```text
 //! journal OCTETS
+//! append PATH COUNT
+//! make PATH COUNT
+//! open PATH
 //! ```
+//!
+//! The others work on the file at a path, many times over, so that the time of it can be taken from outside. `append` makes an empty journal of the file,
+//! whatever that held, and appends so many records with bodies of 300 octets. `make` makes the store of a group with so many batches in a tree of 512
+//! leaves, and `open` reads all batches of a store. A batch that is made has four changes. Members come in until there are 500. From then on four go out
+//! and four others come in, in turn.
 #![tactic(auto)]
 
-ghost use Rattle.std.specs.Prelude.{◌≡◌, ◌≤◌, ◌^◌, length, IfOk};
-
-use gd_disk::MemDisk;
-use group_terms::{List, Octets};
-use std::alloc::Global;
+use case_lines::{Cases, Text, answer_all, number};
+use images::journal;
+use makings::make;
+use records::append;
 use std::io;
-use std::io::{BufRead, BufReader, ErrorKind};
-use tree_journal::{Journal, JournalRefusal};
-use tree_store::TreeStore;
+use stores::open;
 
-/// No disk has more octets.
-const FARTHEST: usize = 1 << 62;
+mod images;
+mod makings;
+mod records;
+mod stores;
+mod values;
 
 fn main(rt: HostRuntime) -> io::Result<()> {
-    let input = BufReader::new(rt.alloc(), rt.reader())?;
-    for line in input.lines(rt.alloc()) {
-        let line = line?;
-        let answer = answer(rt.alloc(), line.as_str())?;
-        println!(rt; "{answer}")?;
-    }
-    Ok(())
+    answer_all(&rt, &mut Journals)
 }
 
-/// The answer to a line.
-fn answer(alloc: Global, line: &str) -> io::Result<String> {
-    let words = line.split_whitespace().collect::<Vec<_>>(alloc)?;
-    let ["journal", octets] = words.as_slice() else {
-        return Err(ErrorKind::InvalidInput.into());
-    };
-    let mut image = Octets::new(alloc);
-    if *octets != "-" {
-        let octets = hex::decode(alloc, octets).map_err(|_| ErrorKind::InvalidInput)?;
-        image
-            .extend(octets.as_slice())
-            .map_err(|_| ErrorKind::OutOfMemory)?;
-    }
-    if image.len() > FARTHEST {
-        return Err(ErrorKind::FileTooLarge.into());
-    }
-    let journal = journal_answer(alloc, copied(alloc, &image)?)?;
-    let group = group_answer(alloc, image)?;
-    Ok(format!(in alloc; "{journal} = {group}")?)
-}
+/// No line depends on those before it.
+#[derive(Drop)]
+struct Journals;
 
-fn copied(alloc: Global, image: &Octets) -> io::Result<Octets>
-    ensures { IfOk result (λ copy. copy ≡ image.now) }
-{
-    match List::copy_of(alloc, image.as_slice()) {
-        Ok(copy) => Ok(copy),
-        Err(_) => Err(ErrorKind::OutOfMemory.into()),
-    }
-}
-
-/// The sizes of the records, or the place where a file is no journal.
-fn journal_answer(alloc: Global, image: Octets) -> io::Result<String>
-    requires { length image ≤ 2 ^ 62 }
-{
-    let mut sizes = List::new(alloc);
-    match read(alloc, MemDisk::holding(alloc, image), &mut sizes) {
-        Ok(()) => {
-            let mut text = format!(in alloc; "records")?;
-            for size in sizes.as_slice() {
-                text.push_str(&format!(in alloc; " {size}")?)?;
-            }
-            Ok(text)
+impl Cases for Journals {
+    fn answer(&mut self, rt: &HostRuntime, words: &[&str], text: &mut Text) -> Option<()> {
+        let (word, rest) = words.split_first()?;
+        match rest {
+            [only] => with_one(rt, word, only, text),
+            [path, count] => with_count(rt, word, path, number(count)?, text),
+            _ => None,
         }
-        Err(JournalRefusal::NotAJournal { at }) => Ok(format!(in alloc; "not-a-journal {at}")?),
-        Err(_) => Err(ErrorKind::OutOfMemory.into()),
     }
 }
 
-/// The depth of the group, and the epoch and the sequence number after its last batch; or the place where a file is no group's journal.
-fn group_answer(alloc: Global, image: Octets) -> io::Result<String>
-    requires { length image ≤ 2 ^ 62 }
-{
-    match read_group(alloc, MemDisk::holding(alloc, image)) {
-        Ok((depth, epoch, sequence)) => {
-            Ok(format!(in alloc; "group depth {depth} epoch {epoch} sequence {sequence}")?)
-        }
-        Err(JournalRefusal::NotAJournal { at }) => Ok(format!(in alloc; "not-a-journal {at}")?),
-        Err(_) => Err(ErrorKind::OutOfMemory.into()),
+/// What a word asks of an image or a path.
+fn with_one(rt: &HostRuntime, word: &str, only: &str, text: &mut Text) -> Option<()> {
+    match word {
+        "journal" => journal(rt.alloc(), only, text),
+        "open" => open(rt, only, text),
+        _ => None,
     }
 }
 
-/// Reads all batches of a group: its depth, and the epoch and the sequence number after the last one.
-fn read_group(alloc: Global, disk: MemDisk) -> Result<(u8, u32, u32), JournalRefusal> {
-    let mut store = TreeStore::open(alloc, disk).map_err(|refused| refused.why)?;
-    let mut last = (store.head().depth, 0, 0);
-    while let Some(stored) = store.next_batch(alloc)? {
-        last = (last.0, stored.epoch, stored.sequence);
+/// What a word asks for that is done so often.
+fn with_count(rt: &HostRuntime, word: &str, path: &str, count: u32, text: &mut Text) -> Option<()> {
+    match word {
+        "append" => append(rt, path, count, text),
+        "make" => make(rt, path, count),
+        _ => None,
     }
-    Ok(last)
-}
-
-/// Reads all records; their sizes.
-fn read(alloc: Global, disk: MemDisk, sizes: &mut List<usize>) -> Result<(), JournalRefusal> {
-    let mut journal = Journal::open(alloc, disk).map_err(|refused| refused.why)?;
-    let mut body = Octets::new(alloc);
-    while journal.read_next(alloc, &mut body)? {
-        sizes.push(body.len())?;
-    }
-    Ok(())
 }

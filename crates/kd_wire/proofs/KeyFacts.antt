@@ -4,7 +4,7 @@ use Rattle.std.proofs.Common.{◌≡◌, List, ℕ, [], ◌∷◌, ◌++◌, Som
 use Rattle.gd_wire.specs.Attributes.{long_text}
 use Rattle.kd_wire.specs.Arrays.{gives_root}
 use Rattle.kd_wire.specs.Keys.{has_handle, is_on_path}
-use Rattle.kd_wire.specs.Texts.{packet_head, traffic_text}
+use Rattle.kd_wire.specs.Texts.{packet_head, packet_text, traffic_text}
 
 handle_of_a_later_epoch : has_handle (Some 3) 4 ≡ false
 handle_of_a_later_epoch = refl
@@ -21,7 +21,7 @@ key_beside_its_path = refl
 size_of_a_packet : packet_head 1 (5 ∷ 6 ∷ 7 ∷ 8 ∷ []) 9 ≡ 1 ∷ 0 ∷ 0 ∷ 18 ∷ 4 ∷ 5 ∷ 6 ∷ 7 ∷ 8 ∷ []
 size_of_a_packet = refl
 
-traffic_keys_in_order : (cipher integrity : List ℕ) → traffic_text (record { cipher_key = cipher; integrity_key = integrity; spi = [] }) ≡ packet_head 1 [] _ ++ (long_text 1 cipher ++ long_text 2 integrity)
+traffic_keys_in_order : (cipher integrity : List ℕ) → traffic_text (record { cipher_key = cipher; integrity_key = integrity; spi = [] }) ≡ packet_text 1 [] (long_text 1 cipher ++ long_text 2 integrity)
 traffic_keys_in_order cipher integrity = refl
 
 no_array_gives_the_root : gives_root [] ≡ false

@@ -1,10 +1,9 @@
 //! Update arrays, and the keys that they give.
-use crate::keys::{decoded, id, path_key, updates_with};
-use crate::reads::{Wrong, append_key, append_words, fault, span_of};
-use group_terms::{List, Octets};
-use kd_wire::{LkhId, SealedKeys, UpdateKey, UpdateSpan, WireWhat, WrapJob, write_update};
+use crate::keys::{decoded, job, updates_with};
+use crate::reads::{Wrong, append_key, append_words, fault, read};
+use group_terms::{NoMemory, Octets};
+use kd_wire::{SealedKeys, UpdateSpan, WireWhat, write_update};
 use std::alloc::Global;
-use std::test::Fail;
 
 /// The body with two update arrays, of which openssl seals the keys so.
 const UPDATES: &str = "0001000003000095100910171e252c333a41484f565d646b72\
@@ -18,25 +17,18 @@ const SEALED: &str = "e8efcf39975a5ca65201b69242e9fd868de47b8c3e924036d2f0f959e9
 
 /// Two keys sealed as openssl seals them, and the body with them.
 #[test]
-fn keys_are_sealed(rt: HostRuntime) -> Result<(), Fail> {
-    let body = updates_with(rt.alloc(), &two_arrays(rt.alloc())?)?;
-    assert_eq!(rt; body.as_slice(), decoded(rt.alloc(), UPDATES)?.as_slice());
-    Ok(())
+fn keys_are_sealed(rt: HostRuntime) {
+    assert!(rt; is_sealed(rt.alloc()) == Some(true));
 }
 
-fn two_arrays(alloc: Global) -> Result<Octets, Fail> {
+fn is_sealed(alloc: Global) -> Option<bool> {
+    let text: [u8; 153] = decoded(UPDATES)?;
+    let (first, second) = (job((4, 1), (2, 2))?, job((2, 2), (1, 2))?);
     let mut arrays = Octets::new(alloc);
-    write_update(&job((4, 1), (2, 2))?, &mut arrays)?;
-    write_update(&job((2, 2), (1, 2))?, &mut arrays)?;
-    Ok(arrays)
-}
-
-/// Each key by its position and its epoch.
-fn job(by: (u16, u32), gives: (u16, u32)) -> Result<WrapJob, Fail> {
-    Ok(WrapJob {
-        by: path_key(by.0, by.1)?,
-        gives: path_key(gives.0, gives.1)?,
-    })
+    write_update(&first, &mut arrays).ok()?;
+    write_update(&second, &mut arrays).ok()?;
+    let body = updates_with(alloc, &arrays).ok()?;
+    Some(body.as_slice() == text.as_slice())
 }
 
 const SPAN: UpdateSpan = UpdateSpan {
@@ -45,141 +37,91 @@ const SPAN: UpdateSpan = UpdateSpan {
     arrays: 2,
 };
 
+/// A span has no arrays in a body out of which it leads.
 #[test]
-fn arrays_are_found(rt: HostRuntime) -> Result<(), Fail> {
-    assert_eq!(rt; span_of(&decoded(rt.alloc(), UPDATES)?)?, SPAN);
-    Ok(())
+fn arrays_are_found_and_walked(rt: HostRuntime) {
+    assert!(rt; arrays_hold() == Some(true));
 }
 
-/// The arrays of that body, one after the other.
-#[test]
-fn arrays_are_walked(rt: HostRuntime) -> Result<(), Fail> {
-    let body = decoded(rt.alloc(), UPDATES)?;
-    let named = named_in(rt.alloc(), &body, SPAN)?;
-    let due = [(id(4)?, 1), (id(2)?, 2)];
-    assert_eq!(rt; named.as_slice(), due.as_slice());
-    Ok(())
+fn arrays_hold() -> Option<bool> {
+    let text: [u8; 153] = decoded(UPDATES)?;
+    let found = read(&text).is_ok_and(|view| view.updates == Some(SPAN));
+    let further = UpdateSpan { end: 154, ..SPAN };
+    let stays = further.arrays(&text).next().is_none();
+    Some(found & stays & are_walked(&text)?)
 }
 
-/// The position and the epoch of the key that each array names.
-fn named_in(alloc: Global, body: &Octets, span: UpdateSpan) -> Result<List<(LkhId, u32)>, Fail> {
-    let mut named = List::new(alloc);
-    for array in span.arrays(body.as_slice()) {
-        named.push((array.by, array.by_made))?;
-    }
-    Ok(named)
+/// Whether the body has the two arrays, of which the second one gives one key.
+fn are_walked(text: &[u8]) -> Option<bool> {
+    let mut arrays = SPAN.arrays(text);
+    let first = arrays.next()?;
+    let second = arrays.next()?;
+    let named = (
+        first.by.number(),
+        first.by_made,
+        second.by.number(),
+        second.by_made,
+    );
+    let walked = (named == (4, 1, 2, 2)) & arrays.next().is_none();
+    Some(walked & gives_root(second.keys)?)
 }
 
-#[test]
-fn the_second_array_gives_one_key(rt: HostRuntime) -> Result<(), Fail> {
-    let body = decoded(rt.alloc(), UPDATES)?;
-    let key = UpdateKey {
-        id: id(1)?,
-        made: 2,
-        sealed: sealed(rt.alloc())?,
-    };
-    let given = given_by_second(rt.alloc(), &body)?;
-    assert_eq!(rt; given.as_slice(), [key].as_slice());
-    Ok(())
-}
-
-fn sealed(alloc: Global) -> Result<[u8; 32], Fail> {
-    let sealed = decoded(alloc, SEALED)?;
-    Ok(*sealed.as_slice().first_chunk().ok_or("32 octets")?)
-}
-
-/// The keys that the second array of a body gives.
-fn given_by_second(alloc: Global, body: &Octets) -> Result<List<UpdateKey>, Fail> {
-    let mut arrays = SPAN.arrays(body.as_slice());
-    let _ = arrays.next().ok_or("a first array")?;
-    let second = arrays.next().ok_or("a second array")?;
-    given_by(alloc, second.keys)
-}
-
-fn given_by(alloc: Global, keys: SealedKeys<'_>) -> Result<List<UpdateKey>, Fail> {
-    let mut given = List::new(alloc);
-    for key in keys {
-        given.push(key.gives)?;
-    }
-    Ok(given)
+/// Whether these keys are the root's key alone, of epoch 2.
+fn gives_root(mut keys: SealedKeys<'_>) -> Option<bool> {
+    let sealed: [u8; 32] = decoded(SEALED)?;
+    let root = keys.next()?.gives;
+    let given = (root.id.number() == 1) & (root.made == 2) & (root.sealed == sealed);
+    Some(given & keys.next().is_none())
 }
 
 /// Three keys of an array: the key that the array names, of position 4 and epoch 1, seals the first one, and each further one is sealed by
-/// the key before it.
-#[test]
-fn keys_of_an_array_are_sealed_in_turn(rt: HostRuntime) -> Result<(), Fail> {
-    let seals = seals_in(rt.alloc(), &["3:2", "2:2", "1:2"])?;
-    let (fourth, third, second, root) = (id(4)?, id(3)?, id(2)?, id(1)?);
-    let pairs = [
-        (fourth, 1, third, 2),
-        (third, 2, second, 2),
-        (second, 2, root, 2),
-    ];
-    assert_eq!(rt; seals.as_slice(), pairs.as_slice());
-    Ok(())
-}
+/// the key before it. Each is given with what seals it.
+const SEALS: [(u16, u32, u16, u32); 3] = [(4, 1, 3, 2), (3, 2, 2, 2), (2, 2, 1, 2)];
 
-/// The position and the epoch of a key, and of the key that it seals.
-type Seal = (LkhId, u32, LkhId, u32);
-
-/// What is sealed in the body with one array of these keys.
-fn seals_in(alloc: Global, keys: &[&str]) -> Result<List<Seal>, Fail> {
-    let body = updates_with(alloc, &array_of(alloc, keys)?)?;
-    let mut seals = List::new(alloc);
-    for array in span_of(&body)?.arrays(body.as_slice()) {
-        for key in array.keys {
-            seals.push((key.by, key.by_made, key.gives.id, key.gives.made))?;
-        }
-    }
-    Ok(seals)
-}
-
-/// A span has no arrays in a body out of which it leads.
-#[test]
-fn spans_stay_in_their_body(rt: HostRuntime) -> Result<(), Fail> {
-    let body = decoded(rt.alloc(), UPDATES)?;
-    let span = UpdateSpan { end: 154, ..SPAN };
-    assert!(rt; span.arrays(body.as_slice()).next().is_none());
-    Ok(())
-}
-
-/// Arrays of more keys than one, with the root's key at any place, and what is wrong with some: places are those of the body.
-const SEVERAL: [(&str, Wrong); 6] = [
-    ("2:2 1:2", None),
-    ("3:2 2:2 1:2", None),
-    ("1:2 2:2 3:2", None),
-    ("2:2 1:3", Some((WireWhat::Value, 41 + 48 + 12))),
-    ("2:2 0:2 1:2", Some((WireWhat::Value, 41 + 48))),
-    ("3:2 2:2", Some((WireWhat::Short, 41 + 96))),
+/// The positions and the epochs of the keys of an array, with the root's key at any place, and what is wrong with some: places are those of
+/// the body.
+const SEVERAL: [(&[(u16, u16)], Wrong); 6] = [
+    (&[(2, 2), (1, 2)], None),
+    (&[(3, 2), (2, 2), (1, 2)], None),
+    (&[(1, 2), (2, 2), (3, 2)], None),
+    (&[(2, 2), (1, 3)], Some((WireWhat::Value, 41 + 48 + 12))),
+    (&[(2, 2), (0, 2), (1, 2)], Some((WireWhat::Value, 41 + 48))),
+    (&[(3, 2), (2, 2)], Some((WireWhat::Short, 41 + 96))),
 ];
 
 #[test]
-fn arrays_have_several_keys(rt: HostRuntime) -> Result<(), Fail> {
-    for (keys, wrong) in SEVERAL {
-        assert_eq!(rt; fault_with(rt.alloc(), keys)?, wrong, "{keys}");
-    }
+fn arrays_have_several_keys(rt: HostRuntime) -> Result<(), NoMemory> {
+    let sealed = body_with(rt.alloc(), &[(3, 2), (2, 2), (1, 2)])?;
+    let sealed = are_sealed_in_turn(sealed.as_slice()) == Some(true);
+    let told = SEVERAL.iter().all(|(keys, wrong)| {
+        body_with(rt.alloc(), keys).is_ok_and(|body| fault(body.as_slice()) == *wrong)
+    });
+    assert!(rt; sealed & told);
     Ok(())
 }
 
-/// What is wrong with the body with one array of these keys.
-fn fault_with(alloc: Global, keys: &str) -> Result<Wrong, Fail> {
-    let keys = keys.split(' ').collect::<Vec<_>>(alloc)?;
-    fault(&updates_with(alloc, &array_of(alloc, keys.as_slice())?)?)
-}
-
-/// An update array of these keys.
-fn array_of(alloc: Global, keys: &[&str]) -> Result<Octets, Fail> {
-    if keys.len() > 9 {
-        return Err("more keys than a table has".into());
-    }
-    let count = keys.len() as u16;
-    let mut array = List::new(alloc);
+/// The body with one array of these keys.
+fn body_with(alloc: Global, keys: &[(u16, u16)]) -> Result<Octets, NoMemory> {
+    let count = keys.len().min(9) as u16;
+    let mut array = Octets::new(alloc);
     append_words(
         &[2, 12 + 48 * count, 0x0100, 256 * count, 4, 0, 0, 1],
         &mut array,
     )?;
     for key in keys {
-        append_key(key, &mut array)?;
+        append_key(*key, &mut array)?;
     }
-    Ok(array)
+    updates_with(alloc, &array)
+}
+
+fn are_sealed_in_turn(body: &[u8]) -> Option<bool> {
+    let mut arrays = read(body).ok()?.updates?.arrays(body);
+    let mut keys = arrays.next()?.keys;
+    let mut holds = arrays.next().is_none();
+    for (by, by_made, gives, made) in SEALS {
+        let key = keys.next()?;
+        holds &= (key.by.number(), key.by_made) == (by, by_made);
+        holds &= (key.gives.id.number(), key.gives.made) == (gives, made);
+    }
+    Some(holds & keys.next().is_none())
 }

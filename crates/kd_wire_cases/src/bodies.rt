@@ -1,10 +1,9 @@
 //! Bodies for a traffic key and for a member that registers.
-use crate::keys::{decoded, keyed, octets, path_key, traffic};
-use crate::reads::{front_of, view_of};
+use crate::keys::{add_keys, decoded, keyed, octets, traffic};
+use crate::reads::read;
 use group_terms::Octets;
-use kd_wire::{KdView, Path, PathKey, SpiPlaces, write_reply_kd, write_traffic_kd};
+use kd_wire::{Path, PathKey, SpiPlaces, write_reply_kd, write_traffic_kd};
 use std::alloc::Global;
-use std::test::Fail;
 
 /// The body for a traffic key, as another implementation writes it.
 const TRAFFIC: &str = "00010000\
@@ -22,63 +21,44 @@ const REPLY: &str = "00020000\
 
 /// The body for a traffic key alone.
 #[test]
-fn a_traffic_key_is_written(rt: HostRuntime) -> Result<(), Fail> {
-    let mut body = Octets::new(rt.alloc());
-    write_traffic_kd(&traffic(), &mut body)?;
-    assert_eq!(rt; body.as_slice(), decoded(rt.alloc(), TRAFFIC)?.as_slice());
-    Ok(())
+fn a_traffic_key_is_written_and_read(rt: HostRuntime) {
+    assert!(rt; traffic_holds(rt.alloc()) == Some(true));
 }
 
-#[test]
-fn a_traffic_key_is_read(rt: HostRuntime) -> Result<(), Fail> {
-    let view = view_in(rt.alloc(), TRAFFIC)?;
-    let (tek, lkh) = (Some(9), None);
-    let front = (Some(traffic()), None, None, SpiPlaces { tek, lkh });
-    assert_eq!(rt; front_of(&view), front);
-    assert_eq!(rt; view.download.keys().len(), 0);
-    Ok(())
-}
-
-fn view_in(alloc: Global, text: &str) -> Result<KdView, Fail> {
-    view_of(&decoded(alloc, text)?)
+fn traffic_holds(alloc: Global) -> Option<bool> {
+    let text: [u8; 69] = decoded(TRAFFIC)?;
+    let mut body = Octets::new(alloc);
+    write_traffic_kd(&traffic(), &mut body).ok()?;
+    let written = body.as_slice() == text.as_slice();
+    Some(written & is_read(&text, None, None, &[]))
 }
 
 /// The body for a member that registers.
 #[test]
-fn a_reply_is_written(rt: HostRuntime) -> Result<(), Fail> {
-    let body = reply(rt.alloc())?;
-    assert_eq!(rt; body.as_slice(), decoded(rt.alloc(), REPLY)?.as_slice());
-    Ok(())
+fn a_reply_is_written_and_read(rt: HostRuntime) {
+    assert!(rt; reply_holds(rt.alloc()) == Some(true));
 }
 
-fn reply(alloc: Global) -> Result<Octets, Fail> {
+fn reply_holds(alloc: Global) -> Option<bool> {
+    let text: [u8; 242] = decoded(REPLY)?;
     let mut path = Path::new();
-    for key in path_keys()? {
-        if path.keys().len() < 3 {
-            path.push(key);
-        }
-    }
+    add_keys(1, &[4], &mut path);
+    add_keys(2, &[2, 1], &mut path);
+    let keyed = keyed(2, 3, path);
     let mut body = Octets::new(alloc);
-    write_reply_kd(&keyed(2, 3, path), &mut body)?;
-    Ok(body)
+    write_reply_kd(&keyed, &mut body).ok()?;
+    let written = body.as_slice() == text.as_slice();
+    Some(written & is_read(&text, Some(octets(9)), Some(74), keyed.path.keys()))
 }
 
-/// The keys of its path.
-fn path_keys() -> Result<[PathKey; 3], Fail> {
-    Ok([path_key(4, 1)?, path_key(2, 2)?, path_key(1, 2)?])
-}
-
-#[test]
-fn a_reply_is_read(rt: HostRuntime) -> Result<(), Fail> {
-    let view = view_in(rt.alloc(), REPLY)?;
-    let (tek, lkh) = (Some(9), Some(74));
-    let front = (
-        Some(traffic()),
-        Some(octets(9)),
-        None,
-        SpiPlaces { tek, lkh },
-    );
-    assert_eq!(rt; front_of(&view), front);
-    assert_eq!(rt; view.download.keys(), path_keys()?.as_slice());
-    Ok(())
+/// Whether a body gives the traffic key, this SPI for keys of the tree, at this place, and these keys.
+fn is_read(body: &[u8], spi: Option<[u8; 16]>, lkh: Option<u32>, keys: &[PathKey]) -> bool {
+    let tek = Some(9);
+    read(body).is_ok_and(|view| {
+        (view.tek == Some(traffic()))
+            & (view.lkh_spi == spi)
+            & view.updates.is_none()
+            & (view.spis == SpiPlaces { tek, lkh })
+            & (view.download.keys() == keys)
+    })
 }

@@ -1,10 +1,9 @@
 //! A group whose keys and pushes another implementation made, and what one of its members is told.
-ghost use Rattle.std.specs.Prelude.{◌≡◌, IfOk};
+ghost use Rattle.std.specs.Prelude.{◌≡◌, IfSome};
 ghost use Rattle.kd_wire.specs.Texts.{IsPath};
 ghost use Rattle.member_store.specs.Stores.{IsReply, root_of};
 
-use group_terms::{Keyed, LkhId, MemberName, NodeValue, Path, PathKey, TrafficValue};
-use std::test::Fail;
+use group_terms::{Keyed, LkhId, NodeValue, Path, PathKey, TrafficValue};
 
 /// The SPI of the group, with draws of the seed 0, and its pushes when the second of three members of a tree with four leaves goes out.
 const SPI: &str = "ade0b876903df1a0e56a5d4028bd8653";
@@ -55,58 +54,54 @@ pub(crate) const SECOND_TRAFFIC: [&str; 3] = [
 ];
 
 /// What the member at leaf 4 is told in the first epoch, where the last push had this number.
-pub(crate) fn reply(sequence: u32) -> Result<Keyed, Fail>
-    ensures { IfOk result IsReply }
+pub(crate) fn reply(sequence: u32) -> Option<Keyed>
+    ensures { IfSome result IsReply }
 {
-    let (spi, path, traffic) = (octets(SPI)?, path()?, traffic_value(&FIRST_TRAFFIC)?);
-    Ok(Keyed {
+    let (spi, traffic) = (octets(SPI)?, traffic_value(&FIRST_TRAFFIC)?);
+    Some(Keyed {
         epoch: 1,
         sequence,
         spi,
-        path,
+        path: path()?,
         traffic,
     })
 }
 
 /// The keys of its path.
-fn path() -> Result<Path, Fail>
-    ensures path { IfOk result IsPath }
-    ensures made { IfOk result (λ path. (root_of path).made ≡ 1) }
+fn path() -> Option<Path>
+    ensures path { IfSome result IsPath }
+    ensures made { IfSome result (λ path. (root_of path).made ≡ 1) }
 {
     let (leaf, middle, root) = (key(4, &LEAF_KEY)?, key(2, &MIDDLE_KEY)?, key(1, &ROOT_KEY)?);
     let mut path = Path::new();
     path.push(leaf);
     path.push(middle);
     path.push(root);
-    Ok(path)
+    Some(path)
 }
 
 /// A key of the first epoch.
-fn key(position: u16, texts: &[&str; 2]) -> Result<PathKey, Fail>
-    ensures id { IfOk result (λ key. key.id ≡ position) }
-    ensures made { IfOk result (λ key. key.made ≡ 1) }
+fn key(position: u16, texts: &[&str; 2]) -> Option<PathKey>
+    ensures id { IfSome result (λ key. key.id ≡ position) }
+    ensures made { IfSome result (λ key. key.made ≡ 1) }
 {
-    let id = LkhId::new(position).ok_or("a position")?;
+    let id = LkhId::new(position)?;
     let (iv, key) = (octets(texts[0])?, octets(texts[1])?);
     let value = NodeValue { iv, key };
-    Ok(PathKey { id, made: 1, value })
+    Some(PathKey { id, made: 1, value })
 }
 
-pub(crate) fn traffic_value(texts: &[&str; 3]) -> Result<TrafficValue, Fail> {
-    Ok(TrafficValue {
+pub(crate) fn traffic_value(texts: &[&str; 3]) -> Option<TrafficValue> {
+    Some(TrafficValue {
         cipher_key: octets(texts[0])?,
         integrity_key: octets(texts[1])?,
         spi: octets(texts[2])?,
     })
 }
 
-pub(crate) fn named(text: &[u8]) -> Result<MemberName, Fail> {
-    Ok(MemberName::read(text).ok_or("a name")?)
-}
-
 /// The octets of hexadecimal digits.
-pub(crate) fn octets<const N: usize>(text: &str) -> Result<[u8; N], Fail> {
+pub(crate) fn octets<const N: usize>(text: &str) -> Option<[u8; N]> {
     let mut octets = [0; N];
-    hex::decode_to_slice(text, &mut octets)?;
-    Ok(octets)
+    hex::decode_to_slice(text, &mut octets).ok()?;
+    Some(octets)
 }

@@ -1,66 +1,77 @@
 //! The peers of a run, one of which is told its keys.
 ghost use Rattle.member_store.specs.Stores.{IsReply};
 
-use crate::known::{named, reply};
+use crate::groups::named;
+use crate::known::reply;
 use gd_edges::TestVerifier;
 use group_peers::{Peers, who_is_noted_is_a_peer};
 use group_terms::{Keyed, MemberName};
-use member_store::{Older, PushRefusal, Room, Taken};
-use std::test::Fail;
+use member_store::{Older, Room};
+use std::alloc::Global;
 
 #[test]
-fn a_peer_keeps_the_newest_keys(rt: HostRuntime) -> Result<(), Fail> {
+fn a_peer_keeps_the_newest_keys(rt: HostRuntime) {
     let mut peers = Peers::new(rt.alloc());
-    let (a, b) = (named(b"a")?, named(b"b")?);
-    assert_eq!(rt; tell(&mut peers, &a, reply(3)?)?, Ok(()));
-    note(&mut peers, &b)?;
-    assert_eq!(rt; tell(&mut peers, &a, reply(4)?)?, Ok(()));
-    assert_eq!(rt;
-        tell(&mut peers, &a, reply(3)?)?,
-        Err(Older { last: 4, got: 3 })
-    );
-    assert_eq!(rt; peers.len(), 2);
-    assert_eq!(rt; last_of(&peers, &a), Some(4));
-    assert_eq!(rt; last_of(&peers, &b), None);
-    Ok(())
+    assert!(rt; keeps_the_newest(&mut peers) == Some(true));
+}
+
+fn keeps_the_newest(peers: &mut Peers) -> Option<bool> {
+    let (a, b) = (named(b'a')?, named(b'b')?);
+    let first = tell(peers, &a, reply(3)?)? == Ok(());
+    note(peers, &b)?;
+    let second = tell(peers, &a, reply(4)?)? == Ok(());
+    let third = tell(peers, &a, reply(3)?)? == Err(Older { last: 4, got: 3 });
+    Some(
+        first
+            & second
+            & third
+            & (peers.len() == 2)
+            & (last_of(peers, &a) == Some(4))
+            & last_of(peers, &b).is_none(),
+    )
 }
 
 #[test]
-fn a_peer_without_a_store_takes_no_datagram(rt: HostRuntime) -> Result<(), Fail> {
-    let mut peers = Peers::new(rt.alloc());
-    let (a, b) = (named(b"a")?, named(b"b")?);
-    let mut room = Room::new(rt.alloc())?;
-    note(&mut peers, &a)?;
-    assert_eq!(rt; give(&mut peers, &a, &mut room), None);
-    assert_eq!(rt; give(&mut peers, &b, &mut room), None);
-    assert_eq!(rt; tell(&mut peers, &a, reply(3)?)?, Ok(()));
-    assert!(rt; give(&mut peers, &a, &mut room).is_some());
-    Ok(())
+fn a_peer_without_a_store_takes_no_datagram(rt: HostRuntime) {
+    assert!(rt; takes_with_a_store_alone(rt.alloc()) == Some(true));
 }
 
-/// What a datagram without an octet is answered.
-fn give(
-    peers: &mut Peers,
-    member: &MemberName,
-    room: &mut Room,
-) -> Option<Result<Taken, PushRefusal>> {
-    peers.accept(member, &[], &TestVerifier::new(), room)
+fn takes_with_a_store_alone(alloc: Global) -> Option<bool> {
+    let mut room = Room::new(alloc).ok()?;
+    let mut peers = Peers::new(alloc);
+    is_answered_once_told(&mut peers, &mut room)
 }
 
-fn note(peers: &mut Peers, member: &MemberName) -> Result<(), Fail> {
-    peers.reserve(1)?;
+/// Whether a datagram is answered for nobody before the first of two names is told its keys, and for that one then.
+fn is_answered_once_told(peers: &mut Peers, room: &mut Room) -> Option<bool> {
+    let (a, b) = (named(b'a')?, named(b'b')?);
+    note(peers, &a)?;
+    let before = is_answered(peers, &a, room) | is_answered(peers, &b, room);
+    let is_told = tell(peers, &a, reply(3)?)? == Ok(());
+    Some(!before & is_told & is_answered(peers, &a, room))
+}
+
+/// Whether a datagram without an octet is answered.
+fn is_answered(peers: &mut Peers, member: &MemberName, room: &mut Room) -> bool {
+    peers
+        .accept(member, &[], &TestVerifier::new(), room)
+        .is_some()
+}
+
+fn note(peers: &mut Peers, member: &MemberName) -> Option<()> {
+    peers.reserve(1).ok()?;
     peers.note(member);
-    Ok(())
+    Some(())
 }
 
 /// Notes a member and tells it its keys.
-fn tell(peers: &mut Peers, member: &MemberName, keyed: Keyed) -> Result<Result<(), Older>, Fail>
+fn tell(peers: &mut Peers, member: &MemberName, keyed: Keyed) -> Option<Result<(), Older>>
     requires { IsReply keyed }
 {
-    peers.reserve(1)?;
+    peers.reserve(1).ok()?;
     peers.note(member);
     who_is_noted_is_a_peer();
-    Ok(peers.keep(member, keyed))
+    Some(peers.keep(member, keyed))
 }
 
 fn last_of(peers: &Peers, member: &MemberName) -> Option<u32> {

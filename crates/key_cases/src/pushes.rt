@@ -1,120 +1,118 @@
 //! The pushes of a batch, against those of another implementation.
-ghost use Rattle.std.specs.Prelude.{◌≡◌, ◌<◌, ◌≤◌, ℕ, length, IfOk, IsTrue};
+ghost use Rattle.std.specs.Prelude.{◌≡◌, ◌<◌, ◌≤◌, length, IfSome, IsTrue};
 ghost use Rattle.std.specs.List.{All};
 ghost use Rattle.group_terms.specs.declared.values.Drawn.{Drawn};
-ghost use Rattle.group_model.specs.Steps.{IsReady, IsStepOf};
-ghost use Rattle.group_model.specs.declared.steps.TreeStep.{TreeStep as Stepped};
+ghost use Rattle.group_model.specs.Steps.{IsReady};
 
-use crate::known::{MEMBERSHIP, TRAFFIC, named, octets};
+use crate::groups::{Group, joins, leaves, step_of};
+use crate::known::{MEMBERSHIP, TRAFFIC, octets};
 use gd_edges::{ChaChaDraws, Draws, TestSigner};
 use group_model::{PresentTree, PushPair, TreeStep};
 use group_pushes::write_pair;
-use group_terms::{Batch, BatchValues, Change};
+use group_terms::{BatchValues, Change};
 use group_values::{KeptValues, draw_values};
 use std::alloc::Global;
-use std::process::Abort;
-use std::test::Fail;
 
 #[test]
-fn pushes_are_those_of_another_implementation(rt: HostRuntime) -> Result<(), Fail> {
-    let pair = second_goes_out(&rt, rt.alloc())?;
-    assert_eq!(rt; pair.first, 1);
-    assert_eq!(rt; pair.wraps.len(), 4);
-    assert_eq!(rt;
-        pair.membership.as_slice(),
-        octets::<396>(MEMBERSHIP)?.as_slice()
-    );
-    assert_eq!(rt; pair.traffic.as_slice(), octets::<220>(TRAFFIC)?.as_slice());
-    Ok(())
+fn pushes_are_those_of_another_implementation(rt: HostRuntime) {
+    assert!(rt; are_known(rt.alloc()) == Some(true));
 }
 
-/// A tree with four leaves, and the values of its keys.
-#[derive(Drop)]
-struct Group {
-    tree: PresentTree,
-    kept: KeptValues,
-    draws: ChaChaDraws,
-    spi: [u8; 16],
-}
-
-/// Three members come in, for whom there is no push, and the second goes out.
-fn second_goes_out(rt: &impl Abort, alloc: Global) -> Result<PushPair, Fail> {
+fn are_known(alloc: Global) -> Option<bool> {
     let mut group = empty(alloc)?;
-    let joins = [joins(b'a')?, joins(b'b')?, joins(b'c')?];
-    let none = close(rt, alloc, &mut group, &joins)?;
-    assert!(rt; none.is_none());
-    let leaves = [leaves(b'b')?];
-    Ok(close(rt, alloc, &mut group, &leaves)?.ok_or("a pair")?)
+    second_goes_out(alloc, &mut group)
 }
 
-fn empty(alloc: Global) -> Result<Group, Fail>
-    ensures depth { IfOk result (λ group. group.tree.depth ≡ 2) }
-    ensures room { IfOk result (λ group. length group.kept.nodes ≡ 8) }
+fn empty(alloc: Global) -> Option<Group>
+    ensures depth { IfSome result (λ group. group.tree.depth ≡ 2) }
+    ensures room { IfSome result (λ group. length group.kept.nodes ≡ 8) }
 {
+    let kept = KeptValues::new(alloc, 2).ok()?;
+    let tree = PresentTree::new(alloc, 2).ok()?;
+    Some(Group { tree, kept })
+}
+
+/// Three members come in, for whom there is no push, and the second goes out, of which there is the pair.
+fn second_goes_out(alloc: Global, group: &mut Group) -> Option<bool>
+    requires depth { group.old.tree.depth ≡ 2 }
+    requires room { length group.old.kept.nodes ≡ 8 }
+{
+    let come = [joins(b'a')?, joins(b'b')?, joins(b'c')?];
+    let goes = [leaves(b'b')?];
     let mut draws = ChaChaDraws::new(0, 0);
     let spi = draws.draw();
-    let tree = PresentTree::new(alloc, 2)?;
-    let kept = KeptValues::new(alloc, 2)?;
-    Ok(Group {
-        tree,
-        kept,
-        draws,
-        spi,
-    })
+    Some(
+        makes(alloc, group, &mut draws, &spi, &come, false)?
+            & makes(alloc, group, &mut draws, &spi, &goes, true)?,
+    )
 }
 
-/// Closes a batch of these changes.
-fn close(
-    rt: &impl Abort,
+/// Whether a batch makes the known pair of pushes, or none where none is due; then it is taken in.
+fn makes(
     alloc: Global,
     group: &mut Group,
+    draws: &mut ChaChaDraws,
+    spi: &[u8; 16],
     changes: &[Change],
-) -> Result<Option<PushPair>, Fail>
+    is_due: bool,
+) -> Option<bool>
     requires depth { group.old.tree.depth ≡ 2 }
     requires room { length group.old.kept.nodes ≡ 8 }
     ensures depth { group.new.tree.depth ≡ 2 }
     ensures room { length group.new.kept.nodes ≡ 8 }
 {
-    let batch = batch(rt, changes);
-    assert!(rt; group.tree.fits(&batch));
-    let step = group.tree.step(alloc, &batch, 9)?.ok_or("past the limit")?;
-    let values = draw_values(alloc, &mut group.draws, step.drawn())?;
-    renews_few(&group.tree, &batch);
-    let pair = pushes(alloc, group, &step, &values)?;
-    assert!(rt; are_low(&values));
+    let step = step_of(alloc, &group.tree, changes)?;
+    let values = low_values(alloc, draws, &step)?;
+    let is_made = has_pushes(alloc, group, &step, &values, spi, is_due);
     group.kept.take(&values);
     group.tree.advance(step);
-    Ok(pair)
+    Some(is_made)
 }
 
-fn pushes(
+/// The values of a step, where all its positions are of the tree.
+fn low_values(alloc: Global, draws: &mut ChaChaDraws, step: &TreeStep) -> Option<BatchValues>
+    ensures { IfSome result (λ values. All (λ (node : Drawn). node.id < 8) values.nodes) }
+{
+    let values = draw_values(alloc, draws, step.drawn()).ok()?;
+    if are_low(&values) { Some(values) } else { None }
+}
+
+/// Whether a step has the known pair of pushes, or none where none is due.
+fn has_pushes(
     alloc: Global,
     group: &Group,
     step: &TreeStep,
     values: &BatchValues,
-) -> Result<Option<PushPair>, Fail>
+    spi: &[u8; 16],
+    is_due: bool,
+) -> bool
     requires depth { group.now.tree.depth ≡ 2 }
     requires room { length group.now.kept.nodes ≡ 8 }
     requires ready { IsReady group.now.tree step.now }
     requires few { length step.now.fresh ≤ 321 }
 {
-    Ok(write_pair(
+    match write_pair(
         alloc,
         &group.tree,
         step,
         &group.kept,
         values,
-        &group.spi,
+        spi,
         &TestSigner::new(),
-    )?)
+    ) {
+        Ok(Some(pair)) => is_due & (is_known(&pair) == Some(true)),
+        Ok(None) => !is_due,
+        Err(_) => false,
+    }
 }
 
-/// A step renews a path for each of at most 32 changes, and the root; a path of a tree with four leaves has three positions.
-fn renews_few(tree: &PresentTree, batch: &Batch)
-    requires { tree.now.depth ≡ 2 }
-    ensures { (limit : ℕ) (step : Stepped) → IsStepOf tree.now batch.now limit step → length step.fresh ≤ 321 }
-{
-    batch.changes();
+fn is_known(pair: &PushPair) -> Option<bool> {
+    Some(
+        (pair.first == 1)
+            & (pair.wraps.len() == 4)
+            & (pair.membership.as_slice() == octets::<396>(MEMBERSHIP)?.as_slice())
+            & (pair.traffic.as_slice() == octets::<220>(TRAFFIC)?.as_slice()),
+    )
 }
 
 /// Whether all are positions of the tree.
@@ -126,23 +124,4 @@ fn are_low(values: &BatchValues) -> bool
         .as_slice()
         .iter()
         .all(|node| node.id.number() < 8)
-}
-
-fn batch(rt: &impl Abort, changes: &[Change]) -> Batch {
-    let mut batch = Batch::new();
-    for change in changes {
-        assert!(rt; batch.changes().len() < 9);
-        batch.push(*change);
-    }
-    batch
-}
-
-fn joins(letter: u8) -> Result<Change, Fail> {
-    let member = named(&[letter])?;
-    Ok(Change::In { member })
-}
-
-fn leaves(letter: u8) -> Result<Change, Fail> {
-    let member = named(&[letter])?;
-    Ok(Change::Out { member })
 }

@@ -1,190 +1,184 @@
 //! What members are told of a group: now, and after a step.
-ghost use Rattle.std.specs.Prelude.{◌≡◌, ◌<◌, ◌≤◌, length, IfOk};
+ghost use Rattle.std.specs.Prelude.{◌≡◌, ◌<◌, ◌≤◌, length, IfSome};
 ghost use Rattle.std.specs.List.{All};
 ghost use Rattle.group_terms.specs.declared.values.Drawn.{Drawn};
+ghost use Rattle.group_model.specs.Steps.{IsReady};
 
+use crate::groups::{Group, joins, leaves, named, step_of};
 use group_keys::{keyed, keyed_after};
-use group_model::PresentTree;
+use group_model::{PresentTree, TreeStep};
 use group_terms::{
-    Batch, BatchValues, Change, Drawn, Keyed, List, LkhId, MemberName, NodeValue, PathKey,
-    TrafficValue,
+    BatchValues, Change, Drawn, Keyed, List, LkhId, MemberName, NodeValue, PathKey, TrafficValue,
 };
 use group_values::KeptValues;
 use std::alloc::Global;
-use std::process::Abort;
-use std::test::Fail;
+
+/// What a member is told: an epoch and a number, the octet of the traffic key, and of each key of the path its position, its epoch and its octet.
+type Told = (u32, u32, u8, [(u16, u32, u8); 2]);
+
+/// The second of two members, in the first epoch.
+const SECOND: Told = (1, 0, 1, [(3, 1, 1), (1, 1, 1)]);
+
+/// The first of them, once the second went out, or where another comes in for it.
+const FIRST: Told = (2, 2, 2, [(2, 1, 1), (1, 2, 2)]);
+
+/// Who comes in for the second.
+const THIRD: Told = (2, 2, 2, [(3, 2, 2), (1, 2, 2)]);
 
 #[test]
-fn a_member_is_told_the_keys_of_its_path(rt: HostRuntime) -> Result<(), Fail> {
-    let keys = [key(3, 1, 1)?, key(1, 1, 1)?];
-    let group = two_members(&rt, rt.alloc())?;
-    let told = told_now(&group, b'b')?.ok_or("a member")?;
-    look_at_told(&rt, &told, (1, 0), &keys, 1)
+fn members_are_told_the_keys_of_their_paths(rt: HostRuntime) {
+    assert!(rt; are_told(rt.alloc()) == Some(true));
 }
 
-#[test]
-fn a_member_that_stays_is_told_the_new_key_of_the_root(rt: HostRuntime) -> Result<(), Fail> {
-    let keys = [key(2, 1, 1)?, key(1, 2, 2)?];
-    let mut group = two_members(&rt, rt.alloc())?;
-    second_goes_out(&rt, rt.alloc(), &mut group)?;
-    let told = told_now(&group, b'a')?.ok_or("a member")?;
-    look_at_told(&rt, &told, (2, 2), &keys, 2)
+/// Two members come in; the second goes out, and another comes in for it or nobody does.
+fn are_told(alloc: Global) -> Option<bool> {
+    let mut group = two_members(alloc)?;
+    are_told_in(alloc, &mut group)
 }
 
-#[test]
-fn who_went_is_told_nothing(rt: HostRuntime) -> Result<(), Fail> {
-    let mut group = two_members(&rt, rt.alloc())?;
-    second_goes_out(&rt, rt.alloc(), &mut group)?;
-    assert!(rt; told_now(&group, b'b')?.is_none());
-    Ok(())
+fn are_told_in(alloc: Global, group: &mut Group) -> Option<bool>
+    requires depth { group.old.tree.depth ≡ 1 }
+    requires room { length group.old.kept.nodes ≡ 4 }
+{
+    let (a, b) = (named(b'a')?, named(b'b')?);
+    let now = is_told(group, &b, &SECOND);
+    let after = are_told_after(alloc, group)?;
+    second_goes_out(alloc, group)?;
+    Some(now & after & is_told(group, &a, &FIRST) & is_told_nothing(group, &b))
 }
 
-#[test]
-fn who_comes_in_is_told_its_keys_before_the_step_is_taken(rt: HostRuntime) -> Result<(), Fail> {
-    let keys = [key(3, 2, 2)?, key(1, 2, 2)?];
-    let group = two_members(&rt, rt.alloc())?;
-    let told = told_after(&rt, rt.alloc(), &group, 3)?;
-    look_at_told(&rt, &told, (2, 2), &keys, 2)
-}
-
-#[test]
-fn who_stays_has_its_old_leaf_key_after_the_step(rt: HostRuntime) -> Result<(), Fail> {
-    let keys = [key(2, 1, 1)?, key(1, 2, 2)?];
-    let group = two_members(&rt, rt.alloc())?;
-    let told = told_after(&rt, rt.alloc(), &group, 2)?;
-    look_at_told(&rt, &told, (2, 2), &keys, 2)
-}
-
-/// What a member is told has this epoch and number, these keys, and a traffic key of this octet alone.
-fn look_at_told(
-    rt: &impl Abort,
-    told: &Keyed,
-    (epoch, sequence): (u32, u32),
-    keys: &[PathKey],
-    octet: u8,
-) -> Result<(), Fail> {
-    assert_eq!(rt;
-        (told.epoch, told.sequence, told.spi),
-        (epoch, sequence, [9; 16])
-    );
-    assert_eq!(rt; told.path.keys(), keys);
-    assert_eq!(rt; told.traffic, traffic(octet));
-    Ok(())
-}
-
-/// What a member is told now; nothing where it is none.
-fn told_now(group: &Group, letter: u8) -> Result<Option<Keyed>, Fail>
+/// Whether a member is told this now.
+fn is_told(group: &Group, member: &MemberName, due: &Told) -> bool
     requires depth { group.now.tree.depth ≡ 1 }
     requires room { length group.now.kept.nodes ≡ 4 }
 {
-    let member = named(letter)?;
-    Ok(keyed(&group.tree, &group.kept, &[9; 16], &member))
+    match keyed(&group.tree, &group.kept, &[9; 16], member) {
+        Some(told) => is_due(&told, due),
+        None => false,
+    }
 }
 
-/// What the member at a leaf is told of the batch in which the second member goes out and another comes in, with values of the octet 2 alone.
-fn told_after(rt: &impl Abort, alloc: Global, group: &Group, leaf: u16) -> Result<Keyed, Fail>
+/// Whether a name is told nothing now.
+fn is_told_nothing(group: &Group, member: &MemberName) -> bool
     requires depth { group.now.tree.depth ≡ 1 }
     requires room { length group.now.kept.nodes ≡ 4 }
+{
+    keyed(&group.tree, &group.kept, &[9; 16], member).is_none()
+}
+
+/// Whether who stays and who comes in are told their keys before the batch is taken in, whose values have the octet 2 alone.
+fn are_told_after(alloc: Global, group: &Group) -> Option<bool>
+    requires depth { group.now.tree.depth ≡ 1 }
+    requires room { length group.now.kept.nodes ≡ 4 }
+{
+    let (second, third) = (LkhId::new(2)?, LkhId::new(3)?);
+    let (changes, nodes) = ([leaves(b'b')?, joins(b'c')?], [drawn(1, 2)?, drawn(3, 2)?]);
+    let values = made(alloc, 2, &nodes)?;
+    let step = step_of(alloc, &group.tree, &changes)?;
+    Some(
+        is_told_after(group, &step, &values, third, &THIRD)
+            & is_told_after(group, &step, &values, second, &FIRST),
+    )
+}
+
+/// Whether the member at a leaf is told this of the epoch that a step makes.
+fn is_told_after(
+    group: &Group,
+    step: &TreeStep,
+    values: &BatchValues,
+    leaf: LkhId,
+    due: &Told,
+) -> bool
+    requires depth { group.now.tree.depth ≡ 1 }
+    requires room { length group.now.kept.nodes ≡ 4 }
+    requires ready { IsReady group.now.tree step.now }
     requires from { 2 ≤ leaf }
     requires to { leaf < 4 }
 {
-    let leaf = LkhId::new(leaf).ok_or("a leaf")?;
-    let member = named(b'b')?;
-    let batch = batch_of(rt, &[Change::Out { member }, joins(b'c')?]);
-    let values = made(alloc, 2, &[drawn(1, 2)?, drawn(3, 2)?])?;
-    assert!(rt; group.tree.fits(&batch));
-    let step = group.tree.step(alloc, &batch, 9)?.ok_or("past the limit")?;
-    Ok(keyed_after(&group.tree, &step, &group.kept, &values, &[9; 16], leaf))
+    let told = keyed_after(&group.tree, step, &group.kept, values, &[9; 16], leaf);
+    is_due(&told, due)
 }
 
-#[derive(Debug, Drop)]
-struct Group {
-    tree: PresentTree,
-    kept: KeptValues,
+fn is_due(told: &Keyed, due: &Told) -> bool {
+    let (epoch, sequence, octet, keys) = *due;
+    (told.epoch == epoch)
+        & (told.sequence == sequence)
+        & (told.spi == [9; 16])
+        & (told.path.keys().len() == 2)
+        & told.path.keys().iter().zip(keys).all(is_key)
+        & (told.traffic == traffic(octet))
+}
+
+/// Whether a key is of this position and this epoch, and has this octet alone.
+fn is_key((key, (number, made, octet)): (&PathKey, (u16, u32, u8))) -> bool {
+    (key.id.number() == number) & (key.made == made) & (key.value == value(octet))
 }
 
 /// A tree with two leaves, in which two members stand; each position has a value of the octet 1 alone.
-fn two_members(rt: &impl Abort, alloc: Global) -> Result<Group, Fail>
-    ensures { IfOk result (λ group. (group.tree.depth ≡ 1) × (length group.kept.nodes ≡ 4)) }
+fn two_members(alloc: Global) -> Option<Group>
+    ensures { IfSome result (λ group. (group.tree.depth ≡ 1) × (length group.kept.nodes ≡ 4)) }
 {
-    let mut tree = PresentTree::new(alloc, 1)?;
-    go_on(rt, alloc, &mut tree, &[joins(b'a')?, joins(b'b')?])?;
-    let mut kept = KeptValues::new(alloc, 1)?;
-    kept.take(&made(alloc, 1, &[drawn(1, 1)?, drawn(2, 1)?, drawn(3, 1)?])?);
-    Ok(Group { tree, kept })
+    let (changes, nodes) = (
+        [joins(b'a')?, joins(b'b')?],
+        [drawn(1, 1)?, drawn(2, 1)?, drawn(3, 1)?],
+    );
+    let tree = tree_after(alloc, &changes)?;
+    let kept = kept_after(alloc, &nodes)?;
+    Some(Group { tree, kept })
+}
+
+/// A tree with two leaves, after its first batch.
+fn tree_after(alloc: Global, changes: &[Change]) -> Option<PresentTree>
+    ensures { IfSome result (λ tree. tree.depth ≡ 1) }
+{
+    let mut tree = PresentTree::new(alloc, 1).ok()?;
+    let step = step_of(alloc, &tree, changes)?;
+    tree.advance(step);
+    Some(tree)
+}
+
+/// The values of such a tree after its first batch.
+fn kept_after(alloc: Global, nodes: &[Drawn]) -> Option<KeptValues>
+    requires { All (λ (node : Drawn). node.id < 4) nodes.now }
+    ensures { IfSome result (λ kept. length kept.nodes ≡ 4) }
+{
+    let values = made(alloc, 1, nodes)?;
+    let mut kept = KeptValues::new(alloc, 1).ok()?;
+    kept.take(&values);
+    Some(kept)
 }
 
 /// The second of them goes out, and the root gets a value of the octet 2.
-fn second_goes_out(rt: &impl Abort, alloc: Global, group: &mut Group) -> Result<(), Fail>
+fn second_goes_out(alloc: Global, group: &mut Group) -> Option<()>
     requires { length group.old.kept.nodes ≡ 4 }
     ensures depth { group.new.tree.depth ≡ group.old.tree.depth }
     ensures room { length group.new.kept.nodes ≡ 4 }
 {
-    let member = named(b'b')?;
-    go_on(rt, alloc, &mut group.tree, &[Change::Out { member }])?;
-    group.kept.take(&made(alloc, 2, &[drawn(1, 2)?])?);
-    Ok(())
-}
-
-/// Takes a batch of these changes.
-fn go_on(
-    rt: &impl Abort,
-    alloc: Global,
-    tree: &mut PresentTree,
-    changes: &[Change],
-) -> Result<(), Fail>
-    ensures { tree.new.depth ≡ tree.old.depth }
-{
-    let batch = batch_of(rt, changes);
-    assert!(rt; tree.fits(&batch));
-    let step = tree.step(alloc, &batch, 9)?.ok_or("past the limit")?;
-    tree.advance(step);
-    Ok(())
-}
-
-fn batch_of(rt: &impl Abort, changes: &[Change]) -> Batch {
-    let mut batch = Batch::new();
-    for change in changes {
-        assert!(rt; batch.changes().len() < 9);
-        batch.push(*change);
-    }
-    batch
+    let (changes, nodes) = ([leaves(b'b')?], [drawn(1, 2)?]);
+    let values = made(alloc, 2, &nodes)?;
+    let step = step_of(alloc, &group.tree, &changes)?;
+    group.tree.advance(step);
+    group.kept.take(&values);
+    Some(())
 }
 
 /// What a batch made: these nodes, and a traffic key of this octet alone.
-fn made(alloc: Global, octet: u8, nodes: &[Drawn]) -> Result<BatchValues, Fail>
+fn made(alloc: Global, octet: u8, nodes: &[Drawn]) -> Option<BatchValues>
     requires { All (λ (node : Drawn). node.id < 4) nodes.now }
-    ensures { IfOk result (λ values. All (λ (node : Drawn). node.id < 4) values.nodes) }
+    ensures { IfSome result (λ values. All (λ (node : Drawn). node.id < 4) values.nodes) }
 {
-    Ok(BatchValues {
-        nodes: List::copy_of(alloc, nodes)?,
+    Some(BatchValues {
+        nodes: List::copy_of(alloc, nodes).ok()?,
         traffic: traffic(octet),
     })
 }
 
-fn traffic(octet: u8) -> TrafficValue {
-    TrafficValue {
-        cipher_key: [octet; 16],
-        integrity_key: [octet; 32],
-        spi: [octet; 4],
-    }
-}
-
-fn drawn(number: u16, octet: u8) -> Result<Drawn, Fail>
-    ensures { IfOk result (λ node. node.id ≡ number) }
+fn drawn(number: u16, octet: u8) -> Option<Drawn>
+    ensures { IfSome result (λ node. node.id ≡ number) }
 {
-    let id = LkhId::new(number).ok_or("a position")?;
-    Ok(Drawn {
+    let id = LkhId::new(number)?;
+    Some(Drawn {
         id,
-        value: value(octet),
-    })
-}
-
-fn key(number: u16, made: u32, octet: u8) -> Result<PathKey, Fail> {
-    let id = LkhId::new(number).ok_or("a position")?;
-    Ok(PathKey {
-        id,
-        made,
         value: value(octet),
     })
 }
@@ -196,11 +190,10 @@ fn value(octet: u8) -> NodeValue {
     }
 }
 
-fn joins(letter: u8) -> Result<Change, Fail> {
-    let member = named(letter)?;
-    Ok(Change::In { member })
-}
-
-fn named(letter: u8) -> Result<MemberName, Fail> {
-    Ok(MemberName::read(&[letter]).ok_or("a name")?)
+fn traffic(octet: u8) -> TrafficValue {
+    TrafficValue {
+        cipher_key: [octet; 16],
+        integrity_key: [octet; 32],
+        spi: [octet; 4],
+    }
 }

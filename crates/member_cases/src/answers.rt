@@ -1,9 +1,8 @@
 //! How answers are written.
 
-use group_terms::{MemberName, PushRefusal, TrafficValue};
+use case_lines::Text;
+use group_terms::{MemberName, PushRefusal};
 use member_store::{MemberStore, Older, Taken};
-use std::alloc::Global;
-use std::{fmt, io};
 
 /// What comes of a reply or a datagram.
 #[derive(Clone, Copy)]
@@ -15,125 +14,68 @@ pub enum Answer {
     Refused { refusal: PushRefusal },
 }
 
-impl fmt::Display for Answer {
-    fn fmt<W: fmt::Write>(&self, f: &mut fmt::Formatter<W>) -> fmt::Result {
-        match self {
-            Answer::Made => write!(f, "made"),
-            Answer::Renewed => write!(f, "renewed"),
-            Answer::Older { older } => fmt_older(older, f),
-            Answer::Taken { taken } => fmt_taken(taken, f),
-            Answer::Refused { refusal } => fmt_refusal(refusal, f),
-        }
+fn add_answer(answer: &Answer, text: &mut Text) {
+    match answer {
+        Answer::Made => text.add("made"),
+        Answer::Renewed => text.add("renewed"),
+        Answer::Older { older } => add_two("older ", older.last, older.got, text),
+        Answer::Taken { taken } => add_taken(taken, text),
+        Answer::Refused { refusal } => add_refusal(refusal, text),
     }
 }
 
-fn fmt_older<W: fmt::Write>(older: &Older, f: &mut fmt::Formatter<W>) -> fmt::Result {
-    let (last, got) = (older.last, older.got);
-    write!(f, "older {last} {got}")
-}
-
-fn fmt_taken<W: fmt::Write>(taken: &Taken, f: &mut fmt::Formatter<W>) -> fmt::Result {
+fn add_taken(taken: &Taken, text: &mut Text) {
     match taken {
-        Taken::Root { epoch } => write!(f, "root {epoch}"),
-        Taken::Traffic { epoch } => write!(f, "traffic {epoch}"),
+        Taken::Root { epoch } => add_one("root ", *epoch, text),
+        Taken::Traffic { epoch } => add_one("traffic ", *epoch, text),
     }
 }
 
-fn fmt_refusal<W: fmt::Write>(refusal: &PushRefusal, f: &mut fmt::Formatter<W>) -> fmt::Result {
+fn add_refusal(refusal: &PushRefusal, text: &mut Text) {
     match refusal {
-        PushRefusal::OtherSpi { .. } => write!(f, "other-spi"),
-        PushRefusal::Malformed { at } => write!(f, "malformed {at}"),
-        PushRefusal::BadSignature => write!(f, "bad-signature"),
-        PushRefusal::Stale { last, got } => write!(f, "stale {last} {got}"),
-        PushRefusal::NoPath { leaf } => write!(f, "no-path {}", leaf.number()),
+        PushRefusal::OtherSpi { .. } => text.add("other-spi"),
+        PushRefusal::Malformed { at } => add_one("malformed ", *at, text),
+        PushRefusal::BadSignature => text.add("bad-signature"),
+        PushRefusal::Stale { last, got } => add_two("stale ", *last, *got, text),
+        PushRefusal::NoPath { leaf } => add_one("no-path ", u32::from(leaf.number()), text),
     }
 }
 
-/// The text of a name.
-#[derive(Clone, Copy)]
-struct Name<'a> {
-    name: &'a MemberName,
+fn add_one(words: &str, number: u32, text: &mut Text) {
+    text.add(words);
+    text.add_number(u64::from(number));
 }
 
-impl fmt::Display for Name<'_> {
-    fn fmt<W: fmt::Write>(&self, f: &mut fmt::Formatter<W>) -> fmt::Result {
-        for octet in self.name.text() {
-            let letter = char::from(*octet);
-            write!(f, "{letter}")?;
-        }
-        Ok(())
-    }
+fn add_two(words: &str, first: u32, second: u32, text: &mut Text) {
+    add_one(words, first, text);
+    add_one(" ", second, text);
 }
 
-/// The epochs of a store's root and of its traffic key, and its last number.
-#[derive(Clone, Copy)]
-struct State<'a> {
-    store: &'a MemberStore,
-}
-
-impl fmt::Display for State<'_> {
-    fn fmt<W: fmt::Write>(&self, f: &mut fmt::Formatter<W>) -> fmt::Result {
-        let (root, traffic) = (self.store.root_epoch(), self.store.traffic_epoch());
-        let last = self.store.last_sequence();
-        write!(f, "{root} {traffic} {last}")
-    }
-}
-
-/// Octets in hexadecimal.
-#[derive(Clone, Copy)]
-struct Hex<'a> {
-    octets: &'a [u8],
-}
-
-impl fmt::Display for Hex<'_> {
-    fn fmt<W: fmt::Write>(&self, f: &mut fmt::Formatter<W>) -> fmt::Result {
-        for octet in self.octets {
-            write!(f, "{octet:02x}")?;
-        }
-        Ok(())
-    }
-}
-
-/// `CIPHER-KEY INTEGRITY-KEY SPI`.
-#[derive(Clone, Copy)]
-struct TrafficKeys {
-    traffic: TrafficValue,
-}
-
-impl fmt::Display for TrafficKeys {
-    fn fmt<W: fmt::Write>(&self, f: &mut fmt::Formatter<W>) -> fmt::Result {
-        let cipher_key = Hex {
-            octets: &self.traffic.cipher_key,
-        };
-        let integrity_key = Hex {
-            octets: &self.traffic.integrity_key,
-        };
-        let spi = Hex {
-            octets: &self.traffic.spi,
-        };
-        write!(f, "{cipher_key} {integrity_key} {spi}")
-    }
+/// ` / ROOT-EPOCH TRAFFIC-EPOCH LAST`, the end of a line: the epochs of a store's root and of its traffic key, and its last number.
+fn add_state(store: &MemberStore, text: &mut Text) {
+    add_two(" / ", store.root_epoch(), store.traffic_epoch(), text);
+    add_one(" ", store.last_sequence(), text);
+    text.add("\n");
 }
 
 /// `NAME ANSWER / ROOT-EPOCH TRAFFIC-EPOCH LAST`.
-pub fn line(
-    alloc: Global,
-    name: &MemberName,
-    answer: Answer,
-    store: &MemberStore,
-) -> io::Result<String> {
-    let name = Name { name };
-    let state = State { store };
-    Ok(format!(in alloc; "{name} {answer} / {state}\n")?)
+pub fn add_line(name: &MemberName, answer: &Answer, store: &MemberStore, text: &mut Text) {
+    text.add_letters(name.text());
+    text.add(" ");
+    add_answer(answer, text);
+    add_state(store, text);
 }
 
 /// `NAME leaf POSITION CIPHER-KEY INTEGRITY-KEY SPI / ROOT-EPOCH TRAFFIC-EPOCH LAST`.
-pub fn keys_line(alloc: Global, name: &MemberName, store: &MemberStore) -> io::Result<String> {
-    let name = Name { name };
-    let leaf = store.leaf().number();
-    let keys = TrafficKeys {
-        traffic: store.traffic_key(),
-    };
-    let state = State { store };
-    Ok(format!(in alloc; "{name} leaf {leaf} {keys} / {state}\n")?)
+pub fn add_keys_line(name: &MemberName, store: &MemberStore, text: &mut Text) {
+    text.add_letters(name.text());
+    add_one(" leaf ", u32::from(store.leaf().number()), text);
+    let traffic = store.traffic_key();
+    text.add(" ");
+    text.add_hex(&traffic.cipher_key);
+    text.add(" ");
+    text.add_hex(&traffic.integrity_key);
+    text.add(" ");
+    text.add_hex(&traffic.spi);
+    add_state(store, text);
 }

@@ -1,13 +1,14 @@
 //! A case: a group, and the stores of its members.
 
-use crate::lines::Line;
+use crate::groups::write;
 use crate::members::Members;
+use crate::readings::read;
 use crate::trees::Tree;
-use group_terms::{LkhId, MemberName};
+use crate::words::{group, name, path_key, position};
+use case_lines::{Cases, Text, number, octets};
+use group_terms::NoMemory;
 use member_store::Room;
 use std::alloc::Global;
-use std::io;
-use std::io::ErrorKind;
 
 /// A case so far, and the room in which its stores open datagrams.
 #[derive(Drop)]
@@ -17,10 +18,21 @@ pub struct Case {
     room: Room,
 }
 
+impl Cases for Case {
+    fn answer(&mut self, rt: &HostRuntime, words: &[&str], text: &mut Text) -> Option<()> {
+        let (word, rest) = words.split_first()?;
+        match *word {
+            "write" => write(rt, rest),
+            "read" => read(rt, rest, text),
+            word => self.go_on(rt.alloc(), word, rest, text),
+        }
+    }
+}
+
 impl Case {
     /// Nothing is known, and nobody has a store.
-    pub fn new(alloc: Global) -> io::Result<Self> {
-        let room = Room::new(alloc).map_err(|_| ErrorKind::OutOfMemory)?;
+    pub fn new(alloc: Global) -> Result<Self, NoMemory> {
+        let room = Room::new(alloc)?;
         Ok(Case {
             tree: Tree::new(alloc),
             members: Members::new(alloc),
@@ -28,48 +40,70 @@ impl Case {
         })
     }
 
-    /// Does what a line asks for, and says what came of it. `InvalidInput` where not all is known that is needed for that.
-    pub fn answer(&mut self, alloc: Global, line: Line) -> io::Result<String> {
-        match line {
-            Line::Case { name } => self.begin(alloc, name.as_str()),
-            Line::Group { group } => {
-                self.tree.know_group(group);
-                Ok(String::new(alloc))
+    /// What one word says or asks of the case, with the others.
+    fn go_on(&mut self, alloc: Global, word: &str, rest: &[&str], text: &mut Text) -> Option<()> {
+        match word {
+            "case" => self.begin(alloc, rest, text),
+            "group" => {
+                self.tree.know_group(group(rest)?);
+                Some(())
             }
-            Line::Node { key } => {
-                self.tree.know_key(key)?;
-                Ok(String::new(alloc))
+            "node" => self.tree.know_key(path_key(rest)?).ok(),
+            "tell" => self.tell(rest, text),
+            _ => self.ask(alloc, word, rest, text),
+        }
+    }
+
+    /// What is asked of all stores.
+    fn ask(&mut self, alloc: Global, word: &str, rest: &[&str], text: &mut Text) -> Option<()> {
+        match word {
+            "push" => self.give(alloc, rest, text),
+            "try" => self.give_once(alloc, rest, text),
+            "keys" => {
+                self.members.add_keys(text);
+                Some(())
             }
-            Line::Tell { member, leaf, last } => self.tell(alloc, member, leaf, last),
-            Line::Push { datagram } => {
-                self.members
-                    .give(alloc, datagram.as_slice(), &mut self.room)
-            }
-            Line::Try { last, datagram } => self.give_once(alloc, last, datagram.as_slice()),
-            Line::Keys => self.members.keys(alloc),
+            _ => None,
         }
     }
 
     /// Forgets what is known, and all stores.
-    fn begin(&mut self, alloc: Global, name: &str) -> io::Result<String> {
+    fn begin(&mut self, alloc: Global, words: &[&str], text: &mut Text) -> Option<()> {
+        let [name] = words else {
+            return None;
+        };
         self.tree = Tree::new(alloc);
         self.members = Members::new(alloc);
-        Ok(format!(in alloc; "case {name}\n")?)
+        text.add("case ");
+        text.add(name);
+        text.add("\n");
+        Some(())
     }
 
-    fn tell(
-        &mut self,
-        alloc: Global,
-        member: MemberName,
-        leaf: LkhId,
-        last: u32,
-    ) -> io::Result<String> {
+    fn tell(&mut self, words: &[&str], text: &mut Text) -> Option<()> {
+        let [member, leaf, last] = words else {
+            return None;
+        };
+        let (member, leaf, last) = (name(member)?, position(leaf)?, number(last)?);
         let keyed = self.tree.reply(leaf, last)?;
-        self.members.tell(alloc, member, keyed)
+        self.members.tell(member, keyed, text)
     }
 
-    fn give_once(&mut self, alloc: Global, last: u32, datagram: &[u8]) -> io::Result<String> {
-        self.members
-            .give_once(alloc, &self.tree, last, datagram, &mut self.room)
+    fn give(&mut self, alloc: Global, words: &[&str], text: &mut Text) -> Option<()> {
+        let [datagram] = words else {
+            return None;
+        };
+        let datagram = octets(alloc, datagram)?;
+        self.members.give(datagram.as_slice(), &mut self.room, text);
+        Some(())
+    }
+
+    fn give_once(&mut self, alloc: Global, words: &[&str], text: &mut Text) -> Option<()> {
+        let [last, datagram] = words else {
+            return None;
+        };
+        let last = number(last)?;
+        let datagram = octets(alloc, datagram)?;
+        self.members.give_once(&self.tree, last, datagram.as_slice(), &mut self.room, text)
     }
 }

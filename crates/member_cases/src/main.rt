@@ -10,43 +10,41 @@
 //! push OCTETS                  each store is given a datagram, in the order in which they were made
 //! try LAST OCTETS              likewise, but in place of each store one at its leaf, made for this alone of what is known now and this last number
 //! keys                         the leaf and the traffic key of each store
+//! write FILE DEPTH GOING COUNT a group of its own is made, and what it sends in COUNT batches is left in a file
+//! read FILE                    the stores of 16 members are given all of such a file, so that the time of it can be taken from outside
 //! ```
 //!
 //! A line on a store is `NAME ANSWER / ROOT-EPOCH TRAFFIC-EPOCH LAST`: its member, what came of it, and after that the epochs of the keys of its root and of the
 //! traffic, and its last number. An answer is `made`, `renewed` or `older LAST GOT`; `root EPOCH` or `traffic EPOCH`, or why a datagram was refused; or `leaf
 //! POSITION` and the traffic key.
+//!
+//! A file has the pushes of its group, and the replies to 16 members. Members come in until a tree of this depth is full. From then on GOING members go out
+//! with each batch, and the members who went out with the batch before it come back. What came of the reading is printed.
 #![tactic(auto)]
 
+use case_lines::answer_all;
 use cases::Case;
-use lines::read_line;
+use group_terms::NoMemory;
 use std::io;
-use std::io::{BufRead, BufReader};
+use std::io::ErrorKind;
 
 mod answers;
 mod cases;
-mod lines;
+mod churns;
+mod groups;
 mod members;
+mod no_disks;
+mod readings;
+mod records;
+mod replies;
+mod stores;
+mod tallies;
 mod trees;
 mod words;
 
 fn main(rt: HostRuntime) -> io::Result<()> {
-    let mut case = Case::new(rt.alloc())?;
-    answer_all(&rt, &mut case)
-}
-
-/// Answers standard input, line by line.
-fn answer_all(rt: &HostRuntime, case: &mut Case) -> io::Result<()> {
-    let input = BufReader::new(rt.alloc(), rt.reader())?;
-    for line in input.lines(rt.alloc()) {
-        let line = line?;
-        answer(rt, case, line.as_str())?;
+    match Case::new(rt.alloc()) {
+        Ok(mut case) => answer_all(&rt, &mut case),
+        Err(NoMemory) => Err(ErrorKind::OutOfMemory.into()),
     }
-    Ok(())
-}
-
-fn answer(rt: &HostRuntime, case: &mut Case, line: &str) -> io::Result<()> {
-    let line = read_line(rt.alloc(), line)?;
-    let answer = case.answer(rt.alloc(), line)?;
-    print!(rt; "{answer}")?;
-    Ok(())
 }

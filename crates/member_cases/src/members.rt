@@ -2,13 +2,13 @@
 ghost use Rattle.std.specs.Prelude.{◌<◌, vec_len, IfSome};
 ghost use Rattle.member_store.specs.Stores.{IsReply};
 
-use crate::answers::{Answer, keys_line, line};
+use crate::answers::{Answer, add_keys_line, add_line};
 use crate::trees::Tree;
+use case_lines::Text;
 use gd_edges::TestVerifier;
 use group_terms::{Keyed, MemberName};
 use member_store::{MemberStore, Room};
 use std::alloc::Global;
-use std::io;
 
 /// A member that was told its keys.
 #[derive(Drop)]
@@ -19,40 +19,41 @@ struct Member {
 
 impl Member {
     /// Tells it its keys again, and says what comes of it.
-    fn renew(&mut self, alloc: Global, keyed: Keyed) -> io::Result<String>
+    fn renew(&mut self, keyed: Keyed, text: &mut Text)
         requires { IsReply keyed }
     {
         let answer = match self.store.renew(keyed) {
             Ok(()) => Answer::Renewed,
             Err(older) => Answer::Older { older },
         };
-        line(alloc, &self.name, answer, &self.store)
+        add_line(&self.name, &answer, &self.store, text);
     }
 
     /// Gives it a datagram, and says what comes of it.
-    fn give(&mut self, alloc: Global, datagram: &[u8], room: &mut Room) -> io::Result<String> {
+    fn give(&mut self, datagram: &[u8], room: &mut Room, text: &mut Text) {
         let answer = match self.store.accept(datagram, &TestVerifier::new(), room) {
             Ok(taken) => Answer::Taken { taken },
             Err(refusal) => Answer::Refused { refusal },
         };
-        line(alloc, &self.name, answer, &self.store)
+        add_line(&self.name, &answer, &self.store, text);
     }
 
     /// Gives a datagram to a store at its leaf that is made for this alone, of what is known now and this last number.
     fn give_once(
         &self,
-        alloc: Global,
         tree: &Tree,
         last: u32,
         datagram: &[u8],
         room: &mut Room,
-    ) -> io::Result<String> {
+        text: &mut Text,
+    ) -> Option<()> {
         let keyed = tree.reply(self.store.leaf(), last)?;
         let mut member = Member {
             name: self.name,
             store: MemberStore::new(keyed),
         };
-        member.give(alloc, datagram, room)
+        member.give(datagram, room, text);
+        Some(())
     }
 }
 
@@ -70,24 +71,26 @@ impl Members {
         }
     }
 
-    /// Tells a member its keys, and says what comes of it.
-    pub fn tell(&mut self, alloc: Global, name: MemberName, keyed: Keyed) -> io::Result<String>
+    /// Tells a member its keys, and says what comes of it. `None` where there is no memory for its store.
+    pub fn tell(&mut self, name: MemberName, keyed: Keyed, text: &mut Text) -> Option<()>
         requires { IsReply keyed }
     {
         match self.place(&name) {
-            Some(place) => self.list[place].renew(alloc, keyed),
-            None => self.make(alloc, name, keyed),
+            Some(place) => {
+                self.list[place].renew(keyed, text);
+                Some(())
+            }
+            None => self.make(name, keyed, text),
         }
     }
 
     /// Makes the store of a member that has none.
-    fn make(&mut self, alloc: Global, name: MemberName, keyed: Keyed) -> io::Result<String>
+    fn make(&mut self, name: MemberName, keyed: Keyed, text: &mut Text) -> Option<()>
         requires { IsReply keyed }
     {
         let store = MemberStore::new(keyed);
-        let line = line(alloc, &name, Answer::Made, &store)?;
-        self.list.push(Member { name, store })?;
-        Ok(line)
+        add_line(&name, &Answer::Made, &store, text);
+        self.list.push(Member { name, store }).ok()
     }
 
     /// Where a member is in the list.
@@ -98,39 +101,31 @@ impl Members {
     }
 
     /// Gives each store a datagram: a line each.
-    pub fn give(&mut self, alloc: Global, datagram: &[u8], room: &mut Room) -> io::Result<String> {
-        let mut text = String::new(alloc);
+    pub fn give(&mut self, datagram: &[u8], room: &mut Room, text: &mut Text) {
         for member in self.list.iter_mut() {
-            let line = member.give(alloc, datagram, room)?;
-            text.push_str(line.as_str())?;
+            member.give(datagram, room, text);
         }
-        Ok(text)
     }
 
     /// Gives a datagram to a store at the leaf of each, made for this alone: a line each.
     pub fn give_once(
         &self,
-        alloc: Global,
         tree: &Tree,
         last: u32,
         datagram: &[u8],
         room: &mut Room,
-    ) -> io::Result<String> {
-        let mut text = String::new(alloc);
+        text: &mut Text,
+    ) -> Option<()> {
         for member in self.list.iter() {
-            let line = member.give_once(alloc, tree, last, datagram, room)?;
-            text.push_str(line.as_str())?;
+            member.give_once(tree, last, datagram, room, text)?;
         }
-        Ok(text)
+        Some(())
     }
 
     /// The leaf and the traffic key of each store: a line each.
-    pub fn keys(&self, alloc: Global) -> io::Result<String> {
-        let mut text = String::new(alloc);
+    pub fn add_keys(&self, text: &mut Text) {
         for member in self.list.iter() {
-            let line = keys_line(alloc, &member.name, &member.store)?;
-            text.push_str(line.as_str())?;
+            add_keys_line(&member.name, &member.store, text);
         }
-        Ok(text)
     }
 }

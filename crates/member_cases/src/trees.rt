@@ -1,12 +1,10 @@
 //! The keys of a group, as lines name them.
-ghost use Rattle.std.specs.Prelude.{◌≡◌, ◌<◌, ◌≤◌, length, IfOk, IfSome, vec_len};
+ghost use Rattle.std.specs.Prelude.{◌≡◌, ◌<◌, ◌≤◌, length, IfSome, vec_len};
 ghost use Rattle.kd_wire.specs.Texts.{IsPath, LeadsUp};
 ghost use Rattle.member_store.specs.Stores.{IsReply, root_of};
 
-use group_terms::{Keyed, LONGEST_PATH, LkhId, Path, PathKey, TrafficValue};
+use group_terms::{Keyed, LONGEST_PATH, LkhId, NoMemory, Path, PathKey, TrafficValue};
 use std::alloc::Global;
-use std::io;
-use std::io::ErrorKind;
 
 /// What all members of a group are told: the SPI of its Rekey SA, and its traffic key.
 #[derive(Clone, Copy)]
@@ -36,7 +34,7 @@ impl Tree {
     }
 
     /// From now on its position has this key.
-    pub fn know_key(&mut self, key: PathKey) -> io::Result<()> {
+    pub fn know_key(&mut self, key: PathKey) -> Result<(), NoMemory> {
         match self.place(key.id) {
             Some(place) => {
                 self.keys[place] = key;
@@ -49,21 +47,19 @@ impl Tree {
         }
     }
 
-    /// What a member at a leaf is told, where the last push had this number. `InvalidInput` where a key from there up to the root is not known, or anything else
+    /// What a member at a leaf is told, where the last push had this number. `None` where a key from there up to the root is not known, or anything else
     /// of the group, or the leaf is the root.
-    pub fn reply(&self, leaf: LkhId, sequence: u32) -> io::Result<Keyed>
-        ensures { IfOk result IsReply }
+    pub fn reply(&self, leaf: LkhId, sequence: u32) -> Option<Keyed>
+        ensures { IfSome result IsReply }
     {
-        let Some(group) = self.group else {
-            return Err(ErrorKind::InvalidInput.into());
-        };
+        let group = self.group?;
         let path = self.path(leaf)?;
-        Ok(keyed(group, path, sequence))
+        Some(keyed(group, path, sequence))
     }
 
     /// The keys from a leaf up to the root.
-    fn path(&self, leaf: LkhId) -> io::Result<Path>
-        ensures { IfOk result IsPath }
+    fn path(&self, leaf: LkhId) -> Option<Path>
+        ensures { IfSome result IsPath }
     {
         let mut path = Path::new();
         let mut at = leaf;
@@ -74,20 +70,15 @@ impl Tree {
             };
             at = above;
         }
-        Err(ErrorKind::InvalidInput.into())
+        None
     }
 
     /// The key of a position.
-    fn key(&self, id: LkhId) -> io::Result<PathKey>
-        ensures { IfOk result (λ key. key.id ≡ id) }
+    fn key(&self, id: LkhId) -> Option<PathKey>
+        ensures { IfSome result (λ key. key.id ≡ id) }
     {
-        match self.place(id) {
-            Some(place) => {
-                let PathKey { made, value, .. } = self.keys[place];
-                Ok(PathKey { id, made, value })
-            }
-            None => Err(ErrorKind::InvalidInput.into()),
-        }
+        let PathKey { made, value, .. } = self.keys[self.place(id)?];
+        Some(PathKey { id, made, value })
     }
 
     /// Where the key of a position is kept.
@@ -99,18 +90,18 @@ impl Tree {
 }
 
 /// Keys that lead up to the root, if they are those of a leaf.
-fn whole(path: Path) -> io::Result<Path>
+fn whole(path: Path) -> Option<Path>
     requires { LeadsUp path }
-    ensures { IfOk result IsPath }
+    ensures { IfSome result IsPath }
 {
     if path.keys().len() < 2 {
-        return Err(ErrorKind::InvalidInput.into());
+        return None;
     }
-    Ok(path)
+    Some(path)
 }
 
 /// What a member with this path is told.
-fn keyed(group: Group, path: Path, sequence: u32) -> Keyed
+pub fn keyed(group: Group, path: Path, sequence: u32) -> Keyed
     requires { IsPath path }
     ensures { IsReply result }
 {

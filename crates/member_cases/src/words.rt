@@ -1,50 +1,39 @@
-//! What the words of a line stand for; `InvalidInput` where they stand for nothing.
+//! What the words of a line stand for; `None` where they stand for nothing.
 
-use group_terms::{LkhId, MemberName};
-use hex::FromHexError;
-use std::alloc::Global;
-use std::io;
-use std::io::ErrorKind;
-
-/// A number of 32 bits.
-pub fn number(word: &str) -> io::Result<u32> {
-    match word.parse::<u32>() {
-        Ok(number) => Ok(number),
-        Err(_) => Err(ErrorKind::InvalidInput.into()),
-    }
-}
+use crate::trees::Group;
+use case_lines::{array, number};
+use group_terms::{LkhId, MemberName, NodeValue, PathKey, TrafficValue};
 
 /// A position of the tree.
-pub fn position(word: &str) -> io::Result<LkhId> {
-    let number = word.parse::<u16>().map_err(|_| ErrorKind::InvalidInput)?;
-    match LkhId::new(number) {
-        Some(position) => Ok(position),
-        None => Err(ErrorKind::InvalidInput.into()),
-    }
+pub fn position(word: &str) -> Option<LkhId> {
+    LkhId::new(word.parse::<u16>().ok()?)
 }
 
-pub fn name(word: &str) -> io::Result<MemberName> {
-    match MemberName::read(word.as_bytes()) {
-        Some(name) => Ok(name),
-        None => Err(ErrorKind::InvalidInput.into()),
-    }
+pub fn name(word: &str) -> Option<MemberName> {
+    MemberName::read(word.as_bytes())
 }
 
-/// So many octets in hexadecimal.
-pub fn array<const N: usize>(word: &str) -> io::Result<[u8; N]> {
-    let mut octets = [0; N];
-    hex::decode_to_slice(word, &mut octets).map_err(|_| ErrorKind::InvalidInput)?;
-    Ok(octets)
+/// What all members of a group are told, in words of hexadecimal.
+pub fn group(words: &[&str]) -> Option<Group> {
+    let [spi, cipher_key, integrity_key, traffic_spi] = words else {
+        return None;
+    };
+    let traffic = TrafficValue {
+        cipher_key: array(cipher_key)?,
+        integrity_key: array(integrity_key)?,
+        spi: array(traffic_spi)?,
+    };
+    let spi = array(spi)?;
+    Some(Group { spi, traffic })
 }
 
-/// Octets in hexadecimal, or `-` for none.
-pub fn octets(alloc: Global, word: &str) -> io::Result<Vec<u8>> {
-    if word == "-" {
-        return Ok(Vec::new(alloc));
-    }
-    match hex::decode(alloc, word) {
-        Ok(octets) => Ok(octets),
-        Err(FromHexError::OutOfMemory) => Err(ErrorKind::OutOfMemory.into()),
-        Err(_) => Err(ErrorKind::InvalidInput.into()),
-    }
+/// The key of a position.
+pub fn path_key(words: &[&str]) -> Option<PathKey> {
+    let [id, made, iv, key] = words else {
+        return None;
+    };
+    let (id, made) = (position(id)?, number(made)?);
+    let (iv, key) = (array(iv)?, array(key)?);
+    let value = NodeValue { iv, key };
+    Some(PathKey { id, made, value })
 }

@@ -9,5 +9,3 @@ pub use refusals::PullRefusal;
 mod laws;
 mod pulls;
 mod refusals;
-#[cfg(test)]
-mod tests;

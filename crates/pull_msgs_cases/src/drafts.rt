@@ -1,29 +1,37 @@
 //! Messages that are put together from the framing and the ciphers, with any payloads after the HASH.
-use gd_cipher::{Hmac, Key128, cbc_seal};
-use gd_wire::{Header, fault, write_header, write_padding, write_payload};
-use group_terms::WireWhat;
+ghost use Rattle.std.specs.Prelude.{◌≤◌, length};
+
+use crate::known::nonce_of;
+use gd_cipher::{Hmac, Key128, cbc_seal, phase2_iv};
+use gd_wire::{
+    Header, fault, write_header, write_identification, write_payload, write_payload_head,
+};
+use group_terms::{NoMemory, WireWhat};
 use pull_msgs::{Nonce, Octets, Phase1, PullFault};
 use std::alloc::Global;
-use std::test::Fail;
 
 pub(crate) const MESSAGE: [u8; 4] = [128, 0, 0, 1];
 
 pub(crate) const IV: [u8; 16] = [9; 16];
 
 /// The kinds of payloads.
-pub(crate) const SA: u8 = 1;
-
-pub(crate) const IDENTIFICATION: u8 = 5;
+const IDENTIFICATION: u8 = 5;
 
 const HASH: u8 = 8;
 
 pub(crate) const NONCE: u8 = 10;
 
-pub(crate) const KD: u8 = 17;
-
 pub(crate) const SEQUENCE: u8 = 18;
 
 pub(crate) const GAP: u8 = 22;
+
+/// The payload of a nonce of 16 octets, which names an SA payload.
+pub(crate) const NONCE_PAYLOAD: [u8; 20] = [
+    1, 0, 0, 20, 5, 5, 5, 5, 5, 5, 5, 5, 5, 5, 5, 5, 5, 5, 5, 5,
+];
+
+/// The payload of the sequence number 7, which names a key download.
+pub(crate) const SEQUENCE_PAYLOAD: [u8; 8] = [17, 0, 0, 8, 0, 0, 0, 7];
 
 pub(crate) fn phase() -> Phase1 {
     Phase1 {
@@ -36,8 +44,8 @@ pub(crate) fn phase() -> Phase1 {
 }
 
 /// The nonce of both sides.
-pub(crate) fn nonce() -> Result<Nonce, Fail> {
-    Ok(Nonce::read(&[5; 16]).ok_or("a nonce")?)
+pub(crate) fn nonce() -> Nonce {
+    nonce_of(&[5; 16])
 }
 
 pub(crate) fn malformed(what: WireWhat, at: u32) -> Option<PullFault> {
@@ -46,41 +54,55 @@ pub(crate) fn malformed(what: WireWhat, at: u32) -> Option<PullFault> {
     })
 }
 
+/// A first message with such a nonce, and such an identification.
+pub(crate) fn first(alloc: Global, nonce: &[u8], id: &[u8]) -> Result<Octets, NoMemory>
+    requires nonce { length nonce.now ≤ 200 }
+    requires id { length id.now ≤ 400 }
+{
+    let mut payloads = Octets::new(alloc);
+    write_payload(IDENTIFICATION, nonce, &mut payloads)?;
+    write_payload_head(0, 4 + id.len(), &mut payloads)?;
+    write_identification(4, id, &mut payloads)?;
+    let iv = phase2_iv(&phase().last, &MESSAGE);
+    message(alloc, &iv, NONCE, payloads.as_slice(), &[])
+}
+
 /// A message with these payloads after the HASH, the first of which is of this kind.
 pub(crate) fn message(
     alloc: Global,
     iv: &[u8; 16],
     kind: u8,
-    payloads: &Octets,
+    payloads: &[u8],
     nonces: &[u8],
-) -> Result<Octets, Fail> {
-    let mut text = text_of(alloc, kind, payloads, nonces)?;
-    let mut out = Octets::copy_of(alloc, &write_header(&header(text.len())?))?;
-    seal(&mut text, iv)?;
-    out.extend(text.as_slice())?;
+) -> Result<Octets, NoMemory> {
+    let zeros = zeros_after(payloads.len());
+    let mut out = Octets::new(alloc);
+    out.extend(&write_header(&header(payloads.len(), zeros)))?;
+    write_payload(kind, &hash_of(nonces, payloads), &mut out)?;
+    out.extend(payloads)?;
+    out.extend(&[0; 15][..zeros])?;
+    seal(&mut out, iv);
     Ok(out)
 }
 
-/// The header of a message with so many octets after it.
-fn header(size: usize) -> Result<Header, Fail> {
+/// How many zeros fill a block after the 36 octets of a HASH payload and so many of others.
+fn zeros_after(payloads: usize) -> usize
+    ensures { result ≤ 15 }
+{
+    (16 - (payloads % 16 + 4) % 16) % 16
+}
+
+/// The header of a message with so many octets of payloads after the HASH, and so many zeros.
+fn header(payloads: usize, zeros: usize) -> Header {
+    let size = payloads.saturating_add(zeros).saturating_add(28 + 36);
     let cookies = phase().cookies;
-    Ok(Header {
+    Header {
         cookies,
         next: HASH,
         exchange: 32,
         message: MESSAGE,
-        length: u32::try_from(size.saturating_add(28))?,
-    })
-}
-
-/// The HASH, the payloads, and the zeros that fill a block.
-fn text_of(alloc: Global, kind: u8, payloads: &Octets, nonces: &[u8]) -> Result<Octets, Fail> {
-    let mut text = Octets::new(alloc);
-    write_payload(kind, &hash_of(nonces, payloads.as_slice()), &mut text)?;
-    text.extend(payloads.as_slice())?;
-    text.extend(&[0; 15])?;
-    text.truncate(text.len().saturating_sub(text.len() % 16));
-    Ok(text)
+        length: u32::try_from(size).unwrap_or(0),
+    }
 }
 
 fn hash_of(nonces: &[u8], payloads: &[u8]) -> [u8; 32] {
@@ -91,11 +113,11 @@ fn hash_of(nonces: &[u8], payloads: &[u8]) -> [u8; 32] {
     hash.finish()
 }
 
-/// Seals a text of whole blocks.
-fn seal(text: &mut Octets, iv: &[u8; 16]) -> Result<(), Fail> {
-    if text.len() % 16 != 0 {
-        return Err("no whole blocks".into());
+/// Seals all after the header.
+fn seal(out: &mut Octets, iv: &[u8; 16]) {
+    if let Some((_, text)) = out.as_mut_slice().split_at_mut_checked(28) {
+        if text.len() % 16 == 0 {
+            cbc_seal(&Key128::new(phase().key), iv, text);
+        }
     }
-    cbc_seal(&Key128::new(phase().key), iv, text.as_mut_slice());
-    Ok(())
 }

@@ -1,7 +1,6 @@
 //! A pull that another implementation made: what both sides know, its messages, and the keys that it gives.
-use group_terms::{Keyed, LkhId, MemberName, NodeValue, Path, PathKey, TrafficValue};
-use pull_msgs::{Nonce, Phase1};
-use std::test::Fail;
+use group_terms::{Keyed, LkhId, MemberName, NoMemory, NodeValue, Path, PathKey, TrafficValue};
+use pull_msgs::{GroupName, Nonce, Octets, Phase1};
 
 pub(crate) const FIRST: &str =
     "5af0404596b21f9f7b6e73d7963c8e2008102001800000010000006caa4b011d670dc71900d75d95a78d86e3f639825b150fbf75932d3327\
@@ -53,10 +52,26 @@ const PATH: [(u16, u32, &str, &str); 3] = [
     ),
 ];
 
-pub(crate) fn octets<const N: usize>(text: &str) -> Result<[u8; N], Fail> {
+/// The nonces of both sides.
+pub(crate) const NI: &str = "000102030405060708090a0b0c0d0e0f";
+
+pub(crate) const NR: &str = "101112131415161718191a1b1c1d1e1f";
+
+/// The octets of hexadecimal digits; zeros for other characters, with which no case holds.
+pub(crate) fn octets<const N: usize>(text: &str) -> [u8; N] {
     let mut octets = [0; N];
-    hex::decode_to_slice(text, &mut octets)?;
-    Ok(octets)
+    match hex::decode_to_slice(text, &mut octets) {
+        Ok(()) => octets,
+        Err(_) => [0; N],
+    }
+}
+
+/// Whether a message was written, with these octets.
+pub(crate) fn has_octets(written: Result<Octets, NoMemory>, octets: &[u8]) -> bool {
+    match written {
+        Ok(written) => written.as_slice() == octets,
+        Err(NoMemory) => false,
+    }
 }
 
 /// The phase 1 SA, and the nonces of both sides.
@@ -67,62 +82,71 @@ pub(crate) struct Known {
     pub(crate) nr: Nonce,
 }
 
-pub(crate) fn what_is_known() -> Result<Known, Fail> {
-    Ok(Known {
-        phase: phase()?,
-        ni: nonce("000102030405060708090a0b0c0d0e0f")?,
-        nr: nonce("101112131415161718191a1b1c1d1e1f")?,
-    })
+pub(crate) fn what_is_known() -> Known {
+    Known {
+        phase: phase(),
+        ni: nonce(NI),
+        nr: nonce(NR),
+    }
 }
 
-fn phase() -> Result<Phase1, Fail> {
-    Ok(Phase1 {
+pub(crate) fn phase() -> Phase1 {
+    Phase1 {
         member: MemberName::default(),
-        cookies: octets("5af0404596b21f9f7b6e73d7963c8e20")?,
-        skeyid_a: octets("83e14feb60d288465209454f412d43edb6a0e2bbd26675eae2e7d1a52caf420d")?,
-        key: octets("b192d75381ea3fc475d29a7e636954ae")?,
-        last: octets("2452eb3a9249f8ec8d829d9bddd4ceb1")?,
-    })
+        cookies: octets("5af0404596b21f9f7b6e73d7963c8e20"),
+        skeyid_a: octets("83e14feb60d288465209454f412d43edb6a0e2bbd26675eae2e7d1a52caf420d"),
+        key: octets("b192d75381ea3fc475d29a7e636954ae"),
+        last: octets("2452eb3a9249f8ec8d829d9bddd4ceb1"),
+    }
 }
 
-pub(crate) fn nonce(text: &str) -> Result<Nonce, Fail> {
-    Ok(Nonce::read(&octets::<16>(text)?).ok_or("a nonce")?)
+pub(crate) fn nonce(text: &str) -> Nonce {
+    nonce_of(&octets(text))
+}
+
+pub(crate) fn nonce_of(octets: &[u8; 16]) -> Nonce {
+    Nonce::read(octets).unwrap()
+}
+
+/// The group that members ask for.
+pub(crate) fn group() -> GroupName {
+    GroupName::read(b"console").unwrap()
 }
 
 /// What member a has at epoch 2.
-pub(crate) fn keyed() -> Result<Keyed, Fail> {
-    Ok(Keyed {
+pub(crate) fn keyed() -> Keyed {
+    Keyed {
         epoch: 2,
         sequence: 2,
-        spi: octets(SPI)?,
-        path: path()?,
-        traffic: traffic()?,
-    })
+        spi: octets(SPI),
+        path: path(),
+        traffic: traffic(),
+    }
 }
 
-pub(crate) fn path() -> Result<Path, Fail> {
+pub(crate) fn path() -> Path {
     let mut path = Path::new();
     for (id, made, iv, key) in PATH {
         if path.keys().len() < 3 {
-            path.push(path_key(id, made, iv, key)?);
+            path.push(path_key(id, made, iv, key));
         }
     }
-    Ok(path)
+    path
 }
 
-fn path_key(id: u16, made: u32, iv: &str, key: &str) -> Result<PathKey, Fail> {
-    let id = LkhId::new(id).ok_or("a position")?;
+fn path_key(id: u16, made: u32, iv: &str, key: &str) -> PathKey {
+    let id = LkhId::new(id).unwrap_or_default();
     let value = NodeValue {
-        iv: octets(iv)?,
-        key: octets(key)?,
+        iv: octets(iv),
+        key: octets(key),
     };
-    Ok(PathKey { id, made, value })
+    PathKey { id, made, value }
 }
 
-pub(crate) fn traffic() -> Result<TrafficValue, Fail> {
-    Ok(TrafficValue {
-        cipher_key: octets("09f49ef20ca9f70a17887ec0638752aa")?,
-        integrity_key: octets("333c7d794bca672b2c6410c147ec51218ccb84ee105fd84218cba8e25f33b7c3")?,
-        spi: octets("9ac3e826")?,
-    })
+pub(crate) fn traffic() -> TrafficValue {
+    TrafficValue {
+        cipher_key: octets("09f49ef20ca9f70a17887ec0638752aa"),
+        integrity_key: octets("333c7d794bca672b2c6410c147ec51218ccb84ee105fd84218cba8e25f33b7c3"),
+        spi: octets("9ac3e826"),
+    }
 }

@@ -1,4 +1,4 @@
-//! Tests of the messages of a pull: as another implementation writes them, of other shapes, and of other pulls.
+//! Tests of the messages of a pull and of the member's side of it: as another implementation writes them, of other shapes, and of other pulls.
 #![tactic(auto)]
 
 #[cfg(test)]
@@ -13,5 +13,7 @@ mod reads;
 mod rows;
 #[cfg(test)]
 mod shapes;
+#[cfg(test)]
+mod steps;
 #[cfg(test)]
 mod writes;

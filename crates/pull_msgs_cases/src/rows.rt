@@ -1,13 +1,12 @@
 //! The pulls of three members of one group, whose octets another implementation wrote: what is read of them is written again as the same
 //! octets.
-use crate::known::{nonce, octets};
-use group_terms::MemberName;
+use crate::known::{group, has_octets, nonce, octets};
+use group_terms::{MemberName, NoMemory};
 use pull_msgs::{
-    GroupName, Keyed, Nonce, Octets, Phase1, Second, next_iv, read_fourth, read_second,
-    write_first, write_fourth, write_second, write_third,
+    Keyed, Nonce, Octets, Phase1, Second, next_iv, read_fourth, read_second, write_first,
+    write_fourth, write_second, write_third,
 };
 use std::alloc::Global;
-use std::test::Fail;
 
 /// A phase 1 SA, the message id and the nonce of a pull, and the two messages of the server.
 #[derive(Clone, Copy)]
@@ -91,94 +90,94 @@ const ROWS: [Row; 3] = [
     },
 ];
 
-fn phase(row: &Row) -> Result<Phase1, Fail> {
-    Ok(Phase1 {
-        member: MemberName::default(),
-        cookies: octets(row.cookies)?,
-        skeyid_a: octets(row.skeyid_a)?,
-        key: octets(row.key)?,
-        last: octets(row.last)?,
-    })
+/// What both sides of a pull know.
+#[derive(Drop)]
+struct Pull {
+    phase: Phase1,
+    message: [u8; 4],
+    ni: Nonce,
 }
 
-/// The IV of the answer to the first message.
-fn first_iv(alloc: Global, row: &Row, ni: &Nonce) -> Result<[u8; 16], Fail> {
-    let group = GroupName::read(b"console").ok_or("a name")?;
-    let message = octets(row.message)?;
-    let first = write_first(alloc, &phase(row)?, &message, ni, &group)?;
-    if first.len() < 16 {
-        return Err("a short message".into());
+fn pull_of(row: &Row) -> Pull {
+    Pull {
+        phase: Phase1 {
+            member: MemberName::default(),
+            cookies: octets(row.cookies),
+            skeyid_a: octets(row.skeyid_a),
+            key: octets(row.key),
+            last: octets(row.last),
+        },
+        message: octets(row.message),
+        ni: nonce(row.ni),
     }
-    Ok(next_iv(first.as_slice()))
 }
 
-/// The answer, read and written again.
-fn second_again(alloc: Global, row: &Row, ni: &Nonce) -> Result<(Second, Octets), Fail> {
-    let (phase, message) = (phase(row)?, octets(row.message)?);
-    let iv = first_iv(alloc, row, ni)?;
-    let text = octets::<236>(row.second)?;
-    let read = read_second(alloc, &text, &phase, &message, &iv, ni).map_err(|_| "refused")?;
-    let written = write_second(alloc, &phase, &message, &iv, ni, &read.nr, &read.policy)?;
-    Ok((read, written))
-}
-
-/// The IV of the keys.
-fn third_iv(alloc: Global, row: &Row, ni: &Nonce, second: &Second) -> Result<[u8; 16], Fail> {
-    let (phase, message) = (phase(row)?, octets(row.message)?);
-    let third = write_third(alloc, &phase, &message, &second.next_iv, ni, &second.nr)?;
-    if third.len() < 16 {
-        return Err("a short message".into());
+#[test]
+fn messages_are_written_again(rt: HostRuntime) {
+    let mut holds = true;
+    for row in ROWS {
+        holds &= is_written_again(rt.alloc(), &row);
     }
-    Ok(next_iv(third.as_slice()))
+    assert!(rt; holds);
 }
 
-/// The keys, read and written again.
-fn fourth_again(
+fn is_written_again(alloc: Global, row: &Row) -> bool {
+    let pull = pull_of(row);
+    let Pull { phase, message, ni } = &pull;
+    match iv_after(write_first(alloc, phase, message, ni, &group())) {
+        Some(iv) => are_written_again(alloc, row, &pull, &iv),
+        None => false,
+    }
+}
+
+/// Whether the server's messages are, the first of them after this IV.
+fn are_written_again(alloc: Global, row: &Row, pull: &Pull, iv: &[u8; 16]) -> bool {
+    let Pull { phase, message, ni } = pull;
+    match read_second(alloc, &octets::<236>(row.second), phase, message, iv, ni) {
+        Ok(second) => {
+            let answer = answer_is_written_again(alloc, row, pull, &second, iv);
+            answer & (keys_are_written_again(alloc, row, pull, &second) == Some(true))
+        }
+        Err(_) => false,
+    }
+}
+
+/// The IV of what follows a message that was written.
+fn iv_after(written: Result<Octets, NoMemory>) -> Option<[u8; 16]> {
+    match written {
+        Ok(written) if written.len() >= 16 => Some(next_iv(written.as_slice())),
+        _ => None,
+    }
+}
+
+fn answer_is_written_again(
     alloc: Global,
     row: &Row,
-    ni: &Nonce,
+    pull: &Pull,
     second: &Second,
-) -> Result<(Keyed, Octets), Fail> {
-    let iv = third_iv(alloc, row, ni, second)?;
-    let (phase, message) = (phase(row)?, octets(row.message)?);
-    let spi = second.policy.kek.ok_or("no policy")?.spi;
-    let text = octets::<332>(row.fourth)?;
+    iv: &[u8; 16],
+) -> bool {
+    let Pull { phase, message, ni } = pull;
+    let Second { nr, policy, .. } = second;
+    if policy.kek.is_none() || policy.tek.is_none() {
+        return false;
+    }
+    let written = write_second(alloc, phase, message, iv, ni, nr, policy);
+    has_octets(written, &octets::<236>(row.second))
+}
+
+fn keys_are_written_again(alloc: Global, row: &Row, pull: &Pull, second: &Second) -> Option<bool> {
+    let Pull { phase, message, ni } = pull;
     let nr = &second.nr;
-    let read = read_fourth(alloc, &text, &phase, &message, &iv, ni, nr, &spi);
-    let keyed = read.map_err(|_| "refused")?;
-    let written = write_fourth(alloc, &phase, &message, &iv, ni, nr, &keyed)?;
-    Ok((keyed, written))
+    let spi = second.policy.kek?.spi;
+    let iv = iv_after(write_third(alloc, phase, message, &second.next_iv, ni, nr))?;
+    let text = octets::<332>(row.fourth);
+    let keyed = read_fourth(alloc, &text, phase, message, &iv, ni, nr, &spi).ok()?;
+    let written = write_fourth(alloc, phase, message, &iv, ni, nr, &keyed);
+    Some(has_octets(written, &text) & is_of_the_first_epoch(&keyed))
 }
 
-#[test]
-fn answers_are_written_again(rt: HostRuntime) -> Result<(), Fail> {
-    for row in ROWS {
-        let written = second_written(rt.alloc(), &row)?;
-        assert_eq!(rt; written.as_slice(), octets::<236>(row.second)?.as_slice());
-    }
-    Ok(())
-}
-
-fn second_written(alloc: Global, row: &Row) -> Result<Octets, Fail> {
-    let (_, written) = second_again(alloc, row, &nonce(row.ni)?)?;
-    Ok(written)
-}
-
-#[test]
-fn keys_are_written_again(rt: HostRuntime) -> Result<(), Fail> {
-    for row in ROWS {
-        let (sizes, written) = fourth_written(rt.alloc(), &row)?;
-        assert_eq!(rt; sizes, (1, 0, 3));
-        assert_eq!(rt; written.as_slice(), octets::<332>(row.fourth)?.as_slice());
-    }
-    Ok(())
-}
-
-/// The epoch, the sequence number and the length of the path that are read of the keys, and these written again.
-fn fourth_written(alloc: Global, row: &Row) -> Result<((u32, u32, usize), Octets), Fail> {
-    let ni = nonce(row.ni)?;
-    let (second, _) = second_again(alloc, row, &ni)?;
-    let (keyed, written) = fourth_again(alloc, row, &ni, &second)?;
-    let sizes = (keyed.epoch, keyed.sequence, keyed.path.keys().len());
-    Ok((sizes, written))
+/// Keys of epoch 1, before the first push, for a tree of depth 2.
+fn is_of_the_first_epoch(keyed: &Keyed) -> bool {
+    (keyed.epoch == 1) & (keyed.sequence == 0) & (keyed.path.keys().len() == 3)
 }

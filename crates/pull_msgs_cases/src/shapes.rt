@@ -1,148 +1,95 @@
 //! Messages of other shapes: what is told of them, and what is not looked at.
-use crate::drafts::{
-    GAP, IDENTIFICATION, IV, KD, MESSAGE, NONCE, SA, SEQUENCE, malformed, message, nonce, phase,
-};
-use gd_cipher::phase2_iv;
-use gd_wire::{write_identification, write_payload, write_payload_head, write_sequence};
-use group_terms::{SignKind, TrafficValue, WireWhat};
-use kd_wire::{traffic_kd_size, write_traffic_kd};
-use pull_msgs::{
-    First, Octets, PullFault, Third, read_first, read_fourth, read_second, read_third,
-};
-use sa_wire::{KekPolicy, SaPolicy, sa_size, write_sa};
+ghost use Rattle.std.specs.Prelude.{◌≤◌, length};
+
+use crate::drafts::{GAP, IV, MESSAGE, NONCE, SEQUENCE, first, malformed, message, nonce, phase};
+use crate::known::octets;
+use group_terms::{NoMemory, WireWhat};
+use pull_msgs::{First, PullFault, read_first, read_fourth, read_second, read_third};
 use std::alloc::Global;
-use std::test::Fail;
-
-/// A first message with such a nonce, and such an identification.
-pub(crate) fn first(alloc: Global, nonce: &[u8], id: &[u8]) -> Result<Octets, Fail> {
-    if nonce.len() > 200 || id.len() > 400 {
-        return Err("too many octets".into());
-    }
-    let mut payloads = Octets::new(alloc);
-    write_payload(IDENTIFICATION, nonce, &mut payloads)?;
-    write_payload_head(0, 4 + id.len(), &mut payloads)?;
-    write_identification(4, id, &mut payloads)?;
-    let iv = phase2_iv(&phase().last, &MESSAGE);
-    message(alloc, &iv, NONCE, &payloads, &[])
-}
-
-/// What is read of it.
-fn first_read(alloc: Global, nonce: &[u8], id: &[u8]) -> Result<Result<First, PullFault>, Fail> {
-    let datagram = first(alloc, nonce, id)?;
-    Ok(read_first(alloc, datagram.as_slice(), &phase()))
-}
 
 #[test]
-fn identifications_and_nonces_have_any_due_size(rt: HostRuntime) -> Result<(), Fail> {
-    assert!(rt; is_read(rt.alloc(), &[5; 8], &[])?);
-    assert!(rt; is_read(rt.alloc(), &[6; 128], &[7; 300])?);
-    Ok(())
+fn identifications_and_nonces_have_any_due_size(rt: HostRuntime) {
+    let alloc = rt.alloc();
+    let read = is_read(alloc, &[5; 8], &[]) & is_read(alloc, &[6; 128], &[7; 300]);
+    let refused = is_of_another_size(alloc, &[5; 7]) & is_of_another_size(alloc, &[6; 129]);
+    assert!(rt; read & refused);
+}
+
+/// What is read of a first message.
+fn first_read(alloc: Global, nonce: &[u8], id: &[u8]) -> Result<First, PullFault>
+    requires nonce { length nonce.now ≤ 200 }
+    requires id { length id.now ≤ 400 }
+{
+    let datagram = first(alloc, nonce, id)?;
+    read_first(alloc, datagram.as_slice(), &phase())
 }
 
 /// Whether a nonce and an identification are read as they were written.
-fn is_read(alloc: Global, nonce: &[u8], id: &[u8]) -> Result<bool, Fail> {
-    let read = first_read(alloc, nonce, id)?.map_err(|_| "refused")?;
-    Ok(read.ni.octets() == nonce && read.id_type == 4 && read.id.as_slice() == id)
-}
-
-#[test]
-fn nonces_of_other_sizes_are_refused(rt: HostRuntime) -> Result<(), Fail> {
-    for nonce in [[5; 7].as_slice(), &[6; 129]] {
-        let refused = first_read(rt.alloc(), nonce, &[])?.err();
-        assert_eq!(rt; refused, malformed(WireWhat::Length, 66));
+fn is_read(alloc: Global, nonce: &[u8], id: &[u8]) -> bool
+    requires nonce { length nonce.now ≤ 200 }
+    requires id { length id.now ≤ 400 }
+{
+    match first_read(alloc, nonce, id) {
+        Ok(read) => {
+            (read.ni.octets() == nonce) & (read.id_type == 4) & (read.id.as_slice() == id)
+        }
+        Err(_) => false,
     }
-    Ok(())
 }
 
-/// The policy of the KEK alone: told at the first octet of the body.
+fn is_of_another_size(alloc: Global, nonce: &[u8]) -> bool
+    requires { length nonce.now ≤ 200 }
+{
+    first_read(alloc, nonce, &[]).err() == malformed(WireWhat::Length, 66)
+}
+
+/// The policy of the KEK alone, after a nonce.
+const HALF_A_POLICY: &str = "0100001405050505050505050505050505050505\
+    000000590000000200000000000f0000\
+    000000491101035004c000020101035004e9fc00010101010101010101010101010101010100000000\
+    8001000180020003800300800004000400015180800500038006008080070100";
+
+/// The traffic key alone, after a sequence number.
+const HALF_THE_KEYS: &str = "11000008000000070000004900010000010000410403030303\
+    0001001001010101010101010101010101010101\
+    000200200202020202020202020202020202020202020202020202020202020202020202";
+
+/// Of half a policy and of half the keys the first octet of the body is told, and of a second GAP the place where the first one names it. One
+/// GAP is hashed and else not looked at.
 #[test]
-fn half_a_policy_is_refused(rt: HostRuntime) -> Result<(), Fail> {
-    let datagram = half_a_policy(rt.alloc())?;
-    let refused = why_no_second(rt.alloc(), &datagram)?;
-    assert_eq!(rt; refused, malformed(WireWhat::Kind { number: 1 }, 88));
-    Ok(())
+fn messages_of_other_shapes_are_refused(rt: HostRuntime) {
+    let alloc = rt.alloc();
+    let policy = half_a_policy(alloc) == malformed(WireWhat::Kind { number: 1 }, 88);
+    let keys = half_the_keys(alloc) == malformed(WireWhat::Kind { number: 17 }, 76);
+    let one = agreement(alloc, &[0, 0, 0, 7, 1, 2, 3]) == Ok(None);
+    let two = agreement(alloc, &[22, 0, 0, 4, 0, 0, 0, 4]);
+    assert!(rt; policy & keys & one & (two == Ok(malformed(WireWhat::Kind { number: 22 }, 64))));
 }
 
-fn half_a_policy(alloc: Global) -> Result<Octets, Fail> {
-    let sign = SignKind {
-        algorithm: 128,
-        key_bits: 256,
-    };
-    let kek = Some(KekPolicy { spi: [1; 16], sign });
-    let policy = SaPolicy { kek, tek: None };
-    let mut payloads = Octets::new(alloc);
-    write_payload(SA, &[5; 16], &mut payloads)?;
-    write_payload_head(0, sa_size(&policy), &mut payloads)?;
-    write_sa(&policy, &mut payloads)?;
-    message(alloc, &IV, NONCE, &payloads, &[5; 16])
+fn half_a_policy(alloc: Global) -> Option<PullFault> {
+    let payloads = octets::<109>(HALF_A_POLICY);
+    let datagram = message(alloc, &IV, NONCE, &payloads, &[5; 16]).ok()?;
+    read_second(
+        alloc,
+        datagram.as_slice(),
+        &phase(),
+        &MESSAGE,
+        &IV,
+        &nonce(),
+    )
+    .err()
 }
 
-fn why_no_second(alloc: Global, datagram: &Octets) -> Result<Option<PullFault>, Fail> {
-    let nonce = nonce()?;
-    Ok(read_second(alloc, datagram.as_slice(), &phase(), &MESSAGE, &IV, &nonce).err())
+fn half_the_keys(alloc: Global) -> Option<PullFault> {
+    let payloads = octets::<81>(HALF_THE_KEYS);
+    let datagram = message(alloc, &IV, SEQUENCE, &payloads, &[5; 32]).ok()?;
+    let (text, ni, nr) = (datagram.as_slice(), nonce(), nonce());
+    read_fourth(alloc, text, &phase(), &MESSAGE, &IV, &ni, &nr, &[1; 16]).err()
 }
 
-/// The traffic key alone: told at the first octet of the body.
-#[test]
-fn half_the_keys_are_refused(rt: HostRuntime) -> Result<(), Fail> {
-    let datagram = half_the_keys(rt.alloc())?;
-    let refused = why_no_fourth(rt.alloc(), &datagram)?;
-    assert_eq!(rt; refused, malformed(WireWhat::Kind { number: 17 }, 76));
-    Ok(())
-}
-
-fn half_the_keys(alloc: Global) -> Result<Octets, Fail> {
-    let traffic = TrafficValue {
-        cipher_key: [1; 16],
-        integrity_key: [2; 32],
-        spi: [3; 4],
-    };
-    let mut payloads = Octets::new(alloc);
-    write_payload_head(KD, 4, &mut payloads)?;
-    write_sequence(7, &mut payloads)?;
-    write_payload_head(0, traffic_kd_size(&traffic), &mut payloads)?;
-    write_traffic_kd(&traffic, &mut payloads)?;
-    message(alloc, &IV, SEQUENCE, &payloads, &[5; 32])
-}
-
-fn why_no_fourth(alloc: Global, datagram: &Octets) -> Result<Option<PullFault>, Fail> {
-    let (nonce, text) = (nonce()?, datagram.as_slice());
-    let spi = [1; 16];
-    Ok(read_fourth(alloc, text, &phase(), &MESSAGE, &IV, &nonce, &nonce, &spi).err())
-}
-
-/// One GAP is hashed and else not looked at.
-#[test]
-fn an_agreement_may_have_a_gap(rt: HostRuntime) -> Result<(), Fail> {
-    assert!(rt; third_with_one(rt.alloc())?.is_ok());
-    Ok(())
-}
-
-fn third_with_one(alloc: Global) -> Result<Result<Third, PullFault>, Fail> {
-    let mut payloads = Octets::new(alloc);
-    write_payload(0, &[1, 2, 3], &mut payloads)?;
-    third_with(alloc, &payloads)
-}
-
-/// A second one is told where the first one names it.
-#[test]
-fn an_agreement_has_one_gap_at_the_most(rt: HostRuntime) -> Result<(), Fail> {
-    let refused = third_with_two(rt.alloc())?.err();
-    assert_eq!(rt; refused, malformed(WireWhat::Kind { number: 22 }, 64));
-    Ok(())
-}
-
-fn third_with_two(alloc: Global) -> Result<Result<Third, PullFault>, Fail> {
-    let mut payloads = Octets::new(alloc);
-    write_payload(GAP, &[], &mut payloads)?;
-    write_payload(0, &[], &mut payloads)?;
-    third_with(alloc, &payloads)
-}
-
-/// What is read of a third message with these payloads, of which the first is a GAP.
-fn third_with(alloc: Global, payloads: &Octets) -> Result<Result<Third, PullFault>, Fail> {
-    let nonce = nonce()?;
+/// Why a third message with these payloads, of which the first is a GAP, is refused; `None` where it is taken.
+fn agreement(alloc: Global, payloads: &[u8]) -> Result<Option<PullFault>, NoMemory> {
     let datagram = message(alloc, &IV, GAP, payloads, &[5; 32])?;
-    let text = datagram.as_slice();
-    Ok(read_third(alloc, text, &phase(), &MESSAGE, &IV, &nonce, &nonce))
+    let (text, ni, nr) = (datagram.as_slice(), nonce(), nonce());
+    Ok(read_third(alloc, text, &phase(), &MESSAGE, &IV, &ni, &nr).err())
 }

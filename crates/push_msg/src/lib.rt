@@ -18,10 +18,4 @@ mod opening;
 mod reading;
 mod rooms;
 mod rows;
-#[cfg(test)]
-mod shape_tests;
-#[cfg(test)]
-mod test_octets;
-#[cfg(test)]
-mod tests;
 mod writers;

@@ -15,6 +15,4 @@ mod numbers;
 mod places;
 mod policies;
 mod rules;
-#[cfg(test)]
-mod tests;
 mod texts;

@@ -1,19 +1,14 @@
 -- What the definitions give where a wrong word, limit, order or number would give something else.
-use Rattle.std.proofs.Common.{◌≡◌, List, ℕ, [], ◌∷◌, ◌++◌, Some, None, true, false, refl}
+use Rattle.std.proofs.Common.{◌≡◌, ◌+◌, List, ℕ, [], ◌∷◌, ◌++◌, Some, None, true, refl}
 use Rattle.std.specs.Prelude.{codes, replicate}
-use Rattle.script_text.specs.Lines.{line_of, members_of, number_in}
-use Rattle.script_text.specs.Report.{derived_word, end_text, pair_lines, push_line, batch_text, epoch_line, wrap_line}
-use Rattle.script_text.specs.declared.lines.Line.TheVariants.{Nothing, Key}
+use Rattle.std.specs.Fmt.{decimal}
 use Rattle.group_model.specs.declared.entries.PushPair.{PushPair}
-use Rattle.std.specs.List.{flat_map}
+use Rattle.script_text.specs.Lines.{line_of, line_of_words, members_of, number_in}
+use Rattle.script_text.specs.Report.{derived_word, end_text, line_with, pair_lines, push_line}
+use Rattle.script_text.specs.declared.lines.Line.TheVariants.{Key}
 
-asks_for_a_key : line_of (codes "key a") ≡ Some (Key (codes "a"))
-unfolding line_of
+asks_for_a_key : line_of_words (codes "key" ∷ codes "a" ∷ []) ≡ Some (Key (codes "a"))
 asks_for_a_key = refl
-
-line_of_200_octets : line_of (replicate 200 35) ≡ Some Nothing
-unfolding line_of
-line_of_200_octets = refl
 
 line_of_201_octets : line_of (replicate 201 35) ≡ None
 unfolding line_of
@@ -31,9 +26,9 @@ nine_names = refl
 pushes_of_a_pair : (pair : PushPair) → pair_lines (Some pair) ≡ push_line pair.first pair.membership ++ push_line (pair.first + 1) pair.traffic
 pushes_of_a_pair pair = refl
 
-end_at_a_line : end_text 2 7 ≡ codes "end 2 line 7\n"
+end_at_a_line : (line : ℕ) → end_text 2 line ≡ line_with (codes "end" ∷ codes "2" ∷ codes "line" ∷ decimal line ∷ [])
 unfolding end_text
-end_at_a_line = refl
+end_at_a_line line = refl
 
 yes_and_none : derived_word true ≡ codes "yes"
 yes_and_none = refl

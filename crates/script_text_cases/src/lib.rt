@@ -1,4 +1,4 @@
-//! Tests of the lines of a script, and of the lines of the report.
+//! Tests of the lines of a script, of the lines of the report, and of the words of the command line.
 #![tactic(auto)]
 
 #[cfg(test)]
@@ -6,8 +6,6 @@ mod entries;
 #[cfg(test)]
 mod lines;
 #[cfg(test)]
-mod openings;
-#[cfg(test)]
 mod reports;
 #[cfg(test)]
-mod stores;
+mod words;

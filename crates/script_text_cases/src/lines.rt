@@ -1,160 +1,167 @@
 //! Which lines are read, as what, and which decimal numbers.
-use group_model::MemberName;
 use script_text::{Line, read_decimal, read_line};
-use std::test::Fail;
 
-#[test]
-fn lines_are_read_by_the_grammar(rt: HostRuntime) -> Result<(), Fail> {
-    let a = MemberName::read(b"a").ok_or("a name")?;
-    let longest = MemberName::read(b"abcdefghijklmnopqrstuvwxyz_56789").ok_or("a name")?;
-    let table = [
-        (b"".as_slice(), Some(Line::Nothing)),
-        (b"   ".as_slice(), Some(Line::Nothing)),
-        (b"#".as_slice(), Some(Line::Nothing)),
-        (b"  #join\ta \xff\x00\r".as_slice(), Some(Line::Nothing)),
-        (b"batch".as_slice(), Some(Line::Batch)),
-        (b"  batch  ".as_slice(), Some(Line::Batch)),
-        (b"join a".as_slice(), Some(Line::Join { member: a })),
-        (b" leave   a ".as_slice(), Some(Line::Leave { member: a })),
-        (
-            b"join abcdefghijklmnopqrstuvwxyz_56789".as_slice(),
-            Some(Line::Join { member: longest }),
-        ),
-        (b"join abcdefghijklmnopqrstuvwxyz_567890".as_slice(), None),
-        (b"join A".as_slice(), None),
-        (b"join #a".as_slice(), None),
-        (b"Join a".as_slice(), None),
-        (b"join".as_slice(), None),
-        (b"join a b".as_slice(), None),
-        (b"leave a #b".as_slice(), None),
-        (b"batch a".as_slice(), None),
-        (b"batches".as_slice(), None),
-        (b"join\ta".as_slice(), None),
-        (b"join a\t".as_slice(), None),
-        (b"batch\r".as_slice(), None),
-        (b"\r".as_slice(), None),
-    ];
-    for (text, says) in table {
-        assert_eq!(rt; read_line(text), says, "{text:?}");
-    }
-    Ok(())
+/// What a line says.
+#[derive(Clone, Copy)]
+enum Says {
+    Nothing,
+    Join(&'static [u8]),
+    Leave(&'static [u8]),
+    Batch,
+    Deliver(&'static [u8], u32),
+    DeliverAll,
+    Key(&'static [u8]),
+    /// Of an epoch, and of how many names.
+    Derive(u32, usize),
+    Halt,
+    Reopen,
+    Show,
 }
 
+/// Lines of the grammar.
+const LINES: [(&[u8], Says); 21] = [
+    (b"", Says::Nothing),
+    (b"   ", Says::Nothing),
+    (b"#", Says::Nothing),
+    (b"  #join\ta \xff\x00\r", Says::Nothing),
+    (b"batch", Says::Batch),
+    (b"  batch  ", Says::Batch),
+    (b"join a", Says::Join(b"a")),
+    (b" leave   a ", Says::Leave(b"a")),
+    (
+        b"join abcdefghijklmnopqrstuvwxyz_56789",
+        Says::Join(b"abcdefghijklmnopqrstuvwxyz_56789"),
+    ),
+    (b"derive 2 b", Says::Derive(2, 1)),
+    (b"derive 0 a a", Says::Derive(0, 2)),
+    (b"  derive  0000000007  a  b ", Says::Derive(7, 2)),
+    (
+        b"derive 4294967295 a b c d e f g h",
+        Says::Derive(4_294_967_295, 8),
+    ),
+    (b"deliver a 1", Says::Deliver(b"a", 1)),
+    (b" deliver  a   0000000000 ", Says::Deliver(b"a", 0)),
+    (b"deliver a 4294967295", Says::Deliver(b"a", 4_294_967_295)),
+    (b"deliver-all", Says::DeliverAll),
+    (b"key a", Says::Key(b"a")),
+    (b"halt", Says::Halt),
+    (b"  reopen", Says::Reopen),
+    (b"show  ", Says::Show),
+];
+
+/// Lines that are not of the grammar.
+const OTHERS: [&[u8]; 38] = [
+    b"join abcdefghijklmnopqrstuvwxyz_567890",
+    b"join A",
+    b"join #a",
+    b"Join a",
+    b"join",
+    b"join a b",
+    b"leave a #b",
+    b"batch a",
+    b"batches",
+    b"join\ta",
+    b"join a\t",
+    b"batch\r",
+    b"\r",
+    b"derive",
+    b"derive 1",
+    b"derive a",
+    b"derive 1 A",
+    b"derive +1 a",
+    b"derive 4294967296 a",
+    b"derive 00000000001 a",
+    b"derive 1 a b c d e f g h i",
+    b"derive 1 a #",
+    b"deliver",
+    b"deliver a",
+    b"deliver a 1 2",
+    b"deliver a 4294967296",
+    b"deliver a 00000000001",
+    b"deliver a b",
+    b"deliver A 1",
+    b"deliver-all a",
+    b"deliver-all a 1",
+    b"key",
+    b"key A",
+    b"key a b",
+    b"halt a",
+    b"reopen x",
+    b"show 1",
+    b"Show",
+];
+
+/// The greatest length of a line is 200 octets.
 #[test]
-fn questions_are_read(rt: HostRuntime) {
-    for (text, epoch, names) in [
-        ("derive 2 b", 2, 1),
-        ("derive 0 a a", 0, 2),
-        ("  derive  0000000007  a  b ", 7, 2),
-        ("derive 4294967295 a b c d e f g h", 4_294_967_295, 8),
-    ] {
-        match read_line(text.as_bytes()) {
-            Some(
-                Line::Derive {
-                    epoch: read,
-                    members,
-                },
-            ) => {
-                assert_eq!(rt; (read, members.names().len()), (epoch, names), "{text}");
+fn lines_are_read_by_the_grammar(rt: HostRuntime) {
+    let spaces = [b' '; 201];
+    let mut holds = is_read(&spaces[..200], Says::Nothing) & read_line(&spaces).is_none();
+    for (text, says) in LINES {
+        holds &= is_read(text, says);
+    }
+    for text in OTHERS {
+        holds &= read_line(text).is_none();
+    }
+    assert!(rt; holds);
+}
+
+/// Whether a line is read, and says this.
+fn is_read(text: &[u8], says: Says) -> bool {
+    match read_line(text) {
+        Some(line) => is_line(&line, says),
+        None => false,
+    }
+}
+
+fn is_line(line: &Line, says: Says) -> bool {
+    match says {
+        Says::Nothing => matches!(line, Line::Nothing),
+        Says::Join(name) => match line {
+            Line::Join { member } => member.text() == name,
+            _ => false,
+        },
+        Says::Leave(name) => match line {
+            Line::Leave { member } => member.text() == name,
+            _ => false,
+        },
+        Says::Batch => matches!(line, Line::Batch),
+        Says::Deliver(name, number) => match line {
+            Line::Deliver { member, sequence } => (member.text() == name) & (*sequence == number),
+            _ => false,
+        },
+        Says::DeliverAll => matches!(line, Line::DeliverAll),
+        Says::Key(name) => match line {
+            Line::Key { member } => member.text() == name,
+            _ => false,
+        },
+        Says::Derive(number, names) => match line {
+            Line::Derive { epoch, members } => {
+                (*epoch == number) & (members.names().len() == names)
             }
-            other => assert!(rt; false, "{other:?}"),
-        }
+            _ => false,
+        },
+        Says::Halt => matches!(line, Line::Halt),
+        Says::Reopen => matches!(line, Line::Reopen),
+        Says::Show => matches!(line, Line::Show),
     }
 }
 
-#[test]
-fn other_questions_are_not_read(rt: HostRuntime) {
-    for text in [
-        "derive",
-        "derive 1",
-        "derive a",
-        "derive 1 A",
-        "derive +1 a",
-        "derive 4294967296 a",
-        "derive 00000000001 a",
-        "derive 1 a b c d e f g h i",
-        "derive 1 a #",
-    ] {
-        assert_eq!(rt; read_line(text.as_bytes()), None, "{text}");
-    }
-}
-
-#[test]
-fn a_line_has_200_octets_at_the_most(rt: HostRuntime) -> Result<(), Fail> {
-    let spaces = vec![in rt.alloc(); b' '; 201]?;
-    assert_eq!(rt; read_line(&spaces[..200]), Some(Line::Nothing));
-    assert_eq!(rt; read_line(&spaces[..201]), None);
-    Ok(())
-}
-
-#[test]
-fn deliveries_are_read(rt: HostRuntime) -> Result<(), Fail> {
-    let member = MemberName::read(b"a").ok_or("a name")?;
-    for (text, sequence) in [
-        ("deliver a 1", 1),
-        (" deliver  a   0000000000 ", 0),
-        ("deliver a 4294967295", 4_294_967_295),
-    ] {
-        assert_eq!(rt;
-            read_line(text.as_bytes()),
-            Some(Line::Deliver { member, sequence }),
-            "{text}"
-        );
-    }
-    Ok(())
-}
-
-#[test]
-fn lines_of_stores_and_openings_are_read(rt: HostRuntime) -> Result<(), Fail> {
-    let member = MemberName::read(b"a").ok_or("a name")?;
-    for (text, line) in [
-        ("deliver-all", Line::DeliverAll),
-        ("key a", Line::Key { member }),
-        ("halt", Line::Halt),
-        ("  reopen", Line::Reopen),
-        ("show  ", Line::Show),
-    ] {
-        assert_eq!(rt; read_line(text.as_bytes()), Some(line), "{text}");
-    }
-    Ok(())
-}
-
-#[test]
-fn other_lines_of_stores_and_openings_are_not_read(rt: HostRuntime) {
-    for text in [
-        "deliver",
-        "deliver a",
-        "deliver a 1 2",
-        "deliver a 4294967296",
-        "deliver a 00000000001",
-        "deliver a b",
-        "deliver A 1",
-        "deliver-all a",
-        "deliver-all a 1",
-        "key",
-        "key A",
-        "key a b",
-        "halt a",
-        "reopen x",
-        "show 1",
-        "Show",
-    ] {
-        assert_eq!(rt; read_line(text.as_bytes()), None, "{text}");
-    }
-}
+/// Numbers of at most 3 digits and below 5.
+const NUMBERS: [(&[u8], Option<u64>); 7] = [
+    (b"0", Some(0)),
+    (b"004", Some(4)),
+    (b"0004", None),
+    (b"5", None),
+    (b"", None),
+    (b"+4", None),
+    (b"4 ", None),
+];
 
 #[test]
 fn decimal_numbers_are_read(rt: HostRuntime) {
-    let table = [
-        ("0", Some(0)),
-        ("004", Some(4)),
-        ("0004", None),
-        ("5", None),
-        ("", None),
-        ("+4", None),
-        ("4 ", None),
-    ];
-    for (text, number) in table {
-        assert_eq!(rt; read_decimal(text.as_bytes(), 3, 5), number, "{text}");
+    let mut holds = true;
+    for (text, number) in NUMBERS {
+        holds &= read_decimal(text, 3, 5) == number;
     }
+    assert!(rt; holds);
 }

@@ -8,5 +8,3 @@ pub use sent::SentPushes;
 mod laws;
 mod notes;
 mod sent;
-#[cfg(test)]
-mod tests;

@@ -1,91 +1,81 @@
 //! What is derived in a small graph, and in drawn ones.
-use crate::draws::{Draws, node};
-use group_model::{List, Wrap};
+use crate::draws::{Draws, key};
+use group_model::{KeyName, List, NoMemory, Wrap};
 use std::alloc::Global;
-use std::collections::BTreeSet;
-use std::test::Fail;
 use sym_closure::{derive, is_derivation};
 
 #[test]
-fn a_key_follows_from_the_one_that_it_is_encrypted_under(rt: HostRuntime) -> Result<(), Fail> {
-    let alloc = rt.alloc();
-    let (leaf, above, root) = (node(5, 1)?, node(2, 1)?, node(1, 1)?);
+fn a_key_follows_from_the_one_that_it_is_encrypted_under(rt: HostRuntime) {
+    assert!(rt; follows_from_its_leaf(rt.alloc()));
+}
+
+fn follows_from_its_leaf(alloc: Global) -> bool {
+    let (leaf, above, root) = (key(5, 1), key(2, 1), key(1, 1));
     let pairs = [Wrap {
         by: leaf,
         gives: above,
     }];
-    let found = derive(alloc, &[leaf], &pairs, &above)?.ok_or("a derivation")?;
-    assert_eq!(rt; found.names.as_slice(), [leaf, above].as_slice());
-    assert!(rt; is_derivation(&[leaf], &pairs, &found, &above));
-    assert!(rt; !is_derivation(&[leaf], &pairs, &found, &root));
-    assert!(rt; !is_derivation(&[], &pairs, &found, &above));
-    assert!(rt; derive(alloc, &[leaf], &pairs, &root)?.is_none());
-    Ok(())
+    let Ok(Some(found)) = derive(alloc, &[leaf], &pairs, &above) else {
+        return false;
+    };
+    (found.names.as_slice() == [leaf, above].as_slice())
+        & is_derivation(&[leaf], &pairs, &found, &above)
+        & !is_derivation(&[leaf], &pairs, &found, &root)
+        & !is_derivation(&[], &pairs, &found, &above)
+        & is_derived_if(alloc, &leaf, &root, &pairs, false)
 }
 
-/// Pairs drawn at random among twelve keys: what is derived is what a closure over a set of numbers reaches.
+/// Pairs drawn at random among twelve keys: what is derived is what a second closure reaches.
 #[test]
-fn what_is_derived_is_what_a_second_closure_reaches(rt: HostRuntime) -> Result<(), Fail> {
+fn what_is_derived_is_what_a_second_closure_reaches(rt: HostRuntime) {
     let mut draws = Draws { state: 7 };
-    for graph in 0..300 {
-        assert!(rt; is_closed_alike(rt.alloc(), &mut draws)?, "graph {graph}");
+    let mut same = true;
+    for _ in 0..300 {
+        same &= is_closed_alike(rt.alloc(), &mut draws) == Ok(true);
     }
-    Ok(())
+    assert!(rt; same);
 }
 
 /// Whether of a drawn graph the same keys are derived as a closure reaches.
-fn is_closed_alike(alloc: Global, draws: &mut Draws) -> Result<bool, Fail> {
-    let edges = drawn_edges(alloc, draws)?;
-    let pairs = pairs_of(alloc, edges.as_slice())?;
-    let start = draws.number();
-    let reached = reached_from(alloc, start, edges.as_slice())?;
-    for number in 1..13 {
-        if !is_derived_if(
-            alloc,
-            start,
-            number,
-            pairs.as_slice(),
-            reached.contains(&number),
-        )? {
-            return Ok(false);
-        }
-    }
-    Ok(true)
-}
-
-/// Up to 24 edges between the numbers 1 to 12.
-fn drawn_edges(alloc: Global, draws: &mut Draws) -> Result<List<(u16, u16)>, Fail> {
-    let mut edges = List::new(alloc);
-    for _ in 0..2 * u32::from(draws.number()) {
-        edges.push((draws.number(), draws.number()))?;
-    }
-    Ok(edges)
-}
-
-/// Each edge as an encryption.
-fn pairs_of(alloc: Global, edges: &[(u16, u16)]) -> Result<List<Wrap>, Fail> {
+fn is_closed_alike(alloc: Global, draws: &mut Draws) -> Result<bool, NoMemory> {
     let mut pairs = List::new(alloc);
-    for (from, to) in edges {
-        let (by, gives) = (node(*from, 1)?, node(*to, 1)?);
+    draw_pairs(draws, &mut pairs)?;
+    let mut reached = List::new(alloc);
+    let start = key(draws.number(), 1);
+    reach(start, pairs.as_slice(), &mut reached)?;
+    let mut same = true;
+    for number in 1..13 {
+        let goal = key(number, 1);
+        let due = reached.as_slice().contains(&goal);
+        same &= is_derived_if(alloc, &start, &goal, pairs.as_slice(), due);
+    }
+    Ok(same)
+}
+
+/// Up to 24 pairs of twelve keys.
+fn draw_pairs(draws: &mut Draws, pairs: &mut List<Wrap>) -> Result<(), NoMemory> {
+    for _ in 0..2 * u32::from(draws.number()) {
+        let by = key(draws.number(), 1);
+        let gives = key(draws.number(), 1);
         pairs.push(Wrap { by, gives })?;
     }
-    Ok(pairs)
+    Ok(())
 }
 
-/// What edges lead to from a number, in up to twelve steps.
-fn reached_from(alloc: Global, start: u16, edges: &[(u16, u16)]) -> Result<BTreeSet<u16>, Fail> {
-    let mut reached = BTreeSet::new(alloc);
-    reached.insert(start)?;
+/// What pairs lead to from a key, in up to twelve steps.
+fn reach(start: KeyName, pairs: &[Wrap], reached: &mut List<KeyName>) -> Result<(), NoMemory> {
+    reached.push(start)?;
     for _ in 0..12 {
-        add_reached(&mut reached, edges)?;
+        add_reached(pairs, reached)?;
     }
-    Ok(reached)
+    Ok(())
 }
 
-fn add_reached(reached: &mut BTreeSet<u16>, edges: &[(u16, u16)]) -> Result<(), Fail> {
-    for (from, to) in edges {
-        if reached.contains(from) {
-            reached.insert(*to)?;
+fn add_reached(pairs: &[Wrap], reached: &mut List<KeyName>) -> Result<(), NoMemory> {
+    for pair in pairs {
+        let names = reached.as_slice();
+        if names.contains(&pair.by) && !names.contains(&pair.gives) {
+            reached.push(pair.gives)?;
         }
     }
     Ok(())
@@ -94,15 +84,15 @@ fn add_reached(reached: &mut BTreeSet<u16>, edges: &[(u16, u16)]) -> Result<(), 
 /// Whether a key is derived from another one exactly where it should be, by a derivation of it.
 fn is_derived_if(
     alloc: Global,
-    start: u16,
-    number: u16,
+    start: &KeyName,
+    goal: &KeyName,
     pairs: &[Wrap],
-    reached: bool,
-) -> Result<bool, Fail> {
-    let have = [node(start, 1)?];
-    let goal = node(number, 1)?;
-    match derive(alloc, &have, pairs, &goal)? {
-        Some(derivation) => Ok(reached && is_derivation(&have, pairs, &derivation, &goal)),
-        None => Ok(!reached),
+    due: bool,
+) -> bool {
+    let have = [*start];
+    match derive(alloc, &have, pairs, goal) {
+        Ok(Some(derivation)) => due & is_derivation(&have, pairs, &derivation, goal),
+        Ok(None) => !due,
+        Err(NoMemory) => false,
     }
 }

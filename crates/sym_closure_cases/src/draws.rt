@@ -1,15 +1,17 @@
 //! Names and keys of tests, and drawn numbers.
 use group_model::{KeyName, LkhId, MemberName};
-use std::test::Fail;
 
-/// The key of a position, made at an epoch.
-pub(crate) fn node(number: u16, made: u32) -> Result<KeyName, Fail> {
-    let id = LkhId::new(number).ok_or("a position")?;
-    Ok(KeyName::Node { id, made })
+/// The key of a position, made at an epoch; the traffic key of the epoch for the number 0.
+pub(crate) fn key(number: u16, made: u32) -> KeyName {
+    match LkhId::new(number) {
+        Some(id) => KeyName::Node { id, made },
+        None => KeyName::Traffic { made },
+    }
 }
 
-pub(crate) fn named(text: &[u8]) -> Result<MemberName, Fail> {
-    Ok(MemberName::read(text).ok_or("a name")?)
+/// Who is called by a letter; `_` for what is none.
+pub(crate) fn named(letter: u8) -> MemberName {
+    MemberName::read(&[letter]).unwrap_or_default()
 }
 
 /// Numbers drawn by a linear congruence.

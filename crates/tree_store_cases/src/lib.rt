@@ -1,19 +1,17 @@
-//! Tests of stores of a group, on disks in memory.
+//! Tests of what the calls of a store answer: calls of the disk that fail, crashes, stores that are opened again, and lists of batches that are stored and read.
 #![tactic(auto)]
 
 #[cfg(test)]
+mod batches;
+#[cfg(test)]
 mod calls;
-#[cfg(test)]
-mod groups;
-#[cfg(test)]
-mod images;
 #[cfg(test)]
 mod lists;
 #[cfg(test)]
 mod numbers;
 #[cfg(test)]
-mod refusals;
-#[cfg(test)]
 mod reopened;
+#[cfg(test)]
+mod stores;
 #[cfg(test)]
 mod unseen;

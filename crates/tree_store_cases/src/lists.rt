@@ -1,125 +1,92 @@
 //! Lists of batches that are stored, opened again and read.
-ghost use Rattle.std.specs.Prelude.{◌≤◌, IsSome, IfOk};
+ghost use Rattle.std.specs.Prelude.{◌≤◌};
 
-use crate::groups::{Why, are_same, commit_all, created, disk_of, head_of, push_next, read_all};
+use crate::batches::push_next;
 use crate::numbers::Numbers;
+use crate::stores::{commit_all, created, head_of, holds};
 use crate::unseen::UnseenDisk;
 use gd_disk::MemDisk;
 use group_model::PresentTree;
-use group_terms::{Batch, Change, List, MOST_CHANGES, MemberName};
+use group_terms::{Batch, Change, List, MOST_CHANGES, MemberName, NoMemory};
 use std::alloc::Global;
-use std::test::Fail;
-use tree_store::{Stored, TreeStore};
+use tree_store::Stored;
 
 #[test]
-fn lists_are_read_as_they_were_stored(rt: HostRuntime) -> Result<(), Fail> {
-    for seed in 0..50 {
-        assert!(rt; is_read_as_stored(rt.alloc(), seed)?, "{seed}");
-    }
-    Ok(())
+fn lists_are_read_as_they_were_stored(rt: HostRuntime) {
+    assert!(rt; are_read_as_stored(rt.alloc()) == Ok(true));
 }
 
-#[test]
-fn more_lists_are_read_as_they_were_stored(rt: HostRuntime) -> Result<(), Fail> {
-    for seed in 50..100 {
-        assert!(rt; is_read_as_stored(rt.alloc(), seed)?, "{seed}");
+fn are_read_as_stored(alloc: Global) -> Result<bool, NoMemory> {
+    let mut holds = true;
+    for seed in 0..200 {
+        holds &= is_read_as_stored(alloc, seed)?;
     }
-    Ok(())
-}
-
-#[test]
-fn a_third_set_of_lists_is_read_as_it_was_stored(rt: HostRuntime) -> Result<(), Fail> {
-    for seed in 100..150 {
-        assert!(rt; is_read_as_stored(rt.alloc(), seed)?, "{seed}");
-    }
-    Ok(())
-}
-
-#[test]
-fn a_fourth_set_of_lists_is_read_as_it_was_stored(rt: HostRuntime) -> Result<(), Fail> {
-    for seed in 150..200 {
-        assert!(rt; is_read_as_stored(rt.alloc(), seed)?, "{seed}");
-    }
-    Ok(())
+    Ok(holds)
 }
 
 /// Whether the list of a seed is read as it was stored.
-fn is_read_as_stored(alloc: Global, seed: u64) -> Result<bool, Fail> {
+fn is_read_as_stored(alloc: Global, seed: u64) -> Result<bool, NoMemory> {
     let depth = 1 + (seed % 9) as u8;
-    let list = some_list(alloc, depth, &mut Numbers::new(seed))?;
+    let mut list = List::new(alloc);
+    push_some(alloc, depth, seed, &mut list)?;
     is_kept(alloc, depth, list.as_slice())
 }
 
 /// Whether a list is read as it was stored.
-fn is_kept(alloc: Global, depth: u8, list: &[Stored]) -> Result<bool, Fail>
+fn is_kept(alloc: Global, depth: u8, list: &[Stored]) -> Result<bool, NoMemory>
     requires shallow { 1 ≤ depth }
     requires not_deep { depth ≤ 9 }
 {
-    let found = read_all(alloc, stored(alloc, depth, list)?)?;
     let head = head_of(depth)?;
-    Ok(found.head == Some(head) && found.why.is_none() && are_same(found.list.as_slice(), list))
-}
-
-/// A disk with the batches of a list.
-fn stored(alloc: Global, depth: u8, list: &[Stored]) -> Result<MemDisk, Fail>
-    requires shallow { 1 ≤ depth }
-    requires not_deep { depth ≤ 9 }
-{
-    let mut store = store_of(alloc, depth)?;
-    let whys = commit_all(alloc, &mut store, list)?;
-    if are_done(whys.as_slice()) {
-        Ok(disk_of(store))
-    } else {
-        Err(Fail::new("a batch is refused"))
+    match created(alloc, UnseenDisk::new(MemDisk::new(alloc)), &head) {
+        Ok(mut store) => {
+            let are_committed = commit_all(alloc, &mut store, list);
+            let disk = store.into_disk().into_disk();
+            Ok(are_committed & holds(alloc, disk, &head, list))
+        }
+        Err(_) => Ok(false),
     }
 }
 
-/// A store of a group without a batch.
-fn store_of(alloc: Global, depth: u8) -> Result<TreeStore<UnseenDisk>, Fail>
-    requires shallow { 1 ≤ depth }
-    requires not_deep { depth ≤ 9 }
-    ensures { IfOk result (λ store. IsSome store.end) }
-{
-    let head = head_of(depth)?;
-    Ok(created(alloc, UnseenDisk::new(MemDisk::new(alloc)), &head)?)
-}
-
-fn are_done(whys: &[Why]) -> bool {
-    !whys.iter().any(Option::is_some)
-}
-
-/// A valid list of 1 to 40 batches.
-fn some_list(alloc: Global, depth: u8, numbers: &mut Numbers) -> Result<List<Stored>, Fail>
+/// Appends 1 to 40 batches, each of them due after those before it.
+fn push_some(alloc: Global, depth: u8, seed: u64, list: &mut List<Stored>) -> Result<(), NoMemory>
     requires shallow { 1 ≤ depth }
     requires not_deep { depth ≤ 9 }
 {
     let mut tree = PresentTree::new(alloc, depth)?;
-    let mut list = List::new(alloc);
-    push_some(alloc, &mut tree, numbers, &mut list)?;
-    Ok(list)
+    push_each(alloc, &mut tree, &mut Numbers::new(seed), list)
 }
 
-fn push_some(
+fn push_each(
     alloc: Global,
     tree: &mut PresentTree,
     numbers: &mut Numbers,
     list: &mut List<Stored>,
-) -> Result<(), Fail> {
+) -> Result<(), NoMemory> {
     for _ in 0..1 + numbers.below(40) {
-        let batch = some_batch(alloc, tree, numbers)?;
-        push_next(alloc, tree, batch, numbers, list)?;
+        push_one(alloc, tree, numbers, list)?;
     }
     Ok(())
 }
 
+fn push_one(
+    alloc: Global,
+    tree: &mut PresentTree,
+    numbers: &mut Numbers,
+    list: &mut List<Stored>,
+) -> Result<(), NoMemory> {
+    let batch = some_batch(alloc, tree, numbers)?;
+    push_next(alloc, tree, batch, numbers, list)
+}
+
 /// A batch that fits after those for which a tree stands, out of twice as many names as it has leaves.
-fn some_batch(alloc: Global, tree: &PresentTree, numbers: &mut Numbers) -> Result<Batch, Fail> {
+fn some_batch(alloc: Global, tree: &PresentTree, numbers: &mut Numbers) -> Result<Batch, NoMemory> {
     let names = 2 * tree.leaves() as u64;
     let mut room = tree.leaves().saturating_sub(tree.members() as usize);
     let mut batch = Batch::new();
     for _ in 0..numbers.below(33) {
         let member = some_name(alloc, names, numbers)?;
-        if batch.changes().len() == MOST_CHANGES || is_named(&batch, &member) {
+        if batch.changes().len() == MOST_CHANGES || batch.has(&member) {
             continue;
         }
         if tree.is_member(&member) {
@@ -133,14 +100,7 @@ fn some_batch(alloc: Global, tree: &PresentTree, numbers: &mut Numbers) -> Resul
     Ok(batch)
 }
 
-fn some_name(alloc: Global, names: u64, numbers: &mut Numbers) -> Result<MemberName, Fail> {
+fn some_name(alloc: Global, names: u64, numbers: &mut Numbers) -> Result<MemberName, NoMemory> {
     let name = format!(in alloc; "m{}", numbers.below(names.max(1)))?;
-    Ok(MemberName::read(name.as_bytes()).ok_or("a name")?)
-}
-
-fn is_named(batch: &Batch, member: &MemberName) -> bool {
-    batch
-        .changes()
-        .iter()
-        .any(|change| change.member() == member)
+    MemberName::read(name.as_bytes()).ok_or(NoMemory)
 }

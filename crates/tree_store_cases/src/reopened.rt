@@ -1,68 +1,82 @@
 //! Stores that are opened again in place.
+ghost use Rattle.std.specs.Prelude.{IsSome};
 
-use crate::calls::{CLOSED, FAULT};
-use crate::groups::{
-    Why, are_same, commit_all, head_of, rest_of, store_failing_at, two_batches, why_not_read,
+use crate::batches::two_batches;
+use crate::stores::{
+    CLOSED, FAULT, Store, Why, close, commit_all, head_of, reads, store_failing_at, why_not_read,
 };
-use crate::unseen::UnseenDisk;
+use group_terms::NoMemory;
 use std::alloc::Global;
-use std::test::Fail;
-use tree_store::{Stored, TreeStore};
+use tree_store::{Head, Stored};
 
-/// Whether the first so many of these batches, and no others, are read from where reading goes on.
-fn has_rest(
-    alloc: Global,
-    store: &mut TreeStore<UnseenDisk>,
-    list: &[Stored],
-    count: usize,
-) -> Result<bool, Fail> {
-    let (found, why) = rest_of(alloc, store)?;
-    let front = &list[..list.len().min(count)];
-    Ok(why.is_none() && are_same(found.as_slice(), front))
-}
-
-/// Opens a store again, of which nothing more is said.
-fn reopened(alloc: Global, store: &mut TreeStore<UnseenDisk>) -> Why {
+/// Opens a store again, of which nothing more is said; why that is refused, if it is.
+fn reopened(alloc: Global, store: &mut Store) -> Why {
     store.reopen(alloc).err()
 }
 
-/// Whether a batch is read once the store was opened again.
-fn reads_first(alloc: Global, store: &mut TreeStore<UnseenDisk>) -> Result<bool, Fail> {
-    store.reopen(alloc)?;
-    Ok(store.next_batch(alloc)?.is_some())
-}
-
 #[test]
-fn a_store_that_was_read_halfway_begins_at_its_first_batch(rt: HostRuntime) -> Result<(), Fail> {
-    let alloc = rt.alloc();
-    let list = two_batches(alloc)?;
-    let mut store = store_with(alloc, list.as_slice())?;
-    for _ in 0..2 {
-        assert!(rt; reads_first(alloc, &mut store)?);
-    }
-    assert_eq!(rt; reopened(alloc, &mut store), None);
-    assert!(rt; has_rest(alloc, &mut store, list.as_slice(), 2)?);
-    Ok(())
+fn a_store_that_was_read_halfway_begins_at_its_first_batch(rt: HostRuntime) {
+    assert!(rt; begins_at_its_first(rt.alloc()) == Ok(true));
 }
 
-/// A store to which batches were committed.
-fn store_with(alloc: Global, list: &[Stored]) -> Result<TreeStore<UnseenDisk>, Fail> {
+fn begins_at_its_first(alloc: Global) -> Result<bool, NoMemory> {
+    let list = two_batches(alloc)?;
+    begins_at(alloc, list.as_slice())
+}
+
+fn begins_at(alloc: Global, list: &[Stored]) -> Result<bool, NoMemory> {
     let mut store = store_failing_at(alloc, &[])?;
-    commit_all(alloc, &mut store, list)?;
-    Ok(store)
+    let begins = begins_again(alloc, &mut store, list);
+    close(store);
+    Ok(begins)
+}
+
+/// Whether a store to which these batches are committed is read from its first batch each time it is opened again.
+fn begins_again(alloc: Global, store: &mut Store, list: &[Stored]) -> bool
+    requires { IsSome store.old.end }
+{
+    commit_all(alloc, store, list)
+        & reads_first(alloc, store)
+        & reads_first(alloc, store)
+        & reopened(alloc, store).is_none()
+        & reads(alloc, store, list)
+}
+
+/// Whether a batch is read once the store was opened again.
+fn reads_first(alloc: Global, store: &mut Store) -> bool {
+    let is_open = reopened(alloc, store).is_none();
+    match store.next_batch(alloc) {
+        Ok(Some(_)) => is_open,
+        _ => false,
+    }
 }
 
 /// Opening again takes a sync and two reads.
 #[test]
-fn a_store_that_is_not_opened_again_is_closed(rt: HostRuntime) -> Result<(), Fail> {
-    let alloc = rt.alloc();
+fn a_store_that_is_not_opened_again_is_closed(rt: HostRuntime) {
+    assert!(rt; each_is_closed(rt.alloc()) == Ok(true));
+}
+
+fn each_is_closed(alloc: Global) -> Result<bool, NoMemory> {
+    let head = head_of(2)?;
     let mut store = store_failing_at(alloc, &[12, 14, 17])?;
-    for _ in 0..3 {
-        let refused = (reopened(alloc, &mut store), why_not_read(alloc, &mut store));
-        assert_eq!(rt; refused, (FAULT, CLOSED));
-    }
-    assert_eq!(rt; reopened(alloc, &mut store), None);
-    assert!(rt; store.head() == head_of(2)?);
-    assert!(rt; has_rest(alloc, &mut store, &[], 0)?);
-    Ok(())
+    let is_closed = is_closed_thrice(alloc, &mut store, &head);
+    close(store);
+    Ok(is_closed)
+}
+
+/// Whether a store is closed each of three times that it is not opened again, and has its head and no batch once it is.
+fn is_closed_thrice(alloc: Global, store: &mut Store, head: &Head) -> bool {
+    is_closed(alloc, store)
+        & is_closed(alloc, store)
+        & is_closed(alloc, store)
+        & reopened(alloc, store).is_none()
+        & (store.head() == *head)
+        & reads(alloc, store, &[])
+}
+
+/// Whether a store is not opened again, and closed then.
+fn is_closed(alloc: Global, store: &mut Store) -> bool {
+    let is_fault = reopened(alloc, store) == FAULT;
+    is_fault & (why_not_read(alloc, store) == CLOSED)
 }

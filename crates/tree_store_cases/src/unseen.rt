@@ -7,7 +7,7 @@ use group_terms::counted_on;
 use std::marker::Model;
 
 /// A disk in memory that exposes nothing, so that no clause asks what it holds. Contracts see alone how many of its calls failed.
-#[derive(Debug, Drop)]
+#[derive(Drop)]
 pub(crate) struct UnseenDisk {
     disk: MemDisk,
     faults: u64,

@@ -1,160 +1,149 @@
-//! What accepted bodies hold, in a line of text.
+//! What accepted bodies hold, and what is wrong with others, as a piece of a line.
 
-use kd_wire::{KdView, PathKey, SealedKey, TrafficValue};
+use case_lines::Text;
+use gd_wire::{WireFault, WireWhat};
+use group_terms::Keyed;
+use kd_wire::{KdView, PathKey, SealedKey, TrafficValue, UpdateSpan};
 use sa_wire::{KekPolicy, SaPolicy, TekPolicy};
-use std::fmt;
 
-/// Octets in hexadecimal.
-#[derive(Clone, Copy)]
-pub struct Hex<'a> {
-    pub octets: &'a [u8],
+/// `ok`, or what a reader finds wrong.
+pub fn add_answer(fault: Option<WireFault>, text: &mut Text) {
+    match fault {
+        None => text.add("ok"),
+        Some(fault) => add_fault(fault, text),
+    }
 }
 
-impl fmt::Display for Hex<'_> {
-    fn fmt<W: fmt::Write>(&self, f: &mut fmt::Formatter<W>) -> fmt::Result {
-        for octet in self.octets {
-            write!(f, "{octet:02x}")?;
-        }
-        Ok(())
+/// What is wrong, and at which place.
+pub fn add_fault(fault: WireFault, text: &mut Text) {
+    let (name, number) = match fault.what {
+        WireWhat::Short => ("short ", None),
+        WireWhat::Length => ("length ", None),
+        WireWhat::Reserved => ("reserved ", None),
+        WireWhat::Version => ("version ", None),
+        WireWhat::Padding => ("padding ", None),
+        WireWhat::Kind { number } => ("kind ", Some(number)),
+        WireWhat::Value => ("value ", None),
+    };
+    text.add(name);
+    text.add_number(u64::from(fault.at));
+    if let Some(number) = number {
+        text.add(" ");
+        text.add_number(u64::from(number));
     }
 }
 
 /// `kek SPI ALGORITHM BITS tek SPI`, with `-` for a policy that is not there.
-#[derive(Clone, Copy)]
-pub struct SaFields {
-    pub policy: SaPolicy,
+pub fn add_sa(policy: &SaPolicy, text: &mut Text) {
+    text.add("kek");
+    add_kek(&policy.kek, text);
+    text.add(" tek");
+    add_tek(&policy.tek, text);
 }
 
-impl fmt::Display for SaFields {
-    fn fmt<W: fmt::Write>(&self, f: &mut fmt::Formatter<W>) -> fmt::Result {
-        match self.policy.kek {
-            Some(kek) => fmt_kek(kek, f)?,
-            None => write!(f, "kek -")?,
+/// ` SPI ALGORITHM BITS`, or ` -` for no policy.
+pub fn add_kek(kek: &Option<KekPolicy>, text: &mut Text) {
+    match kek {
+        Some(kek) => {
+            add_spaced(&kek.spi, text);
+            text.add(" ");
+            text.add_number(u64::from(kek.sign.algorithm));
+            text.add(" ");
+            text.add_number(u64::from(kek.sign.key_bits));
         }
-        match self.policy.tek {
-            Some(tek) => fmt_tek(tek, f),
-            None => write!(f, " tek -"),
-        }
+        None => text.add(" -"),
     }
 }
 
-fn fmt_kek<W: fmt::Write>(kek: KekPolicy, f: &mut fmt::Formatter<W>) -> fmt::Result {
-    let spi = Hex { octets: &kek.spi };
-    let (algorithm, key_bits) = (kek.sign.algorithm, kek.sign.key_bits);
-    write!(f, "kek {spi} {algorithm} {key_bits}")
+/// ` SPI`, or ` -` for no policy.
+pub fn add_tek(tek: &Option<TekPolicy>, text: &mut Text) {
+    match tek {
+        Some(tek) => add_spaced(&tek.spi, text),
+        None => text.add(" -"),
+    }
 }
 
-fn fmt_tek<W: fmt::Write>(tek: TekPolicy, f: &mut fmt::Formatter<W>) -> fmt::Result {
-    let spi = Hex { octets: &tek.spi };
-    write!(f, " tek {spi}")
+/// A space, and octets in hexadecimal.
+fn add_spaced(octets: &[u8], text: &mut Text) {
+    text.add(" ");
+    text.add_hex(octets);
 }
 
 /// `traffic CIPHER-KEY INTEGRITY-KEY SPI`, where there is one, and `lkh SPI` with the keys of a path, `path ID.EPOCH IV KEY` each, or the
 /// keys that update arrays give, `given ID.EPOCH>ID.EPOCH SEALED` each, after the key that seals it.
-#[derive(Clone, Copy)]
-pub struct KdFields<'a> {
-    pub view: &'a KdView,
-    pub body: &'a [u8],
-}
-
-impl fmt::Display for KdFields<'_> {
-    fn fmt<W: fmt::Write>(&self, f: &mut fmt::Formatter<W>) -> fmt::Result {
-        if let Some(traffic) = self.view.tek {
-            let keys = TrafficKeys { traffic };
-            write!(f, "traffic {keys}")?;
-        }
-        match self.view.lkh_spi {
-            Some(spi) => fmt_lkh(self, spi, f),
-            None => Ok(()),
-        }
+pub fn add_kd(view: &KdView, body: &[u8], text: &mut Text) {
+    if let Some(traffic) = &view.tek {
+        text.add("traffic");
+        add_traffic(traffic, text);
+    }
+    if let Some(spi) = &view.lkh_spi {
+        text.add(if view.tek.is_some() { " lkh" } else { "lkh" });
+        add_spaced(spi, text);
+        add_path(view.download.keys(), " path", text);
+        add_given(&view.updates, body, text);
     }
 }
 
-fn fmt_lkh<W: fmt::Write>(
-    fields: &KdFields,
-    spi: [u8; 16],
-    f: &mut fmt::Formatter<W>,
-) -> fmt::Result {
-    let gap = if fields.view.tek.is_some() { " " } else { "" };
-    let spi = Hex { octets: &spi };
-    write!(f, "{gap}lkh {spi}")?;
-    for key in fields.view.download.keys() {
-        let key = PathKeyFields { key: *key };
-        write!(f, " path {key}")?;
-    }
-    fmt_given(fields.view, fields.body, f)
+/// ` CIPHER-KEY INTEGRITY-KEY SPI`.
+pub fn add_traffic(traffic: &TrafficValue, text: &mut Text) {
+    add_spaced(&traffic.cipher_key, text);
+    add_spaced(&traffic.integrity_key, text);
+    add_spaced(&traffic.spi, text);
 }
 
-/// `CIPHER-KEY INTEGRITY-KEY SPI`.
-#[derive(Clone, Copy)]
-pub struct TrafficKeys {
-    pub traffic: TrafficValue,
-}
-
-impl fmt::Display for TrafficKeys {
-    fn fmt<W: fmt::Write>(&self, f: &mut fmt::Formatter<W>) -> fmt::Result {
-        let cipher_key = Hex {
-            octets: &self.traffic.cipher_key,
-        };
-        let integrity_key = Hex {
-            octets: &self.traffic.integrity_key,
-        };
-        let spi = Hex {
-            octets: &self.traffic.spi,
-        };
-        write!(f, "{cipher_key} {integrity_key} {spi}")
+/// The keys of a path, each as ` ID.EPOCH IV KEY` after a word.
+fn add_path(keys: &[PathKey], word: &str, text: &mut Text) {
+    for key in keys {
+        text.add(word);
+        add_path_key(key, text);
     }
 }
 
-/// `ID.EPOCH IV KEY`.
-#[derive(Clone, Copy)]
-pub struct PathKeyFields {
-    pub key: PathKey,
+fn add_path_key(key: &PathKey, text: &mut Text) {
+    text.add(" ");
+    add_name(key.id.number(), key.made, text);
+    add_spaced(&key.value.iv, text);
+    add_spaced(&key.value.key, text);
 }
 
-impl fmt::Display for PathKeyFields {
-    fn fmt<W: fmt::Write>(&self, f: &mut fmt::Formatter<W>) -> fmt::Result {
-        let (id, made) = (self.key.id.number(), self.key.made);
-        let iv = Hex {
-            octets: &self.key.value.iv,
-        };
-        let key = Hex {
-            octets: &self.key.value.key,
-        };
-        write!(f, "{id}.{made} {iv} {key}")
-    }
+/// `ID.EPOCH`.
+fn add_name(id: u16, made: u32, text: &mut Text) {
+    text.add_number(u64::from(id));
+    text.add(".");
+    text.add_number(u64::from(made));
 }
 
-fn fmt_given<W: fmt::Write>(view: &KdView, body: &[u8], f: &mut fmt::Formatter<W>) -> fmt::Result {
-    let Some(span) = view.updates else {
-        return Ok(());
-    };
-    for array in span.arrays(body) {
-        for key in array.keys {
-            fmt_sealed(key, f)?;
+fn add_given(updates: &Option<UpdateSpan>, body: &[u8], text: &mut Text) {
+    if let Some(span) = updates {
+        for array in span.arrays(body) {
+            for key in array.keys {
+                add_sealed(&key, text);
+            }
         }
     }
-    Ok(())
 }
 
-fn fmt_sealed<W: fmt::Write>(key: SealedKey, f: &mut fmt::Formatter<W>) -> fmt::Result {
-    let names = SealedNames { key };
-    let sealed = Hex {
-        octets: &key.gives.sealed,
-    };
-    write!(f, " given {names} {sealed}")
+fn add_sealed(key: &SealedKey, text: &mut Text) {
+    text.add(" given");
+    add_names(key, text);
+    add_spaced(&key.gives.sealed, text);
 }
 
-/// `ID.EPOCH>ID.EPOCH`: the key that seals, and the key that is given.
-#[derive(Clone, Copy)]
-pub struct SealedNames {
-    pub key: SealedKey,
+/// ` ID.EPOCH>ID.EPOCH`: the key that seals, and the key that is given.
+pub fn add_names(key: &SealedKey, text: &mut Text) {
+    text.add(" ");
+    add_name(key.by.number(), key.by_made, text);
+    text.add(">");
+    add_name(key.gives.id.number(), key.gives.made, text);
 }
 
-impl fmt::Display for SealedNames {
-    fn fmt<W: fmt::Write>(&self, f: &mut fmt::Formatter<W>) -> fmt::Result {
-        let SealedKey { by, by_made, gives } = self.key;
-        let (by, id, made) = (by.number(), gives.id.number(), gives.made);
-        write!(f, "{by}.{by_made}>{id}.{made}")
-    }
+/// ` EPOCH SEQUENCE SPI` with the keys of the path, ` ID.EPOCH IV KEY` each, and ` CIPHER-KEY INTEGRITY-KEY SPI` of the traffic.
+pub fn add_keyed(keyed: &Keyed, text: &mut Text) {
+    text.add(" ");
+    text.add_number(u64::from(keyed.epoch));
+    text.add(" ");
+    text.add_number(u64::from(keyed.sequence));
+    add_spaced(&keyed.spi, text);
+    add_path(keyed.path.keys(), "", text);
+    add_traffic(&keyed.traffic, text);
 }

@@ -1,13 +1,12 @@
 //! Pushes that are opened one after the other, in a line of text each.
 
-use crate::fields::{SealedNames, TrafficKeys};
+use crate::fields::{add_names, add_traffic};
+use case_lines::{Text, number, octets};
 use gd_edges::TestVerifier;
-use group_terms::NodeValue;
+use group_terms::{NoMemory, NodeValue};
 use kd_wire::UpdateSpan;
 use push_msg::{OpenBody, OpenPush, PushRefusal, Room, open_push};
 use std::alloc::Global;
-use std::io::ErrorKind;
-use std::{fmt, io};
 
 /// What is known for pushes to be opened: the SPI of their Rekey SA and its KEK.
 #[derive(Clone, Copy)]
@@ -25,8 +24,8 @@ pub struct Pushes {
 
 impl Pushes {
     /// No push is opened before a key is known.
-    pub fn new(alloc: Global) -> io::Result<Self> {
-        let room = Room::new(alloc).map_err(|_| ErrorKind::OutOfMemory)?;
+    pub fn new(alloc: Global) -> Result<Self, NoMemory> {
+        let room = Room::new(alloc)?;
         Ok(Pushes { known: None, room })
     }
 
@@ -35,79 +34,70 @@ impl Pushes {
         self.known = Some(key);
     }
 
-    /// Opens a push after this last number, and says what it gives or why it is refused.
-    pub fn answer(&mut self, alloc: Global, last: u32, datagram: &[u8]) -> io::Result<String> {
-        let Some(known) = self.known else {
-            return Err(ErrorKind::InvalidInput.into());
+    /// Opens a push after a last number, and says what it gives or why it is refused.
+    pub fn answer(&mut self, alloc: Global, words: &[&str], text: &mut Text) -> Option<()> {
+        let [last, datagram] = words else {
+            return None;
         };
+        let (known, last) = (self.known?, number(last)?);
+        let datagram = octets(alloc, datagram)?;
+        self.open(&known, last, datagram.as_slice(), text);
+        Some(())
+    }
+
+    fn open(&mut self, known: &RekeyKey, last: u32, datagram: &[u8], text: &mut Text) {
         let verifier = TestVerifier::new();
         let room = &mut self.room;
         match open_push(datagram, &known.spi, &known.kek, last, &verifier, room) {
-            Ok(push) => {
-                let keys = self.room.text();
-                let fields = PushFields { push, keys };
-                Ok(format!(in alloc; "{fields}")?)
-            }
-            Err(refusal) => {
-                let refused = Refused { refusal };
-                Ok(format!(in alloc; "{refused}")?)
-            }
+            Ok(push) => add_push(&push, self.room.text(), text),
+            Err(refusal) => add_refused(refusal, text),
         }
     }
 }
 
 /// `membership NUMBER` with the keys that the arrays give, `ID.EPOCH>ID.EPOCH` each, after the key that seals it; or
 /// `traffic NUMBER CIPHER-KEY INTEGRITY-KEY SPI`.
-#[derive(Clone, Copy)]
-struct PushFields<'a> {
-    push: OpenPush,
-    keys: &'a [u8],
-}
-
-impl fmt::Display for PushFields<'_> {
-    fn fmt<W: fmt::Write>(&self, f: &mut fmt::Formatter<W>) -> fmt::Result {
-        let sequence = self.push.sequence;
-        match self.push.body {
-            OpenBody::Membership { span, .. } => {
-                write!(f, "membership {sequence}")?;
-                fmt_given(span, self.keys, f)
-            }
-            OpenBody::Traffic { traffic } => {
-                let keys = TrafficKeys { traffic };
-                write!(f, "traffic {sequence} {keys}")
-            }
+fn add_push(push: &OpenPush, keys: &[u8], text: &mut Text) {
+    match &push.body {
+        OpenBody::Membership { span, .. } => {
+            text.add("membership ");
+            text.add_number(u64::from(push.sequence));
+            add_given(span, keys, text);
+        }
+        OpenBody::Traffic { traffic } => {
+            text.add("traffic ");
+            text.add_number(u64::from(push.sequence));
+            add_traffic(traffic, text);
         }
     }
 }
 
-fn fmt_given<W: fmt::Write>(
-    span: UpdateSpan,
-    body: &[u8],
-    f: &mut fmt::Formatter<W>,
-) -> fmt::Result {
+fn add_given(span: &UpdateSpan, body: &[u8], text: &mut Text) {
     for array in span.arrays(body) {
         for key in array.keys {
-            let names = SealedNames { key };
-            write!(f, " {names}")?;
+            add_names(&key, text);
         }
     }
-    Ok(())
 }
 
 /// Why a push is refused: `malformed PLACE`, `other-spi`, `bad-signature`, `stale LAST NUMBER`, or `no-path LEAF`.
-#[derive(Clone, Copy)]
-struct Refused {
-    refusal: PushRefusal,
-}
-
-impl fmt::Display for Refused {
-    fn fmt<W: fmt::Write>(&self, f: &mut fmt::Formatter<W>) -> fmt::Result {
-        match self.refusal {
-            PushRefusal::OtherSpi { .. } => write!(f, "other-spi"),
-            PushRefusal::Malformed { at } => write!(f, "malformed {at}"),
-            PushRefusal::BadSignature => write!(f, "bad-signature"),
-            PushRefusal::Stale { last, got } => write!(f, "stale {last} {got}"),
-            PushRefusal::NoPath { leaf } => write!(f, "no-path {}", leaf.number()),
+fn add_refused(refusal: PushRefusal, text: &mut Text) {
+    match refusal {
+        PushRefusal::OtherSpi { .. } => text.add("other-spi"),
+        PushRefusal::BadSignature => text.add("bad-signature"),
+        PushRefusal::Malformed { at } => {
+            text.add("malformed ");
+            text.add_number(u64::from(at));
+        }
+        PushRefusal::Stale { last, got } => {
+            text.add("stale ");
+            text.add_number(u64::from(last));
+            text.add(" ");
+            text.add_number(u64::from(got));
+        }
+        PushRefusal::NoPath { leaf } => {
+            text.add("no-path ");
+            text.add_number(u64::from(leaf.number()));
         }
     }
 }

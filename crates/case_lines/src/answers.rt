@@ -1,0 +1,46 @@
+//! Standard input, answered line by line.
+
+use crate::Text;
+use std::io;
+use std::io::{BufRead, BufReader, ErrorKind};
+
+/// Cases so far.
+pub trait Cases {
+    /// Does what the words of a line ask for, and appends the answer. `None` where they ask for nothing that can be done.
+    fn answer(&mut self, rt: &HostRuntime, words: &[&str], text: &mut Text) -> Option<()>;
+}
+
+/// Answers standard input, line by line. `InvalidInput` at the first line that asks for nothing that can be done.
+pub fn answer_all<C: Cases>(rt: &HostRuntime, cases: &mut C) -> io::Result<()> {
+    let input = BufReader::new(rt.alloc(), rt.reader())?;
+    for line in input.lines(rt.alloc()) {
+        let line = line?;
+        answer_line(rt, line.as_str(), cases)?;
+    }
+    Ok(())
+}
+
+fn answer_line<C: Cases>(rt: &HostRuntime, line: &str, cases: &mut C) -> io::Result<()> {
+    let mut text = Text::new(rt.alloc());
+    match answer_words(rt, line, cases, &mut text) {
+        Some(()) => print_text(rt, &text),
+        None => Err(ErrorKind::InvalidInput.into()),
+    }
+}
+
+fn answer_words<C: Cases>(
+    rt: &HostRuntime,
+    line: &str,
+    cases: &mut C,
+    text: &mut Text,
+) -> Option<()> {
+    let words = line.split_whitespace().collect::<Vec<_>>(rt.alloc()).ok()?;
+    cases.answer(rt, words.as_slice(), text)
+}
+
+fn print_text(rt: &HostRuntime, text: &Text) -> io::Result<()> {
+    match text.whole() {
+        Some(text) => print!(rt; "{text}"),
+        None => Err(ErrorKind::OutOfMemory.into()),
+    }
+}

@@ -1,0 +1,88 @@
+//! Texts of whole blocks, chained under keys of 128 bits.
+use crate::octets::octets;
+use gd_cipher::{Key128, cbc_open, cbc_seal};
+
+const KEY: &str = "2b7e151628aed2a6abf7158809cf4f3c";
+
+const IV: &str = "000102030405060708090a0b0c0d0e0f";
+
+const PLAIN: &str = "6bc1bee22e409f96e93d7e117393172aae2d8a571e03ac9c9eb76fac45af8e51\
+    30c81c46a35ce411e5fbc1191a0a52eff69f2445df4f9b17ad2b417be66c3710";
+
+const SEALED: &str = "7649abac8119b246cee98e9b12e9197d5086cb9b507219ee95db113a917678b2\
+    73bed6b8e3c1743b7116e69e222295163ff1caa1681fac09120eca307586e1a7";
+
+/// SP 800-38A sections F.2.1 and F.2.2.
+#[test]
+fn a_text_is_sealed_and_opened(rt: HostRuntime) {
+    assert!(rt; known_text_holds() == Some(true));
+}
+
+fn known_text_holds() -> Option<bool> {
+    let key = Key128::new(octets(KEY)?);
+    let iv = octets(IV)?;
+    let plain: [u8; 64] = octets(PLAIN)?;
+    let sealed: [u8; 64] = octets(SEALED)?;
+    let mut text = plain;
+    cbc_seal(&key, &iv, &mut text);
+    let there = text == sealed;
+    cbc_open(&key, &iv, &mut text);
+    cbc_seal(&key, &iv, &mut []);
+    Some(there & (text == plain))
+}
+
+/// Texts of 0 to 8 blocks under drawn keys and IVs are opened as they were sealed, and sealed again as they were opened.
+#[test]
+fn generated_texts_come_back(rt: HostRuntime) {
+    let mut draws = Draws { state: 1 };
+    let opened = (0..1_000).all(|round| is_opened_again(&mut draws, round));
+    let mut draws = Draws { state: 2 };
+    let sealed = (0..1_000).all(|round| is_sealed_again(&mut draws, round));
+    assert!(rt; opened & sealed);
+}
+
+/// Whether a text, sealed, is another one, and comes back.
+fn is_opened_again(draws: &mut Draws, round: usize) -> bool {
+    let key = Key128::new(draws.octets());
+    let iv = draws.octets();
+    let plain: [u8; 128] = draws.octets();
+    let mut text = plain;
+    let whole = 16 * (round % 9);
+    cbc_seal(&key, &iv, &mut text[..whole]);
+    let changed = whole == 0 || text[..whole] != plain[..whole];
+    cbc_open(&key, &iv, &mut text[..whole]);
+    changed & (text == plain)
+}
+
+/// Whether a text, opened, is another one, and comes back.
+fn is_sealed_again(draws: &mut Draws, round: usize) -> bool {
+    let key = Key128::new(draws.octets());
+    let iv = draws.octets();
+    let sealed: [u8; 128] = draws.octets();
+    let mut text = sealed;
+    let whole = 16 * (round % 9);
+    cbc_open(&key, &iv, &mut text[..whole]);
+    let changed = whole == 0 || text[..whole] != sealed[..whole];
+    cbc_seal(&key, &iv, &mut text[..whole]);
+    changed & (text == sealed)
+}
+
+/// Octets drawn by a linear congruence.
+#[derive(Drop)]
+struct Draws {
+    state: u64,
+}
+
+impl Draws {
+    fn octets<const N: usize>(&mut self) -> [u8; N] {
+        let mut octets = [0; N];
+        for octet in &mut octets {
+            self.state = self
+                .state
+                .wrapping_mul(6_364_136_223_846_793_005)
+                .wrapping_add(1_442_695_040_888_963_407);
+            *octet = (self.state >> 56) as u8;
+        }
+        octets
+    }
+}

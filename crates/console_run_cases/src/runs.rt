@@ -1,0 +1,78 @@
+//! A run of the console, and the scripts with their reports.
+ghost use Rattle.std.specs.Prelude.{◌≤◌, length};
+
+use console_run::{Ending, Finished, console};
+use gd_disk::MemDisk;
+use gd_edges::{ChaChaDraws, Sink, Source, TestSigner, TestVerifier};
+use group_terms::{List, NoMemory};
+use std::alloc::Global;
+
+pub(crate) const GOOD_LINES: &str = "join a\nbatch\njoin b\n";
+
+pub(crate) const TOLD_GOOD: &str = "\
+new depth 2
+a queued
+epoch 1 sequence 0 members 1
+a keyed 1
+b queued
+end 0
+";
+
+pub(crate) const BAD_THIRD: &str = "join a\nbatch\njoin A\njoin b\n";
+
+pub(crate) const TOLD_BAD: &str = "\
+new depth 2
+a queued
+epoch 1 sequence 0 members 1
+a keyed 1
+end 2 line 3
+";
+
+/// What a run left: how it ended, how many entries its history has, and whether the disk is as it was.
+#[derive(Clone, Copy)]
+pub(crate) struct Outcome {
+    pub(crate) ending: Ending,
+    pub(crate) entries: usize,
+    pub(crate) disk_stays: bool,
+}
+
+/// Runs the console between a source and a sink, on a disk with these octets.
+pub(crate) fn run<S: Source, K: Sink>(
+    alloc: Global,
+    words: &str,
+    source: &mut S,
+    sink: &mut K,
+    image: &[u8],
+) -> Result<Outcome, NoMemory>
+    requires { length image.now ≤ 1000 }
+{
+    let octets = List::copy_of(alloc, image)?;
+    let words = words_of(alloc, words)?;
+    let Finished {
+        ending,
+        history,
+        disk,
+    } = console(
+        alloc,
+        words.as_slice(),
+        source,
+        sink,
+        MemDisk::holding(alloc, octets),
+        TestSigner::new(),
+        &TestVerifier::new(),
+        ChaChaDraws::new(0, 0),
+    );
+    Ok(Outcome {
+        ending,
+        entries: history.len(),
+        disk_stays: disk.image() == image,
+    })
+}
+
+fn words_of(alloc: Global, text: &str) -> Result<Vec<String>, NoMemory> {
+    let mut words = Vec::new(alloc);
+    for word in text.split_ascii_whitespace() {
+        words.push(String::from_str(alloc, word)?)?;
+    }
+    Ok(words)
+}

@@ -1,0 +1,131 @@
+//! A look at a board waits for no turn at the desk whose value publishes on it.
+ghost use Rattle.std.specs.Prelude.{◌≡◌, [], IfOk};
+ghost use Rattle.desk.specs.Turned.{new_passes};
+
+use crate::halls::{Hall, Watch, look_and_tell, wait_for};
+use desk::{Desk, DeskMade, Kept, Pass};
+use epoch_board::{BoardMade, BoardPass, EpochBoard, Publisher};
+use group_terms::{List, Log, NoMemory};
+use std::alloc::Global;
+use std::sync::Wait;
+use std::sync::atomic::AtomicBool;
+use std::test::Fail;
+use std::thread;
+use std::thread::Threads;
+
+/// Which board a value publishes on. No value of it is made.
+pub struct OnBoard {
+    pub board: EpochBoard,
+}
+
+/// Publishes each epoch that it is told, and waits in its turn for the flag.
+#[derive(Drop)]
+struct Waiting<'a> {
+    epochs: Log<u32>,
+    hall: &'a Hall,
+    publisher: Publisher,
+    ghost one_board: { publisher.board ≡ hall.now.board },
+}
+
+/// An epoch, and a pass that is shown what was published.
+#[derive(Drop)]
+struct Told {
+    epoch: u32,
+    pass: BoardPass,
+}
+
+impl Kept for Waiting<'_> {
+    type Event = Told;
+
+    type Entry = u32;
+
+    type Answer = BoardPass;
+
+    type Tag = OnBoard;
+
+    ghost use Rattle.std.specs.Prelude.{◌≡◌};
+
+    ghost listed = { λ waiting. waiting.epochs.items };
+
+    ghost spare = { λ waiting. waiting.epochs.spare };
+
+    ghost tag = { λ waiting. record { board = waiting.hall.now.board } };
+
+    ghost Suits = { λ event tag. event.pass.board ≡ tag.board };
+
+    ghost Relates = { λ _ event entry answer. (entry ≡ event.epoch) × (answer.board ≡ event.pass.board) };
+
+    fn take<R: Threads + Wait + Sync>(&mut self, rt: &R, _number: u64, event: Told) -> BoardPass {
+        let Told { epoch, mut pass } = event;
+        let board = &self.hall.board;
+        board.publish(&mut self.publisher, epoch, 0);
+        wait_for(rt, &self.hall.flag);
+        board.meet(&mut self.publisher, &mut pass);
+        self.epochs.add(epoch);
+        pass
+    }
+
+    fn reserve(&mut self, turns: u64) -> Result<(), NoMemory> {
+        self.epochs.reserve(turns)
+    }
+}
+
+/// Takes one turn for the first epoch.
+fn turn_once<'a, R: Threads + Wait + Sync>(
+    rt: &R,
+    desk: &Desk<Waiting<'a>>,
+    pass: &mut Pass<Waiting<'a>>,
+    told: Told,
+) -> bool
+    requires desk { pass.old.desk ≡ desk.now.id }
+    requires board { told.pass.board ≡ desk.now.terms.tag.board }
+{
+    desk.turn(rt, pass, told).is_ok()
+}
+
+/// A desk of one pass at a value that publishes on the board of this hall.
+fn desk_of(alloc: Global, hall: &Hall, publisher: Publisher) -> Result<DeskMade<Waiting<'_>>, Fail>
+    requires { publisher.board ≡ hall.now.board }
+    ensures desk { IfOk result (λ made. (made.desk.terms.tag.board ≡ hall.now.board) × (made.desk.terms.passes ≡ 1)) }
+    ensures passes { IfOk result (λ made. made.passes ≡ new_passes made.desk.id made.desk.terms) }
+{
+    let waiting = Waiting {
+        epochs: Log::of(List::new(alloc)),
+        hall,
+        publisher,
+    };
+    match Desk::new(alloc, waiting, 1, 1) {
+        Ok(made) => Ok(made),
+        Err(_) => Err(Fail::new("memory is short")),
+    }
+}
+
+#[test]
+fn a_look_waits_for_no_turn(rt: HostRuntime) -> Result<(), Fail> {
+    let BoardMade {
+        board,
+        publisher,
+        mut reader,
+    } = EpochBoard::new(rt.alloc())?;
+    let told = Told {
+        epoch: 1,
+        pass: board.split(&mut reader),
+    };
+    let hall = Hall {
+        board,
+        flag: AtomicBool::new(false),
+    };
+    let mut watch = Watch {
+        hall: &hall,
+        pass: reader,
+    };
+    let DeskMade { desk, mut passes } = desk_of(rt.alloc(), &hall, publisher)?;
+    let mut pass = passes.pop().ok_or("one pass")?;
+    let (turned, seen) = thread::join(
+        &rt,
+        || turn_once(&rt, &desk, &mut pass, told),
+        || look_and_tell(&rt, &mut watch),
+    );
+    assert_eq!(rt; (turned, seen.epoch, seen.sequence), (true, 1, 0));
+    Ok(())
+}

@@ -1,0 +1,103 @@
+//! What comes of many turns, in several threads.
+ghost use Rattle.std.specs.Prelude.{◌<◌, ◌≤◌};
+
+use crate::sums::Sums;
+use desk::{Closed, Desk, DeskMade};
+use desk_sites::work_all;
+use group_terms::{List, NoMemory};
+use std::alloc::Global;
+use std::sync::Wait;
+use std::thread::Threads;
+
+/// So many turns with each pass, in so many threads, by events that count up from 0; and the sum of them at a rate.
+#[derive(Clone, Copy)]
+struct Case {
+    passes: u32,
+    turns: u32,
+    threads: usize,
+    rate: u64,
+    entries: usize,
+    sum: u64,
+}
+
+const TWO_THREADS: Case = Case {
+    passes: 2,
+    turns: 50,
+    threads: 2,
+    rate: 1,
+    entries: 100,
+    sum: 4950,
+};
+
+const AT_A_RATE: Case = Case {
+    passes: 2,
+    turns: 50,
+    threads: 2,
+    rate: 3,
+    entries: 100,
+    sum: 3 * 4950,
+};
+
+const SIXTEEN_THREADS: Case = Case {
+    passes: 64,
+    turns: 4096,
+    threads: 16,
+    rate: 1,
+    entries: 262_144,
+    sum: 34_359_607_296,
+};
+
+#[test]
+fn threads_make_all_turns(rt: HostRuntime) -> Result<(), NoMemory> {
+    let two = makes_all(&rt, rt.alloc(), &TWO_THREADS)?;
+    let at_a_rate = makes_all(&rt, rt.alloc(), &AT_A_RATE)?;
+    let sixteen = makes_all(&rt, rt.alloc(), &SIXTEEN_THREADS)?;
+    assert!(rt; two & at_a_rate & sixteen);
+    Ok(())
+}
+
+/// Whether each number of the case comes once, and the sum is that of the case.
+fn makes_all<R: Threads + Wait + Sync>(rt: &R, alloc: Global, case: &Case) -> Result<bool, NoMemory>
+    requires passes { (1 ≤ case.now.passes) × (case.now.passes ≤ 64) }
+    requires turns { (1 ≤ case.now.turns) × (case.now.turns ≤ 4096) }
+    requires threads { 0 < case.now.threads }
+{
+    let mut found = vec![in alloc; false; case.entries]?;
+    let sums = sums_of(rt, alloc, case)?;
+    let once = each_once(&mut found, sums.entries.items());
+    Ok(once & (sums.sum == case.sum) & (sums.misplaced == 0))
+}
+
+/// Makes all turns of a desk, and answers the value.
+fn sums_of<'a, R: Threads + Wait + Sync>(
+    rt: &R,
+    alloc: Global,
+    case: &'a Case,
+) -> Result<Sums<'a>, NoMemory>
+    requires passes { (1 ≤ case.now.passes) × (case.now.passes ≤ 64) }
+    requires turns { (1 ≤ case.now.turns) × (case.now.turns ≤ 4096) }
+    requires threads { 0 < case.now.threads }
+{
+    let sums = Sums::new(alloc, &case.rate);
+    let made = Desk::new(alloc, sums, case.passes, u64::from(case.turns));
+    let Ok(DeskMade { desk, passes }) = made else {
+        return Err(NoMemory);
+    };
+    let mut passes = passes.into_vec();
+    work_all(rt, &desk, passes.as_mut_slice(), case.turns, case.threads);
+    match desk.close(List::from_vec(passes)) {
+        Ok(Closed { kept, calls: _ }) => Ok(kept),
+        Err(_) => Err(NoMemory),
+    }
+}
+
+/// Whether the entries are the numbers of these places, each once.
+fn each_once(found: &mut [bool], entries: &[u64]) -> bool {
+    for entry in entries {
+        match found.get_mut(*entry as usize) {
+            Some(once) if !*once => *once = true,
+            _ => return false,
+        }
+    }
+    entries.len() == found.len()
+}

@@ -1,0 +1,196 @@
+//! Bodies of the SA payload, and what is told of those with a fault.
+ghost use Rattle.std.specs.Prelude.{◌⊎◌, IsSome};
+
+use crate::octets::octets;
+use group_terms::{List, NoMemory, SignKind, WireFault, WireWhat};
+use sa_wire::{
+    KekPolicy, PlacedKek, PlacedSa, PlacedTek, SaPolicy, TekPolicy, read_placed_sa, read_sa,
+    sa_size, write_sa,
+};
+use std::alloc::Global;
+
+/// The body with both policies, as another implementation writes it.
+const TEXT: &str = "0000000200000000000f0000\
+    100000491101035004c000020101035004e9fc0001ade0b876903df1a0e56a5d4028bd8653000000008001000180020003\
+    80030080000400040001518080050003800600808007010000000033011101000004c000020101000004e9fc00010c\
+    9ac3e826800100010002000400000e10800400018005000580060080";
+
+const KEK: KekPolicy = KekPolicy {
+    spi: [
+        0xad, 0xe0, 0xb8, 0x76, 0x90, 0x3d, 0xf1, 0xa0, 0xe5, 0x6a, 0x5d, 0x40, 0x28, 0xbd, 0x86,
+        0x53,
+    ],
+    sign: SignKind {
+        algorithm: 128,
+        key_bits: 256,
+    },
+};
+
+const TEK: TekPolicy = TekPolicy {
+    spi: [0x9a, 0xc3, 0xe8, 0x26],
+};
+
+const BOTH: SaPolicy = SaPolicy {
+    kek: Some(KEK),
+    tek: Some(TEK),
+};
+
+const KEK_ALONE: SaPolicy = SaPolicy {
+    kek: Some(KEK),
+    tek: None,
+};
+
+const TEK_ALONE: SaPolicy = SaPolicy {
+    kek: None,
+    tek: Some(TEK),
+};
+
+/// Where the SPIs and the numbers of the signature's attributes are, counted by hand in the octets of both policies, whose first one has
+/// the place 40.
+const PLACED: PlacedSa = PlacedSa {
+    kek: Some(PlacedKek {
+        policy: KEK,
+        spi_at: 40 + 33,
+        algorithm_at: 40 + 79,
+        key_bits_at: 40 + 83,
+    }),
+    tek: Some(PlacedTek {
+        policy: TEK,
+        spi_at: 40 + 108,
+    }),
+};
+
+#[test]
+fn places_are_those_of_the_octets(rt: HostRuntime) {
+    assert!(rt; text_is_read(rt.alloc()) == Some(true));
+}
+
+/// Whether the policies are written so, and are read of it.
+fn text_is_read(alloc: Global) -> Option<bool> {
+    let text: [u8; 136] = octets(TEXT)?;
+    let mut body = List::new(alloc);
+    write_sa(&BOTH, &mut body).ok()?;
+    let placed = (read_placed_sa(&text, 40) == Ok(PLACED)) & (PLACED.policy() == BOTH);
+    let written = (body.as_slice() == text.as_slice()) & (sa_size(&BOTH) == 136);
+    Some(written & placed & (read_sa(&text, 40) == Ok(BOTH)))
+}
+
+/// Both policies and each alone: how many octets their body has, and that it is read as the same.
+#[test]
+fn policies_are_written_and_read(rt: HostRuntime) -> Result<(), NoMemory> {
+    let both = is_read_again(rt.alloc(), &BOTH, 136)?;
+    let kek = is_read_again(rt.alloc(), &KEK_ALONE, 85)?;
+    let tek = is_read_again(rt.alloc(), &TEK_ALONE, 63)?;
+    assert!(rt; both & kek & tek);
+    Ok(())
+}
+
+fn is_read_again(alloc: Global, policy: &SaPolicy, size: usize) -> Result<bool, NoMemory>
+    requires { IsSome policy.now.kek ⊎ IsSome policy.now.tek }
+{
+    let mut body = List::new(alloc);
+    write_sa(policy, &mut body)?;
+    Ok((body.len() == size) & (read(body.as_slice()) == Ok(*policy)))
+}
+
+/// Reads a body whose first octet has the place 40, and of which a datagram holds at most 65,507 octets.
+fn read(body: &[u8]) -> Result<SaPolicy, WireFault> {
+    read_sa(&body[..body.len().min(65_507)], 40)
+}
+
+/// The body of a SAT alone, up to its attributes, of which there are 24 octets.
+const SAT_OF_24: &str =
+    "00000002000000000010000000000033011101000004c000020101000004e9fc00010c9ac3e826";
+
+/// The same with 20 octets of attributes.
+const SAT_OF_20: &str =
+    "0000000200000000001000000000002f011101000004c000020101000004e9fc00010c9ac3e826";
+
+/// The same with 16 octets of attributes.
+const SAT_OF_16: &str =
+    "0000000200000000001000000000002b011101000004c000020101000004e9fc00010c9ac3e826";
+
+/// A body up to its attributes, these, and what is read of it.
+type Attributes = (&'static str, &'static str, Result<SaPolicy, WireFault>);
+
+/// The attributes of a TEK stand in any order, and the duration has either form.
+const TAKEN: [Attributes; 3] = [
+    (
+        SAT_OF_24,
+        "800100010002000400000e10800400018005000580060080",
+        Ok(TEK_ALONE),
+    ),
+    (
+        SAT_OF_24,
+        "8006008080050005800400010002000400000e1080010001",
+        Ok(TEK_ALONE),
+    ),
+    (
+        SAT_OF_24,
+        "000200040000000080040002800100018006008080050005",
+        Ok(TEK_ALONE),
+    ),
+];
+
+/// A second attribute of a kind, one without a rule, a long form where that is not taken, and a number that is not taken, after a SAT of
+/// which the attributes begin at place 39 of the body; then a SAT that ends where the key length is still awaited.
+const REFUSED: [Attributes; 5] = [
+    (
+        SAT_OF_20,
+        "800100018001000180020e108004000180050005",
+        Err(WireFault {
+            what: WireWhat::Kind { number: 1 },
+            at: 83,
+        }),
+    ),
+    (
+        SAT_OF_20,
+        "800100018003000180020e108004000180050005",
+        Err(WireFault {
+            what: WireWhat::Kind { number: 3 },
+            at: 83,
+        }),
+    ),
+    (
+        SAT_OF_20,
+        "800100010004000180020e108004000180050005",
+        Err(WireFault {
+            what: WireWhat::Kind { number: 4 },
+            at: 83,
+        }),
+    ),
+    (
+        SAT_OF_20,
+        "800100028003000180020e108004000180050005",
+        Err(WireFault {
+            what: WireWhat::Value,
+            at: 81,
+        }),
+    ),
+    (
+        SAT_OF_16,
+        "8001000180020e108004000180050005",
+        Err(WireFault {
+            what: WireWhat::Short,
+            at: 95,
+        }),
+    ),
+];
+
+#[test]
+fn attributes_stand_in_any_order_and_exactly_once(rt: HostRuntime) {
+    let taken = TAKEN
+        .iter()
+        .all(|row| is_answered(rt.alloc(), row) == Some(true));
+    let refused = REFUSED
+        .iter()
+        .all(|row| is_answered(rt.alloc(), row) == Some(true));
+    assert!(rt; taken & refused);
+}
+
+fn is_answered(alloc: Global, (head, attributes, answer): &Attributes) -> Option<bool> {
+    let attributes = hex::decode(alloc, attributes).ok()?;
+    let mut body = List::copy_of(alloc, &octets::<39>(head)?).ok()?;
+    body.extend(attributes.as_slice()).ok()?;
+    Some(read(body.as_slice()) == *answer)
+}

@@ -1,0 +1,70 @@
+//! Stores of groups that are made.
+ghost use Rattle.std.specs.Prelude.{◌≤◌, length, IsSome, IfSome};
+
+use crate::values::{POSITIONS, batch, values};
+use gd_disk::FileDisk;
+use group_model::{PresentTree, TreeStep};
+use group_terms::{Batch, GroupName, Octets};
+use std::alloc::Global;
+use tree_store::{Head, TreeStore};
+
+/// How deep the tree is.
+const DEPTH: u8 = 9;
+
+type FileStore = TreeStore<FileDisk<HostRuntime>>;
+
+/// Makes the store of a group with so many batches in the file at a path, whatever that held.
+pub fn make(rt: &HostRuntime, path: &str, count: u32) -> Option<()> {
+    let disk = FileDisk::new(rt.alloc(), rt, path).ok()?;
+    make_on(rt.alloc(), disk, count)
+}
+
+fn make_on(alloc: Global, disk: FileDisk<HostRuntime>, count: u32) -> Option<()> {
+    let head = Head {
+        depth: DEPTH,
+        name: GroupName::read(b"bench")?,
+        spi: [0xad; 16],
+        limit: u32::MAX,
+    };
+    let mut store = TreeStore::create(alloc, disk, &head).ok()?;
+    let mut tree = PresentTree::new(alloc, DEPTH).ok()?;
+    for number in 0..count {
+        store_batch(alloc, &mut store, &mut tree, number)?;
+    }
+    Some(())
+}
+
+/// Stores the batch of this number. The tree goes on by it.
+fn store_batch(
+    alloc: Global,
+    store: &mut FileStore,
+    tree: &mut PresentTree,
+    number: u32,
+) -> Option<()>
+    requires { IsSome store.old.end }
+    ensures { IsSome store.new.end }
+{
+    let batch = batch(alloc, number)?;
+    if !tree.fits(&batch) {
+        return None;
+    }
+    let Ok(Some(step)) = tree.step(alloc, &batch, u32::MAX) else {
+        return None;
+    };
+    let made = record(alloc, &batch, &step, number)?;
+    store.commit(&made).ok()?;
+    tree.advance(step);
+    Some(())
+}
+
+/// The record of a batch.
+fn record(alloc: Global, batch: &Batch, step: &TreeStep, number: u32) -> Option<Octets>
+    ensures { IfSome result (λ made. length made ≤ 65536) }
+{
+    let values = values(alloc, step.drawn(), number)?;
+    if values.nodes.len() > POSITIONS {
+        return None;
+    }
+    let (epoch, sequence) = (step.epoch(), step.sequence());
+    FileStore::make_record(alloc, batch, epoch, sequence, &values).ok()
+}

@@ -1,0 +1,2 @@
+pub mod DerivationFacts
+pub mod RunFacts

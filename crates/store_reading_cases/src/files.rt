@@ -1,0 +1,45 @@
+//! Files that are read.
+use gd_disk::MemDisk;
+use group_terms::Octets;
+use std::alloc::Global;
+use tree_store::{FormatRefusal, JournalRefusal, TreeStore};
+
+/// How many batches are read of a file, and the gate of the record that is refused then, if one is.
+pub(crate) type Found = (usize, Option<u64>);
+
+/// Opens the store in a file of at most 65,536 octets, of which nothing more is said.
+pub(crate) fn opened(
+    alloc: Global,
+    file: Octets,
+) -> Result<TreeStore<MemDisk>, FormatRefusal<MemDisk>> {
+    if file.len() > 65_536 {
+        return TreeStore::open(alloc, MemDisk::new(alloc));
+    }
+    TreeStore::open(alloc, MemDisk::holding(alloc, file))
+}
+
+/// What is read of a file; `None` where that fails in another way.
+pub(crate) fn read(alloc: Global, file: Octets) -> Option<Found> {
+    match opened(alloc, file) {
+        Ok(mut store) => rest_of(alloc, &mut store),
+        Err(refused) => refused_at(0, refused.why),
+    }
+}
+
+fn rest_of(alloc: Global, store: &mut TreeStore<MemDisk>) -> Option<Found> {
+    for count in 0..10 {
+        match store.next_batch(alloc) {
+            Ok(Some(_)) => {}
+            Ok(None) => return Some((count, None)),
+            Err(why) => return refused_at(count, why),
+        }
+    }
+    None
+}
+
+fn refused_at(count: usize, why: JournalRefusal) -> Option<Found> {
+    match why {
+        JournalRefusal::NotAJournal { at } => Some((count, Some(at))),
+        _ => None,
+    }
+}

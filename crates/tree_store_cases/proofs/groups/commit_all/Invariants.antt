@@ -1,6 +1,0 @@
-use Rattle.std.proofs.Common.{IsSome}
-use Rattle.tree_store_cases.proofs.groups.commit_all.Given as goal
-
--- the place of the closed gate is known
-abbrev pub invariant-loop-stored : goal.invariant-loop-stored
-invariant-loop-stored l = IsSome l.store.end

@@ -1,0 +1,6 @@
+use Rattle.std.proofs.Common.{IsSome}
+use Rattle.tree_store_cases.proofs.stores.commit_all.Given as goal
+
+-- the place of the closed gate is known
+abbrev pub invariant-loop-stored : goal.invariant-loop-stored
+invariant-loop-stored l = IsSome l.store.end
