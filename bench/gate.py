@@ -25,8 +25,8 @@ import tempfile
 import time
 
 HERE = os.path.dirname(os.path.dirname(os.path.abspath(__file__)))
-# What the gate calls of the kit, and what stands in the place of each: it runs the call and notes what it took.
-CALLS = ("rattle", "rattle-link", "rattle-test")
+# What the gate calls of the kit to prove and to build, and what stands in the place of each: it runs the call and notes what it took.
+CALLS = ("rattle", "rattle-link")
 WRAPPER = """#!{python} -IS
 import json, os, sys, time
 begun, words = time.time(), sys.argv[1:]
@@ -83,7 +83,7 @@ def kind_of(call, folder, words):
     """Says what a call is part of: the crate's proof, its tests, its edits or its program."""
     if "rt-edit-" in folder:
         return "edits"
-    if call == "rattle-test" or "--test" in words or any(it.endswith("_tests.o") for it in words):
+    if "--test" in words or any(it.endswith("_tests.o") for it in words):
         return "tests"
     return "program" if call == "rattle-link" or "src/main.rt" in words else "proof"
 
@@ -142,7 +142,7 @@ def tell(room):
     print("| All, minutes |", " | ".join(f"{it / 60:.1f}" for it in sums), "|")
     if whole:
         used, wall, status = whole
-        print(f"\n{used / 60:.1f} processor minutes in all, {(used - sum(sums)) / 60:.1f} of them the gate's own and runs of programs; {wall / 60:.1f} minutes on the clock; status {status}.")
+        print(f"\n{used / 60:.1f} processor minutes in all, {(used - sum(sums)) / 60:.1f} of them the gate's own and runs of tests and programs; {wall / 60:.1f} minutes on the clock; status {status}.")
         sums = [used]
     over = [it for crate in sorted(seconds) for it in above_budget(crate, seconds[crate])]
     over += [f"all: {sum(sums) / 60:.0f} minutes, and {ALL // 60} are due"] * (sum(sums) > ALL)
