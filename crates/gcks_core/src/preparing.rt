@@ -29,7 +29,7 @@ use gd_edges::{Draws, Signer};
 use group_keys::keyed_after;
 use group_model::{Counter, PresentTree, PushPair, TreeStep, each_leaf_has_its_place};
 use group_pushes::{values_fit, write_pair};
-use group_terms::{Batch, BatchValues, Change, List, NoMemory, Wrap};
+use group_terms::{Batch, BatchValues, Change, List, NoMemory, Octets, Wrap};
 use group_values::{KeptValues, draw_values};
 use std::alloc::Global;
 use tree_store::{Head, TreeStore};
@@ -70,7 +70,8 @@ pub(crate) fn prepare_batch<D: Disk, G: Signer, R: Draws>(
     let step = next_step(alloc, tree, batch, head.limit)?;
     let values = draw_values(alloc, draws, step.drawn())?;
     values_fit(&values);
-    Ok(make_ready::<D, G>(alloc, tree, kept, batch, head, signer, step, values)?)
+    let ready = make_ready::<D, G>(alloc, tree, kept, batch, head, signer, &step, &values)?;
+    Ok(ready.of(step, values))
 }
 
 /// What the next batch makes of the tree. `Spent` where a limit forbids it.
@@ -112,6 +113,34 @@ fn spent(tree: &PresentTree, limit: u32) -> Refusal
     }
 }
 
+/// What is made of a step and the values of its keys: the record of the batch, what it puts out, and the replies.
+#[derive(Drop)]
+struct Ready {
+    text: Octets,
+    output: CoreOutput,
+    replies: List<(MemberName, Keyed)>,
+}
+
+impl Ready {
+    /// All that was made ready, with what it was made of.
+    fn of(self, step: TreeStep, values: BatchValues) -> Prepared
+        ensures { result ≡ record { values = values; text = self.text; output = self.output; step = step; replies = self.replies } }
+    {
+        let Ready {
+            text,
+            output,
+            replies,
+        } = self;
+        Prepared {
+            values,
+            text,
+            output,
+            step,
+            replies,
+        }
+    }
+}
+
 /// The record, what is put out and the replies of a batch whose values were drawn.
 fn make_ready<D: Disk, G: Signer>(
     alloc: Global,
@@ -120,35 +149,33 @@ fn make_ready<D: Disk, G: Signer>(
     batch: &Batch,
     head: &Head,
     signer: &G,
-    step: TreeStep,
-    values: BatchValues,
-) -> Result<Prepared, NoMemory>
+    step: &TreeStep,
+    values: &BatchValues,
+) -> Result<Ready, NoMemory>
     requires fits { Fits tree.now.holders batch.now }
     requires group { (list : List Made) × IsGroupOf head.now tree.now kept.now list }
-    requires step { IsStepOf tree.now batch.now head.now.limit step }
-    requires drawn { ids_of values.nodes ≡ step.drawn }
-    requires high { 128 ≤ octet_at values.traffic.spi 0 }
+    requires step { IsStepOf tree.now batch.now head.now.limit step.now }
+    requires drawn { ids_of values.now.nodes ≡ step.now.drawn }
+    requires high { 128 ≤ octet_at values.now.traffic.spi 0 }
     ensures ready { (list : List Made) → IsGroupOf head.now tree.now kept.now list →
-        IfOk result (IsReadyFor G.Signer signer.now head.now tree.now batch.now list) }
-    ensures values { IfOk result (λ prepared. prepared.values ≡ values) }
+        IfOk result (λ ready. IsReadyFor G.Signer signer.now head.now tree.now batch.now list
+        (record { values = values.now; text = ready.text; output = ready.output; step = step.now; replies = ready.replies })) }
 {
     draws_few(tree);
     renews_few(tree, batch);
-    let text = TreeStore::<D>::make_record(alloc, batch, step.epoch(), step.sequence(), &values)?;
-    let pushes = write_pair(alloc, tree, &step, kept, &values, &head.spi, signer)?;
-    let replies = replies(alloc, tree, &step, kept, &values, &head.spi, batch)?;
+    let text = TreeStore::<D>::make_record(alloc, batch, step.epoch(), step.sequence(), values)?;
+    let pushes = write_pair(alloc, tree, step, kept, values, &head.spi, signer)?;
+    let replies = replies(alloc, tree, step, kept, values, &head.spi, batch)?;
     let output = CoreOutput {
         epoch: step.epoch(),
         sequence: step.sequence(),
-        members: tree.members_after(&step),
+        members: tree.members_after(step),
         wraps: wraps_of(alloc, &pushes)?,
         pushes,
     };
-    Ok(Prepared {
-        values,
+    Ok(Ready {
         text,
         output,
-        step,
         replies,
     })
 }

@@ -49,17 +49,28 @@ pub(crate) fn write(
     ensures err { OnErr result (octets.new ≡ octets.old) }
     ensures err_events { OnErr result (events.new ≡ events.old) }
 {
-    let end = octets.len();
-    let overlap = new.len().min(end - at);
-    let event = Event::Wrote {
-        at,
-        octets: List::copy_of(alloc, new)?,
-        undo: List::copy_of(alloc, &octets.as_slice()[at..at + overlap])?,
-    };
-    octets.extend(&new[overlap..])?;
-    octets.keep_or_truncate(end, events.push(event))?;
+    let overlap = new.len().min(octets.len() - at);
+    let count = events.len();
+    note_write(alloc, events, at, new, &octets.as_slice()[at..at + overlap])?;
+    events.keep_or_truncate(count, octets.extend(&new[overlap..]))?;
     lay_over(octets.as_mut_slice(), at, &new[..overlap]);
     Ok(())
+}
+
+/// Notes a write at a place over these octets.
+fn note_write(
+    alloc: Global,
+    events: &mut List<Event>,
+    at: usize,
+    new: &[u8],
+    over: &[u8],
+) -> Result<(), NoMemory>
+    ensures noted { OnOk result (events.new ≡ events.old ++ Wrote at new.now over.now ∷ []) }
+    ensures err { OnErr result (events.new ≡ events.old) }
+{
+    let octets = List::copy_of(alloc, new)?;
+    let undo = List::copy_of(alloc, over)?;
+    events.push(Event::Wrote { at, octets, undo })
 }
 
 /// Copies a piece over the octets at a place.

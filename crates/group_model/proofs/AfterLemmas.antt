@@ -20,7 +20,7 @@ use Rattle.group_model.specs.Wraps.{is_nil}
 use Rattle.group_model.specs.Private.Draws.{renewed_from, fresh_by, drawn_by}
 use Rattle.group_model.specs.Private.Seats.{AreOnce, seats_of, leaves_taken}
 use Rattle.group_model.specs.Private.Trees.{renewed, wraps_between}
-use Rattle.group_model.specs.Private.Unchanged.{unchanged_holders}
+use Rattle.tree_leaves.specs.Unchanged.{unchanged_holders}
 use Rattle.group_model.proofs.DrawLemmas.{drawn_by-is}
 use Rattle.group_model.proofs.EpochLemmas.{holders_at-all, holders_at-append}
 use Rattle.group_model.proofs.FewLemmas.{renewed_few}

@@ -7,7 +7,6 @@ pub mod FirstLemmas
 pub mod FitLemmas
 pub mod HandoverLemmas
 pub mod HistoryLemmas
-pub mod HolderLemmas
 pub mod JoinLemmas
 pub mod JoinedLemmas
 pub mod OnceLemmas

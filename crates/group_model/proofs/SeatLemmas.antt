@@ -19,7 +19,7 @@ use Rattle.group_model.specs.Fresh.{changed_leaves, is_same_holder}
 use Rattle.group_model.specs.Places.{Holders, is_held_by, member_count, vacated, placed, holders_after}
 use Rattle.group_model.specs.Private.Seats.{IsIndex, AreOnce, vacancies}
 use Rattle.group_model.specs.Steps.{IsSeating, seated}
-use Rattle.group_model.specs.Private.Unchanged.{unchanged_holders}
+use Rattle.tree_leaves.specs.Unchanged.{unchanged_holders}
 use Rattle.group_model.proofs.StayedLemmas.{same_name-is, same_name-self, and_true, get_or-map_at}
 
 held_name : (m : Name) (holder : Option Name) → is_held_by m holder ≡ true → holder ≡ Some m

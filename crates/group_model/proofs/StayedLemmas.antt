@@ -14,7 +14,7 @@ use Rattle.group_terms.specs.declared.changes.Change.{Change}
 use Rattle.group_model.specs.Places.{Holders, is_held_by, is_member, vacated, placed, holders_after, Fits}
 use Rattle.group_model.specs.Fresh.{is_same_holder}
 use Rattle.group_model.specs.Stayed.{is_kept, kept_leaves}
-use Rattle.group_model.specs.Private.Unchanged.{unchanged_holders}
+use Rattle.tree_leaves.specs.Unchanged.{unchanged_holders}
 use Rattle.group_model.proofs.EpochLemmas.{length-holders_after}
 
 pub same_name-is : (m n : Name) → same_name m n ≡ true → m ≡ n

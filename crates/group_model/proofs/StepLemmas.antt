@@ -20,7 +20,7 @@ use Rattle.group_model.specs.Present.{Present, StandsFor, changes_at}
 use Rattle.group_model.specs.Private.Draws.{is_renewed, renewed_from}
 use Rattle.group_model.specs.Private.Trees.{renewed_at}
 use Rattle.group_model.specs.Private.Steps.{step_wrap, child_wrap, inner_wraps, wraps_up}
-use Rattle.group_model.specs.Private.Unchanged.{unchanged_holders}
+use Rattle.tree_leaves.specs.Unchanged.{unchanged_holders}
 use Rattle.group_model.specs.Stayed.{is_kept, kept_leaves, somebody_stayed}
 use Rattle.group_model.specs.Steps.{IsStepOf, seated, stepped}
 use Rattle.group_model.specs.Wraps.{falling, node_wraps, wraps_at, wraps_of}

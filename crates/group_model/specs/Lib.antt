@@ -1,12 +1,13 @@
+-- Which leaf is whose, and which keys are new, are definitions of the leaves alone.
+pub use Rattle.tree_leaves.specs.Fresh
+pub use Rattle.tree_leaves.specs.Places
 pub mod Derivations
 pub mod Drawn
-pub mod Fresh
 pub mod Groups
 pub mod Histories
 pub mod Laws
 pub mod Legal
 pub mod Openings
-pub mod Places
 pub mod Present
 pub mod Private
 pub mod Refusals

@@ -8,4 +8,3 @@ pub mod Seats
 pub mod Steps
 pub mod Suits
 pub mod Trees
-pub mod Unchanged

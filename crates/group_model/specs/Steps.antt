@@ -13,7 +13,7 @@ use Rattle.group_model.specs.Places.{Holders, holders_of, place_in}
 use Rattle.group_model.specs.Present.{Present, StandsFor, IsTreeAfter}
 use Rattle.group_model.specs.Private.Draws.{fresh_by}
 use Rattle.group_model.specs.Private.Trees.{renewed}
-use Rattle.group_model.specs.Private.Unchanged.{unchanged_holders}
+use Rattle.tree_leaves.specs.Unchanged.{unchanged_holders}
 
 -- who has which leaf after these changed hands
 abbrev pub seated : Holders → List Seat → Holders

@@ -8,11 +8,11 @@ ghost use Rattle.group_model.specs.Private.Draws.{renewed_from};
 ghost use Rattle.group_model.specs.Private.Seats.{IsIndexOf};
 ghost use Rattle.group_model.specs.Private.Trees.{renewed};
 
-use crate::holders::Holder;
 use crate::indexes::NameIndex;
 use crate::seats::{Seat, Seating};
 use crate::{LkhId, PresentTree, TreeStep};
 use group_terms::a_mark_is_that_of_a_child;
+use tree_leaves::holders::Holder;
 
 impl PresentTree {
     /// Takes a step that was found out for the tree as it is. It takes no memory.

@@ -6,10 +6,10 @@ ghost use Rattle.group_model.specs.Places.{Fits, holders_of, member_count, names
 ghost use Rattle.group_model.specs.Private.Seats.{IsIndexOf};
 ghost use Rattle.group_model.specs.Private.Suits.{suits};
 
-use crate::holders::{self, Holder};
 use crate::indexes::NameIndex;
 use crate::{Batch, Change, History, PresentTree};
 use group_terms::is_named;
+use tree_leaves::holders::{self, Holder};
 
 impl PresentTree {
     /// Whether the tree can take a batch next: each `Out` names a member, each `In` somebody who is none, no name comes twice,

@@ -5,9 +5,9 @@ ghost use Rattle.group_terms.specs.Positions.{is_below};
 ghost use Rattle.group_model.specs.declared.handovers.Handover.{Handover};
 ghost use Rattle.group_model.specs.Private.Handovers.{handed_over, all_handed_over, taken_by, was_of, renews};
 
-use crate::holders::{self, Holder};
 use crate::{List, LkhId, MemberName, NoMemory};
 use std::alloc::Global;
+use tree_leaves::holders::{self, Holder};
 
 /// A leaf that changed hands.
 #[derive(Clone, Copy)]

@@ -8,11 +8,11 @@ ghost use Rattle.group_model.specs.Private.Handovers.{all_handed_over, handovers
 ghost use Rattle.group_model.specs.Private.Trees.{StandsAt, HasShape};
 
 use crate::handovers::{self, Handover};
-use crate::holders::{self, Holder};
 use crate::trees::Tree;
 use crate::{Batch, Change, List, LkhId, MemberName, NoMemory, Wrap};
 use std::alloc::Global;
 use std::marker::Model;
+use tree_leaves::holders::{self, Holder};
 
 /// The batches of a group, each of which made an epoch, with a tree of one depth.
 ///
@@ -188,7 +188,7 @@ impl History {
         };
         let before = self.tree(alloc, index)?;
         let after = self.next_tree(alloc, &before, index)?;
-        Ok(after.wraps(alloc, self.depth(), &before, epoch)?)
+        after.wraps(alloc, self.depth(), &before, epoch)
     }
 
     /// The tree of an epoch.

@@ -6,10 +6,10 @@ ghost use Rattle.group_terms.specs.Names.{same_name};
 ghost use Rattle.group_model.specs.Places.{Holders, is_held_by, is_member, place_in};
 ghost use Rattle.group_model.specs.Private.Seats.{IsIndex, IsIndexOf};
 
-use crate::holders::{self, Holder};
 use crate::{LkhId, MemberName, NoMemory};
 use std::alloc::Global;
 use std::collections::HashMap;
+use tree_leaves::holders::{self, Holder};
 
 /// The place of each member's leaf by its name, as long as there is room for that; without it names are looked for leaf by leaf.
 #[derive(Drop)]

@@ -26,7 +26,6 @@ mod entries;
 mod fits;
 mod handovers;
 mod history;
-mod holders;
 mod indexes;
 mod laws;
 mod paths;

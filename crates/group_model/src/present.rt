@@ -6,10 +6,11 @@ ghost use Rattle.group_model.specs.Steps.{IsReady, stepped};
 
 use crate::indexes::NameIndex;
 use crate::trees::Tree;
-use crate::{LkhId, MemberName, NoMemory, TreeStep, holders};
+use crate::{LkhId, MemberName, NoMemory, TreeStep};
 use group_terms::LeafMarks;
 use std::alloc::Global;
 use std::marker::Model;
+use tree_leaves::holders;
 
 /// Who has which leaf at the present epoch, and when each position got its key.
 ///
@@ -53,10 +54,10 @@ impl PresentTree {
         ensures depth { IfOk result (λ tree. tree.depth ≡ depth) }
         ensures empty { IfOk result (λ tree. StandsFor tree []) }
     {
-        let tree = Tree::empty(alloc, depth)?;
         let held = LeafMarks::none(alloc, depth)?;
-        let free = holders::free(alloc, depth, tree.holders.as_slice())?;
         let index = NameIndex::new(alloc, held.count())?;
+        let tree = Tree::empty(alloc, depth)?;
+        let free = holders::free(alloc, depth, tree.holders.as_slice())?;
         Ok(PresentTree {
             depth,
             epoch: 0,

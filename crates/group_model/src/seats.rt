@@ -1,5 +1,5 @@
 //! Leaves that change hands with a batch.
-ghost use Rattle.std.specs.Prelude.{◌≡◌, ◌+◌, ◌^◌, ◌<◌, ◌≤◌, [], ◌∷◌, ◌++◌, length, map, is_none, is_some, IfOk, OnOk};
+ghost use Rattle.std.specs.Prelude.{◌≡◌, ◌+◌, ◌^◌, ◌<◌, ◌≤◌, [], ◌∷◌, ◌++◌, length, map, replicate, is_none, is_some, false, IfOk, OnOk};
 ghost use Rattle.std.specs.List.{All, fold};
 ghost use Rattle.group_terms.specs.Changes.{leaver, leavers, joiners};
 ghost use Rattle.group_model.specs.declared.seats.Seat.{Seat};
@@ -8,11 +8,11 @@ ghost use Rattle.group_model.specs.Private.Seats.{IsIndexOf, vacancies, placemen
 ghost use Rattle.group_model.specs.Steps.{IsSeating, seated};
 
 use crate::handovers::position;
-use crate::holders::{self, Holder};
 use crate::indexes::NameIndex;
 use crate::{Change, List, LkhId, MemberName, NoMemory};
 use group_terms::LeafMarks;
 use std::alloc::Global;
+use tree_leaves::holders::{self, Holder};
 
 /// A leaf, and who has it from now on.
 #[derive(Clone, Copy)]
@@ -51,12 +51,16 @@ impl Seating {
             free.now ≡ record { depth = depth; leaves = map is_none before } → IsSeating before seating) }
         ensures depth { IfOk result (λ seating. seating.held.depth ≡ held.now.depth) }
     {
+        let of_held = copies(alloc, held)?;
+        let of_free = copy_and_none(alloc, depth, free)?;
+        let (held, kept) = of_held;
+        let (free, changed) = of_free;
         Ok(Seating {
             seats: List::new(alloc),
-            held: held.copy(alloc)?,
-            free: free.copy(alloc)?,
-            changed: LeafMarks::none(alloc, depth)?,
-            kept: held.copy(alloc)?,
+            held,
+            free,
+            changed,
+            kept,
         })
     }
 
@@ -165,4 +169,27 @@ impl Seating {
         }
         Ok(ids)
     }
+}
+
+/// The same marks twice.
+fn copies(alloc: Global, marks: &LeafMarks) -> Result<(LeafMarks, LeafMarks), NoMemory>
+    ensures first { IfOk result (λ copies. copies.0 ≡ marks.now) }
+    ensures second { IfOk result (λ copies. copies.1 ≡ marks.now) }
+{
+    let first = marks.copy(alloc)?;
+    Ok((first, marks.copy(alloc)?))
+}
+
+/// The same marks, and as many leaves of which none is marked.
+fn copy_and_none(
+    alloc: Global,
+    depth: u8,
+    marks: &LeafMarks,
+) -> Result<(LeafMarks, LeafMarks), NoMemory>
+    requires { depth ≤ 9 }
+    ensures copy { IfOk result (λ both. both.0 ≡ marks.now) }
+    ensures none { IfOk result (λ both. both.1 ≡ record { depth = depth; leaves = replicate (2 ^ depth) false }) }
+{
+    let copy = marks.copy(alloc)?;
+    Ok((copy, LeafMarks::none(alloc, depth)?))
 }

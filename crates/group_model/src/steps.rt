@@ -6,13 +6,15 @@ ghost use Rattle.group_model.specs.Places.{Fits, holders_after};
 ghost use Rattle.group_model.specs.Present.{IsTreeAfter};
 ghost use Rattle.group_model.specs.Steps.{IsReady, IsSeating, IsStepOf, seated, stepped};
 ghost use Rattle.group_model.specs.Private.Draws.{renewed_from, marked_children};
-ghost use Rattle.group_model.specs.Private.Seats.{AreOnce, seats_of};
+ghost use Rattle.group_model.specs.Private.Seats.{AreOnce, leaves_taken, seats_of};
+ghost use Rattle.group_model.specs.declared.seats.Seat.{Seat};
 
 use crate::handovers::position;
 use crate::seats::Seating;
 use crate::{Batch, Change, List, LkhId, NoMemory, PresentTree};
 use group_terms::{LeafMarks, a_mark_is_that_of_a_child};
 use std::alloc::Global;
+use tree_leaves::is_marked;
 
 /// What a batch makes of a tree. It costs the depth for each change, and a copy of a mark for each position.
 #[derive(Drop)]
@@ -76,9 +78,11 @@ impl PresentTree {
         let Some(sequence) = number_within(self.sequence, seating.kept.any(), limit) else {
             return Ok(None);
         };
-        let fresh = fresh(alloc, self.depth, &seating.changed)?;
-        let drawn = drawn(alloc, fresh.as_slice(), &seating.held)?;
-        let joined = seating.joined(alloc, self.leaves())?;
+        let Positions {
+            fresh,
+            drawn,
+            joined,
+        } = list_positions(alloc, self.depth, self.leaves(), &seating)?;
         Ok(Some(TreeStep {
             epoch: self.epoch + 1,
             sequence,
@@ -116,6 +120,42 @@ impl PresentTree {
         seating.place_all(holders, batch)?;
         Ok(seating)
     }
+}
+
+/// The lists of positions that a step has.
+#[derive(Drop)]
+struct Positions {
+    fresh: List<LkhId>,
+    drawn: List<LkhId>,
+    joined: List<LkhId>,
+}
+
+/// The positions of a step, by the leaves that change hands.
+fn list_positions(
+    alloc: Global,
+    depth: u8,
+    leaves: usize,
+    seating: &Seating,
+) -> Result<Positions, NoMemory>
+    requires not_deep { depth ≤ 9 }
+    requires changed { seating.now.changed.depth ≡ depth }
+    requires held { seating.now.held.depth ≡ depth }
+    requires some { 0 < leaves }
+    requires few { leaves ≤ 512 }
+    requires within { All (λ (seat : Seat). seat.place < leaves) seating.now.seats }
+    ensures fresh { IfOk result (λ positions. positions.fresh ≡ renewed_from depth seating.now.changed.leaves 1 (2 ^ (depth + 1) - 1)) }
+    ensures drawn { IfOk result (λ positions. positions.drawn ≡
+        filter (λ v. v == 1 || some_leaf_below seating.now.held.depth seating.now.held.leaves v) positions.fresh) }
+    ensures joined { IfOk result (λ positions. positions.joined ≡ leaves_taken leaves seating.now.seats) }
+{
+    let fresh = fresh(alloc, depth, &seating.changed)?;
+    let drawn = drawn(alloc, fresh.as_slice(), &seating.held)?;
+    let joined = seating.joined(alloc, leaves)?;
+    Ok(Positions {
+        fresh,
+        drawn,
+        joined,
+    })
 }
 
 /// The number of the last push after a batch over which somebody stayed or nobody did, where it is not past a limit.
@@ -201,13 +241,4 @@ fn drawn(alloc: Global, fresh: &[LkhId], held: &LeafMarks) -> Result<List<LkhId>
         }
     }
     Ok(ids)
-}
-
-/// Whether a position is the root, or a marked leaf stands at it or below it.
-fn is_marked(id: LkhId, leaves: &LeafMarks) -> bool
-    requires { id < 2 ^ (leaves.now.depth + 1) }
-    ensures { result ≡ (id == 1 || some_leaf_below leaves.now.depth leaves.now.leaves id) }
-{
-    let v = usize::from(id.number());
-    v == 1 || leaves.is_below(v)
 }

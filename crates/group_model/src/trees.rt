@@ -8,10 +8,10 @@ ghost use Rattle.group_model.specs.Fresh.{changed_leaves};
 ghost use Rattle.group_model.specs.Private.Trees.{renewed_at, renewed, is_made_in, child_wrap, child_wraps, wraps_down};
 
 use crate::handovers::position;
-use crate::holders::{self, Holder};
 use crate::{Change, KeyName, List, LkhId, NoMemory, Wrap};
 use group_terms::marks_above;
 use std::alloc::Global;
+use tree_leaves::holders::{self, Holder};
 
 /// Who has each leaf, and the last change of each position.
 #[derive(Drop)]

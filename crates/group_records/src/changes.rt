@@ -59,6 +59,5 @@ fn append_change(change: &Change, out: &mut Octets) -> Result<(), NoMemory>
         Change::In { .. } => IN,
     };
     out.push(kind)?;
-    append_name(change.member().text(), out)?;
-    Ok(())
+    append_name(change.member().text(), out)
 }

@@ -54,6 +54,5 @@ pub(crate) fn append_name(name: &[u8], out: &mut Octets) -> Result<(), NoMemory>
     ensures long { OnOk result (length out.new ≡ length out.old + 1 + length name.now) }
 {
     out.push(name.len() as u8)?;
-    out.extend(name)?;
-    Ok(())
+    out.extend(name)
 }

@@ -96,8 +96,7 @@ fn append_node(node: &Drawn, out: &mut Octets) -> Result<(), NoMemory>
     BigEndian::write_u16(&mut id, node.id.number());
     out.extend(&id)?;
     out.extend(&node.value.iv)?;
-    out.extend(&node.value.key)?;
-    Ok(())
+    out.extend(&node.value.key)
 }
 
 /// Appends the value of a traffic key.
@@ -107,6 +106,5 @@ pub(crate) fn append_traffic(traffic: &TrafficValue, out: &mut Octets) -> Result
 {
     out.extend(&traffic.cipher_key)?;
     out.extend(&traffic.integrity_key)?;
-    out.extend(&traffic.spi)?;
-    Ok(())
+    out.extend(&traffic.spi)
 }

@@ -62,8 +62,7 @@ fn append_traffic(count: u8, traffic: &TrafficValue, out: &mut Octets) -> Result
     out.extend(&head)?;
     out.extend(&traffic.spi)?;
     write_long(CIPHER_KEY, &traffic.cipher_key, out)?;
-    write_long(INTEGRITY_KEY, &traffic.integrity_key, out)?;
-    Ok(())
+    write_long(INTEGRITY_KEY, &traffic.integrity_key, out)
 }
 
 fn append_updates(
@@ -77,8 +76,7 @@ fn append_updates(
 {
     out.extend(&[0, 1, 0, 0])?;
     append_lkh_head(spi, arrays.len(), out)?;
-    out.extend(arrays)?;
-    Ok(())
+    out.extend(arrays)
 }
 
 fn append_reply(keyed: &Keyed, out: &mut Octets) -> Result<(), NoMemory>
@@ -156,6 +154,5 @@ fn append_key(key: &PathKey, out: &mut Octets) -> Result<(), NoMemory>
 {
     append_key_head(key, out)?;
     out.extend(&key.value.iv)?;
-    out.extend(&key.value.key)?;
-    Ok(())
+    out.extend(&key.value.key)
 }

@@ -40,7 +40,7 @@ pub fn write_first(
     write_payload_head(0, id, &mut out)?;
     write_identification(KEY_ID, group.text(), &mut out)?;
     let iv = phase2_iv(&phase.last, message);
-    Ok(finish(out, phase, message, &iv, &[], &[])?)
+    finish(out, phase, message, &iv, &[], &[])
 }
 
 /// The server's answer (RFC 6407 section 3.2): its nonce, and both policies.
@@ -81,7 +81,7 @@ pub fn write_third(
     ensures { IfOk result (λ datagram. IsPullText phase.now iv.now (third_message message.now ni.now nr.now) datagram) }
 {
     let out = begin(alloc, phase, message, 0, 0)?;
-    Ok(finish(out, phase, message, iv, ni.octets(), nr.octets())?)
+    finish(out, phase, message, iv, ni.octets(), nr.octets())
 }
 
 /// The server's keys, after the number of the last push (RFC 6407 section 3.2).

@@ -20,13 +20,11 @@ pub fn append_join(
     match answer {
         Answer::Queued => {
             out.extend(member.text())?;
-            out.extend(b" queued\n")?;
-            Ok(())
+            out.extend(b" queued\n")
         }
         Answer::Nothing => {
             out.extend(member.text())?;
-            out.extend(b" nothing\n")?;
-            Ok(())
+            out.extend(b" nothing\n")
         }
         Answer::Refused { why } => append_refusal(alloc, member.text(), why, out),
         _ => Ok(()),
@@ -44,8 +42,7 @@ pub fn append_leave(
     match answer {
         Answer::Done => {
             out.extend(member.text())?;
-            out.extend(b" leaving\n")?;
-            Ok(())
+            out.extend(b" leaving\n")
         }
         Answer::Refused { why } => append_refusal(alloc, member.text(), why, out),
         _ => Ok(()),
@@ -59,8 +56,7 @@ pub fn append_batch(alloc: Global, answer: &Answer, out: &mut Octets) -> Result<
         Answer::Batched { output } => {
             append_epoch(alloc, output, out)?;
             append_wraps(alloc, output.wraps.as_slice(), out)?;
-            append_pair(alloc, &output.pushes, out)?;
-            Ok(())
+            append_pair(alloc, &output.pushes, out)
         }
         Answer::Refused { why } => append_refusal(alloc, b"batch", why, out),
         _ => Ok(()),

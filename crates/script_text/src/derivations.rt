@@ -21,8 +21,7 @@ pub fn append_derive(
             out.extend(b"derive ")?;
             append_number(alloc, epoch, out)?;
             append_names(members.names(), out)?;
-            append_derived(*yes, out)?;
-            Ok(())
+            append_derived(*yes, out)
         }
         _ => Ok(()),
     }
@@ -33,11 +32,9 @@ fn append_derived(yes: bool, out: &mut Octets) -> Result<(), NoMemory>
     ensures { OnOk result (out.new ≡ out.old ++ 32 ∷ (derived_word yes ++ 10 ∷ [])) }
 {
     if yes {
-        out.extend(b" yes\n")?;
-        Ok(())
+        out.extend(b" yes\n")
     } else {
-        out.extend(b" none\n")?;
-        Ok(())
+        out.extend(b" none\n")
     }
 }
 

@@ -13,8 +13,7 @@ pub fn end_line(alloc: Global, status: u8, line: u32, out: &mut Octets) -> Resul
 {
     let mut text = List::new(alloc);
     append_end(alloc, status, line, &mut text)?;
-    out.extend(text.as_slice())?;
-    Ok(())
+    out.extend(text.as_slice())
 }
 
 #[tactic(auto, unfolding(crate::specs::Report::end_text))]
@@ -29,6 +28,5 @@ fn append_end(alloc: Global, status: u8, line: u32, out: &mut Octets) -> Result<
     }
     out.extend(b"end ")?;
     append_number(alloc, u32::from(status), out)?;
-    out.extend(b"\n")?;
-    Ok(())
+    out.extend(b"\n")
 }

@@ -18,8 +18,7 @@ pub fn append_number(alloc: Global, number: u32, out: &mut Octets) -> Result<(),
     ensures { OnOk result (out.new ≡ out.old ++ decimal number) }
 {
     let digits = number.to_string(alloc)?;
-    out.extend(digits.as_bytes())?;
-    Ok(())
+    out.extend(digits.as_bytes())
 }
 
 /// Puts a place in a file at the end of a text, in decimal.
@@ -27,8 +26,7 @@ pub fn append_place(alloc: Global, place: u64, out: &mut Octets) -> Result<(), N
     ensures { OnOk result (out.new ≡ out.old ++ decimal place) }
 {
     let digits = place.to_string(alloc)?;
-    out.extend(digits.as_bytes())?;
-    Ok(())
+    out.extend(digits.as_bytes())
 }
 
 /// The number that a text is, of 1 to 10 decimal digits and below 2^32; `None` where it is none.

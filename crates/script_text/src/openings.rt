@@ -21,8 +21,7 @@ pub fn append_create(
         Answer::Opened { .. } => {
             out.extend(b"new depth ")?;
             append_number(alloc, u32::from(depth), out)?;
-            out.extend(b"\n")?;
-            Ok(())
+            out.extend(b"\n")
         }
         Answer::Refused { why } => append_refusal(alloc, b"new", why, out),
         _ => Ok(()),
@@ -35,8 +34,7 @@ pub fn append_begin(alloc: Global, answer: &Answer, out: &mut Octets) -> Result<
     match answer {
         Answer::Opened { group, resent } => {
             append_found(alloc, group, out)?;
-            append_pair(alloc, resent, out)?;
-            Ok(())
+            append_pair(alloc, resent, out)
         }
         Answer::Refused { why } => append_refusal(alloc, b"open", why, out),
         _ => Ok(()),
@@ -49,8 +47,7 @@ fn append_found(alloc: Global, group: &GroupSeen, out: &mut Octets) -> Result<()
     out.extend(b"open depth ")?;
     append_number(alloc, u32::from(group.depth), out)?;
     out.extend(b" ")?;
-    append_seen(alloc, group, out)?;
-    Ok(())
+    append_seen(alloc, group, out)
 }
 
 pub fn append_halt(answer: &Answer, out: &mut Octets) -> Result<(), NoMemory>
@@ -68,8 +65,7 @@ pub fn append_reopen(alloc: Global, answer: &Answer, out: &mut Octets) -> Result
     match answer {
         Answer::Opened { group, resent } => {
             append_found_again(alloc, group, out)?;
-            append_pair(alloc, resent, out)?;
-            Ok(())
+            append_pair(alloc, resent, out)
         }
         Answer::Refused { why } => append_refusal(alloc, b"reopen", why, out),
         _ => Ok(()),
@@ -80,6 +76,5 @@ fn append_found_again(alloc: Global, group: &GroupSeen, out: &mut Octets) -> Res
     ensures { OnOk result (out.new ≡ out.old ++ found_again_line group.now) }
 {
     out.extend(b"reopened ")?;
-    append_seen(alloc, group, out)?;
-    Ok(())
+    append_seen(alloc, group, out)
 }

@@ -15,8 +15,7 @@ pub fn append_pair(alloc: Global, pair: &Option<PushPair>, out: &mut Octets) -> 
         Some(pair) => {
             let first = u64::from(pair.first);
             append_push(alloc, first, pair.membership.as_slice(), out)?;
-            append_push(alloc, first + 1, pair.traffic.as_slice(), out)?;
-            Ok(())
+            append_push(alloc, first + 1, pair.traffic.as_slice(), out)
         }
         None => Ok(()),
     }
@@ -36,8 +35,7 @@ fn append_push(
     append_place(alloc, octets.len() as u64, out)?;
     out.extend(b" ")?;
     append_hex(alloc, octets, out)?;
-    out.extend(b"\n")?;
-    Ok(())
+    out.extend(b"\n")
 }
 
 /// Puts octets at the end of a text, in hex of lower case.
@@ -45,8 +43,7 @@ pub fn append_hex(alloc: Global, octets: &[u8], out: &mut Octets) -> Result<(), 
     ensures { OnOk result (out.new ≡ out.old ++ encode_lower octets.now) }
 {
     let text = hex::encode(alloc, octets)?;
-    out.extend(text.as_bytes())?;
-    Ok(())
+    out.extend(text.as_bytes())
 }
 
 /// Puts the reason for which a member takes no push at the end of a text.
@@ -65,13 +62,11 @@ pub fn append_push_refusal(
             out.extend(b"stale ")?;
             append_number(alloc, *last, out)?;
             out.extend(b" ")?;
-            append_number(alloc, *got, out)?;
-            Ok(())
+            append_number(alloc, *got, out)
         }
         PushRefusal::NoPath { leaf } => {
             out.extend(b"no-path ")?;
-            append_number(alloc, u32::from(leaf.number()), out)?;
-            Ok(())
+            append_number(alloc, u32::from(leaf.number()), out)
         }
     }
 }

@@ -18,8 +18,7 @@ pub fn append_refusal(
     out.extend(subject)?;
     out.extend(b" refused ")?;
     append_why(alloc, why, out)?;
-    out.extend(b"\n")?;
-    Ok(())
+    out.extend(b"\n")
 }
 
 fn append_why(alloc: Global, why: &Refusal, out: &mut Octets) -> Result<(), NoMemory>
@@ -33,14 +32,12 @@ fn append_why(alloc: Global, why: &Refusal, out: &mut Octets) -> Result<(), NoMe
         Refusal::BatchFull { pending } => append_count(alloc, b"batch-full ", *pending, out),
         Refusal::Spent { counter, at } => {
             out.extend(b"spent ")?;
-            append_spent(alloc, *counter, *at, out)?;
-            Ok(())
+            append_spent(alloc, *counter, *at, out)
         }
         Refusal::DiskFault => out.extend(b"disk-fault"),
         Refusal::NotAJournal { at } => {
             out.extend(b"not-a-journal ")?;
-            append_place(alloc, *at, out)?;
-            Ok(())
+            append_place(alloc, *at, out)
         }
         Refusal::NoMemory => out.extend(b"no-memory"),
     }
@@ -61,6 +58,5 @@ fn append_count(alloc: Global, word: &[u8], number: u32, out: &mut Octets) -> Re
     ensures { OnOk result (out.new ≡ out.old ++ (word.now ++ decimal number)) }
 {
     out.extend(word)?;
-    append_number(alloc, number, out)?;
-    Ok(())
+    append_number(alloc, number, out)
 }

@@ -17,8 +17,7 @@ pub fn report_entry(alloc: Global, entry: &Entry, out: &mut Octets) -> Result<()
 {
     let mut text = List::new(alloc);
     append_answer(alloc, &entry.asked, &entry.answer, &mut text)?;
-    out.extend(text.as_slice())?;
-    Ok(())
+    out.extend(text.as_slice())
 }
 
 fn append_answer(

@@ -24,8 +24,7 @@ pub fn append_counts(
     append_number(alloc, sequence, out)?;
     out.extend(b" members ")?;
     append_place(alloc, members, out)?;
-    out.extend(b"\n")?;
-    Ok(())
+    out.extend(b"\n")
 }
 
 /// Puts those of a group at the end of a text.
@@ -42,8 +41,7 @@ pub fn append_show(alloc: Global, answer: &Answer, out: &mut Octets) -> Result<(
     match answer {
         Answer::Shown { group } => {
             append_group(alloc, group, out)?;
-            append_leaves(alloc, group.members.as_slice(), out)?;
-            Ok(())
+            append_leaves(alloc, group.members.as_slice(), out)
         }
         Answer::Refused { why } => append_refusal(alloc, b"show", why, out),
         _ => Ok(()),
@@ -54,8 +52,7 @@ fn append_group(alloc: Global, group: &GroupSeen, out: &mut Octets) -> Result<()
     ensures { OnOk result (out.new ≡ out.old ++ group_line group.now) }
 {
     out.extend(b"group ")?;
-    append_seen(alloc, group, out)?;
-    Ok(())
+    append_seen(alloc, group, out)
 }
 
 /// Puts a line for each member at the end of a text.
@@ -76,6 +73,5 @@ fn append_leaf(alloc: Global, standing: &Standing, out: &mut Octets) -> Result<(
     append_number(alloc, u32::from(standing.leaf.number()), out)?;
     out.extend(b" ")?;
     out.extend(member.text())?;
-    out.extend(b"\n")?;
-    Ok(())
+    out.extend(b"\n")
 }

@@ -23,8 +23,7 @@ pub fn append_keep(
             out.extend(member.text())?;
             out.extend(b" keyed ")?;
             append_number(alloc, *epoch, out)?;
-            out.extend(b"\n")?;
-            Ok(())
+            out.extend(b"\n")
         }
         Answer::Older { last, got } => {
             out.extend(member.text())?;
@@ -32,8 +31,7 @@ pub fn append_keep(
             append_number(alloc, *last, out)?;
             out.extend(b" ")?;
             append_number(alloc, *got, out)?;
-            out.extend(b"\n")?;
-            Ok(())
+            out.extend(b"\n")
         }
         _ => Ok(()),
     }
@@ -51,25 +49,21 @@ pub fn append_deliver(
     match answer {
         Answer::TookRoot { epoch } => {
             append_delivered(alloc, member, sequence, out)?;
-            append_taken(alloc, b"root", *epoch, out)?;
-            Ok(())
+            append_taken(alloc, b"root", *epoch, out)
         }
         Answer::TookTraffic { epoch } => {
             append_delivered(alloc, member, sequence, out)?;
-            append_taken(alloc, b"traffic", *epoch, out)?;
-            Ok(())
+            append_taken(alloc, b"traffic", *epoch, out)
         }
         Answer::PushRefused { why } => {
             append_delivered(alloc, member, sequence, out)?;
             out.extend(b" refused ")?;
             append_push_refusal(alloc, why, out)?;
-            out.extend(b"\n")?;
-            Ok(())
+            out.extend(b"\n")
         }
         Answer::Nothing => {
             append_delivered(alloc, member, sequence, out)?;
-            out.extend(b" nothing\n")?;
-            Ok(())
+            out.extend(b" nothing\n")
         }
         _ => Ok(()),
     }
@@ -86,8 +80,7 @@ fn append_delivered(
 {
     out.extend(member.text())?;
     out.extend(b" push ")?;
-    append_number(alloc, sequence, out)?;
-    Ok(())
+    append_number(alloc, sequence, out)
 }
 
 /// Puts the end of the line of a push that was taken at the end of a text: which key of which epoch it gave.
@@ -98,8 +91,7 @@ fn append_taken(alloc: Global, key: &[u8], epoch: u32, out: &mut Octets) -> Resu
     out.extend(key)?;
     out.extend(b" ")?;
     append_number(alloc, epoch, out)?;
-    out.extend(b"\n")?;
-    Ok(())
+    out.extend(b"\n")
 }
 
 pub fn append_deliver_all(alloc: Global, answer: &Answer, out: &mut Octets) -> Result<(), NoMemory>
@@ -128,13 +120,11 @@ pub fn append_fingerprint(
             out.extend(member.text())?;
             out.extend(b" key ")?;
             append_number(alloc, *epoch, out)?;
-            append_print(alloc, *sequence, print, out)?;
-            Ok(())
+            append_print(alloc, *sequence, print, out)
         }
         Answer::Nothing => {
             out.extend(member.text())?;
-            out.extend(b" nothing\n")?;
-            Ok(())
+            out.extend(b" nothing\n")
         }
         _ => Ok(()),
     }
@@ -153,6 +143,5 @@ fn append_print(
     append_number(alloc, sequence, out)?;
     out.extend(b" ")?;
     append_hex(alloc, print.as_slice(), out)?;
-    out.extend(b"\n")?;
-    Ok(())
+    out.extend(b"\n")
 }

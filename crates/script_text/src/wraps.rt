@@ -23,8 +23,7 @@ fn append_wrap(alloc: Global, wrap: &Wrap, out: &mut Octets) -> Result<(), NoMem
     append_key(alloc, &wrap.by, out)?;
     out.extend(b" ")?;
     append_key(alloc, &wrap.gives, out)?;
-    out.extend(b"\n")?;
-    Ok(())
+    out.extend(b"\n")
 }
 
 fn append_key(alloc: Global, key: &KeyName, out: &mut Octets) -> Result<(), NoMemory>
@@ -34,19 +33,16 @@ fn append_key(alloc: Global, key: &KeyName, out: &mut Octets) -> Result<(), NoMe
         KeyName::Node { id, made } => {
             append_number(alloc, u32::from(id.number()), out)?;
             out.extend(b".")?;
-            append_number(alloc, *made, out)?;
-            Ok(())
+            append_number(alloc, *made, out)
         }
         KeyName::Traffic { made } => {
             out.extend(b"traffic.")?;
-            append_number(alloc, *made, out)?;
-            Ok(())
+            append_number(alloc, *made, out)
         }
         // No batch encrypts under such a key, but each key has a text.
         KeyName::Phase { member } => {
             out.extend(b"phase.")?;
-            out.extend(member.text())?;
-            Ok(())
+            out.extend(member.text())
         }
     }
 }

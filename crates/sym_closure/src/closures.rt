@@ -1,5 +1,6 @@
 //! Deriving keys from keys.
 ghost use Rattle.std.specs.Prelude.{◌≡◌, ◌∷◌, [], length, Contains, Decides, None, Ok, IfOk, IfSome, OnOk};
+ghost use Rattle.std.specs.List.{All};
 ghost use Rattle.group_model.specs.Derivations.{IsDerivation, CanDerive};
 ghost use Rattle.sym_closure.specs.Firsts.{AreAmong, HasSame};
 ghost use Rattle.sym_closure.specs.Private.Gains.{GrowsBy};
@@ -22,10 +23,34 @@ pub fn derive(
         IsDerivation have.now pairs.now derivation.names × Contains derivation.names goal.now)) }
     ensures none { result ≡ Ok None → CanDerive have.now pairs.now goal.now → ⊥ }
 {
+    let graph = graph_with(alloc, have, pairs)?;
+    derive_in(alloc, &graph, have, goal)
+}
+
+/// The keys of some pairs and some keys that are held, and which gives which.
+fn graph_with(alloc: Global, have: &[KeyName], pairs: &[Wrap]) -> Result<KeyGraph, NoMemory>
+    ensures same { IfOk result (λ graph. HasSame pairs.now (pairs_of graph)) }
+    ensures there { IfOk result (λ graph. All (Contains graph.keys) have.now) }
+{
     let mut graph = graph_of(alloc, pairs)?;
     graph.add_keys(alloc, have)?;
-    let reached = reach(alloc, &graph, have)?;
-    if !has(&graph, &reached, goal) {
+    Ok(graph)
+}
+
+/// A derivation of a key by the pairs of a graph, which has the keys that are held; `None` exactly where there is none.
+fn derive_in(
+    alloc: Global,
+    graph: &KeyGraph,
+    have: &[KeyName],
+    goal: &KeyName,
+) -> Result<Option<Derivation>, NoMemory>
+    requires { All (Contains graph.now.keys) have.now }
+    ensures found { IfOk result (λ found. IfSome found (λ derivation.
+        IsDerivation have.now (pairs_of graph.now) derivation.names × Contains derivation.names goal.now)) }
+    ensures none { result ≡ Ok None → CanDerive have.now (pairs_of graph.now) goal.now → ⊥ }
+{
+    let reached = reach(alloc, graph, have)?;
+    if !has(graph, &reached, goal) {
         return Ok(None);
     }
     let names = graph.names(alloc, reached.order())?;

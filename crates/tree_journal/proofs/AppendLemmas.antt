@@ -5,10 +5,10 @@ use Rattle.std.proofs.lemmas.List.{take_at, drop_at, append-nil, take-append-le}
 use Rattle.gd_disk.specs.Disks.{written}
 use Rattle.tree_journal.specs.Crashes.{IsBeforeOrAfter}
 use Rattle.tree_journal.specs.Private.Fronts.{IsFront, Reaches, IsEnd, IsReached, IsLast}
-use Rattle.tree_journal.specs.Private.Gates.{IsGated, gated}
+use Rattle.journal_gates.specs.Gates.{IsGated, gated}
 use Rattle.tree_journal.specs.Records.{records, bodies_from, record_text, records_text, with_front, AreRecordsFrom, IsRecordAt}
 use Rattle.tree_journal.proofs.FrontLemmas.{longer, length-longer, whole_text_at, there_with, next_front, next_reached, reached_file, end_file, length-records_text-append}
-use Rattle.tree_journal.proofs.GateLemmas.{written_both}
+use Rattle.journal_gates.proofs.GateLemmas.{written_both}
 use Rattle.tree_journal.proofs.RecordLemmas.{IsWhole, whole_parts, whole_text, closed_read}
 
 abbrev bodies_of : List (List ℕ) → Result (List (List ℕ)) ℕ → List (List ℕ)

@@ -5,7 +5,7 @@ use Rattle.gd_disk.specs.MomentLaws.{shown_before}
 use Rattle.gd_disk.specs.Moments.{shown, Keeps}
 use Rattle.gd_disk.specs.declared.disks.Disk.{Ghosts}
 use Rattle.tree_journal.specs.Private.Fronts.{IsLast, IsReached, Stands}
-use Rattle.tree_journal.specs.Private.Gates.{gated}
+use Rattle.journal_gates.specs.Gates.{gated}
 use Rattle.tree_journal.proofs.AppendLemmas.{Ready, ready, piece_of, new_file}
 
 module _ {D : Type 0} (g : Ghosts D) (old new : D) (keeps : Keeps g old new) (end : ℕ) (body piece : List ℕ) (text : piece ≡ piece_of body)

@@ -8,7 +8,7 @@ use Rattle.gd_disk.specs.Moments.{shown, Keeps}
 use Rattle.gd_disk.specs.declared.disks.Disk.{Ghosts}
 use Rattle.tree_journal.specs.Crashes.{IsCutOf, IsUnfilled}
 use Rattle.tree_journal.specs.Private.Fronts.{IsReached, Stands}
-use Rattle.tree_journal.specs.Private.Gates.{IsGated, IsTorn}
+use Rattle.journal_gates.specs.Gates.{IsGated, IsTorn}
 use Rattle.tree_journal.specs.Records.{records, is_named, name_text, front_text}
 use Rattle.tree_journal.proofs.FrontLemmas.{first_is_reached, shut_is_last}
 

@@ -5,10 +5,10 @@ use Rattle.gd_disk.specs.MomentLaws.{joined, weaker}
 use Rattle.gd_disk.specs.Moments.{LeavesOnly}
 use Rattle.gd_disk.specs.declared.disks.Disk.{Ghosts}
 use Rattle.tree_journal.specs.Crashes.{IsCutOf, IsUnfilled, MakesJournal}
-use Rattle.tree_journal.specs.Private.Gates.{IsGated, IsTorn}
+use Rattle.journal_gates.specs.Gates.{IsGated, IsTorn}
 use Rattle.tree_journal.specs.Records.{name_text}
 use Rattle.tree_journal.proofs.BeginLemmas.{not_begun, only_cut, torn_first, gated_name}
-use Rattle.tree_journal.proofs.CallLemmas.{Goes, one_call}
+use Rattle.journal_gates.proofs.CallLemmas.{Goes, one_call}
 
 module _ {D : Type 0} (g : Ghosts D) (old : D) where
   abbrev P : List ℕ → Type 0

@@ -7,10 +7,11 @@ use Rattle.std.specs.Prelude.{if◌then◌else◌, ◌==◌, ◌&&◌, OnErr}
 use Rattle.byteorder.specs.Endian.{big_from}
 use Rattle.byteorder.specs.Numbers.{big_from-take}
 use Rattle.tree_journal.specs.Private.Found.{IsShutAt, near_octets}
-use Rattle.tree_journal.specs.Private.Heads.{head_in}
-use Rattle.tree_journal.specs.Records.{records_from, bodies_from, body_next, record_then, most_octets, IsRecordAt}
-use Rattle.tree_journal.specs.declared.reads.Head.{Head}
-use Rattle.tree_journal.specs.declared.reads.Head.TheVariants.{Shut, Open, Broken}
+use Rattle.journal_gates.specs.Heads.{head_in}
+use Rattle.journal_gates.specs.Heads.{most_octets}
+use Rattle.tree_journal.specs.Records.{records_from, bodies_from, body_next, record_then, IsRecordAt}
+use Rattle.journal_gates.specs.declared.heads.Head.{Head}
+use Rattle.journal_gates.specs.declared.heads.Head.TheVariants.{Shut, Open, Broken}
 
 abbrev size_of : Head → ℕ
 size_of (Open size) = size

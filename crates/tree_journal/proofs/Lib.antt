@@ -1,12 +1,8 @@
-pub mod AnswerLemmas
 pub mod AppendLemmas
 pub mod AppendStands
 pub mod BeginLemmas
 pub mod BeginMoments
-pub mod CallLemmas
 pub mod FrontLemmas
-pub mod GateLemmas
-pub mod GatedMoments
 pub mod HeadLemmas
 pub mod RecordLemmas
 pub mod StandLemmas

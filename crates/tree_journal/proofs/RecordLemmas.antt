@@ -6,7 +6,8 @@ use Rattle.std.proofs.Math.Dec.{leb}
 use Rattle.std.specs.Prelude.{if◌then◌else◌, ◌==◌, ◌&&◌}
 use Rattle.byteorder.specs.Endian.{big_bytes, big_from}
 use Rattle.byteorder.specs.Numbers.{big_number-reads_back, length-bytes_high_first, big_from-append, big_from-take}
-use Rattle.tree_journal.specs.Records.{records_from, body_next, record_then, record_text, with_front, most_octets}
+use Rattle.journal_gates.specs.Heads.{most_octets}
+use Rattle.tree_journal.specs.Records.{records_from, body_next, record_then, record_text, with_front}
 
 -- as many steps as there are octets are enough
 pub steps_enough : (m n at : ℕ) (rest : List ℕ) → length rest ≤ m → length rest ≤ n → records_from m at rest ≡ records_from n at rest

@@ -1,4 +1,2 @@
 pub mod Found
 pub mod Fronts
-pub mod Gates
-pub mod Heads

@@ -4,14 +4,11 @@ use Rattle.std.specs.Prelude.{◌≡◌, ℕ, zero, suc, ◌+◌, ◌-◌, ◌==
 use Rattle.std.specs.Prelude.{Ok, Err, if◌then◌else◌}
 use Rattle.std.specs.Str.{bytes_eq}
 use Rattle.byteorder.specs.Endian.{big_from, big_bytes}
+use Rattle.journal_gates.specs.Heads.{most_octets}
 
 -- what the file begins with, once its first gate is open
 abbrev pub name_text : List ℕ
 name_text = codes "GDOIJRNL"
-
--- the most octets of a body
-abbrev pub most_octets : ℕ
-most_octets = 65536
 
 -- a record after its gate
 abbrev pub record_text : List ℕ → List ℕ

@@ -8,11 +8,11 @@ ghost use Rattle.tree_journal.specs.Private.Fronts.{IsLast, IsReached, Stands};
 ghost use Rattle.tree_journal.specs.Records.{AreRecordsFrom, IsRecordAt, records, record_text, bodies_from, is_named};
 ghost use Rattle.tree_journal.specs.declared.refusals.JournalRefusal.TheVariants.{Closed, DiskFault};
 
-use crate::gates::{SHUT, write_gated};
 use crate::journals::Journal;
 use crate::refusals::JournalRefusal;
 use byteorder::{BigEndian, ByteOrder};
 use gd_disk::{Disk, Failed};
+use journal_gates::{SHUT, write_gated};
 
 impl<D: Disk> Journal<D> {
     /// Appends a record with a body of at most 65,536 octets. It takes no memory. A journal that was opened has to be read to its closed gate

@@ -7,12 +7,12 @@ ghost use Rattle.tree_journal.specs.Crashes.{disk_in, Opens, IsCutOf, MakesJourn
 ghost use Rattle.tree_journal.specs.Records.{records, bodies_from, is_named, front_text};
 ghost use Rattle.tree_journal.specs.declared.refusals.JournalRefusal.TheVariants.{DiskFault, NotAJournal, NoMemory as OutOfMemory};
 
-use crate::gates::{SHUT, write_gated, write_through};
 use crate::journals::{FIRST, Journal, room};
 use crate::reads::read_front;
 use crate::refusals::{FormatRefusal, JournalRefusal};
 use gd_disk::{Disk, Failed, a_crash_may_leave_nothing_or_all};
 use group_terms::NoMemory;
+use journal_gates::{SHUT, write_gated, write_through};
 use std::alloc::Global;
 
 /// What a journal begins with: an open gate and its name.

@@ -7,11 +7,9 @@ ghost use Rattle.tree_journal.specs.Records.{records, bodies_from, is_named};
 
 use gd_disk::Disk;
 use group_terms::{NoMemory, Octets};
+use journal_gates::MOST;
 use std::alloc::Global;
 use std::marker::Model;
-
-/// The most octets of a record's body.
-pub(crate) const MOST: usize = 65_536;
 
 /// A piece that is written at once: a length, a body and a closed gate.
 const PIECE: usize = 4 + MOST + 1;

@@ -10,7 +10,6 @@ pub use refusals::{FormatRefusal, JournalRefusal};
 
 mod appends;
 mod formats;
-mod gates;
 mod journals;
 mod laws;
 mod reads;

@@ -4,19 +4,18 @@ ghost use Rattle.gd_disk.specs.Disks.{Knows};
 ghost use Rattle.group_terms.specs.Faults.{Rose};
 ghost use Rattle.gd_disk.specs.Moments.{shown, Keeps, LeavesOnly};
 ghost use Rattle.tree_journal.specs.Private.Found.{IsFound, IsNear, IsShort, near_octets};
-ghost use Rattle.tree_journal.specs.Private.Heads.{head_in};
+ghost use Rattle.journal_gates.specs.Heads.{head_in};
 ghost use Rattle.tree_journal.specs.Records.{IsRecordAt, bodies_from, with_front};
 ghost use Rattle.tree_journal.specs.declared.reads.Found.TheVariants.{Record, Nothing};
-ghost use Rattle.tree_journal.specs.declared.reads.Head.TheVariants.{Open};
+ghost use Rattle.journal_gates.specs.declared.heads.Head.TheVariants.{Open};
 ghost use Rattle.tree_journal.specs.declared.reads.Near.TheVariants.{Whole};
 ghost use Rattle.tree_journal.specs.declared.refusals.JournalRefusal.TheVariants.{Closed, DiskFault, NotAJournal, NoMemory as OutOfMemory};
 
-use crate::gates::OPEN;
-use crate::journals::{Journal, MOST};
+use crate::journals::Journal;
 use crate::refusals::JournalRefusal;
-use byteorder::{BigEndian, ByteOrder};
 use gd_disk::{Disk, Failed};
 use group_terms::{NoMemory, Octets};
+use journal_gates::{Head, head_in};
 use std::alloc::Global;
 
 /// A gate and a length.
@@ -24,17 +23,6 @@ const HEAD: usize = 5;
 
 /// How many octets are read first. Most records end within them.
 const NEAR: usize = 2048;
-
-/// What the octets of a gate and a length say.
-#[derive(Clone, Copy)]
-pub(crate) enum Head {
-    /// The gate is closed.
-    Shut,
-    /// The gate is open, and the record's body has so many octets.
-    Open { size: usize },
-    /// There is no gate, or no length within its limit after an open one.
-    Broken,
-}
 
 /// What stands at a place of a file.
 #[derive(Drop)]
@@ -252,27 +240,6 @@ fn near_in(alloc: Global, octets: &[u8]) -> Result<Near, NoMemory>
     let body = Octets::copy_of(alloc, &octets[HEAD..HEAD + size])?;
     let found = Found::Record { body };
     Ok(Near::Whole { found })
-}
-
-/// What octets at a gate say, of which five are enough.
-fn head_in(octets: &[u8]) -> Head
-    ensures head { result ≡ head_in octets.now }
-    ensures short { (size : ℕ) → result ≡ Open size → size ≤ 65536 }
-{
-    let Some((gate, rest)) = octets.split_first() else {
-        return Head::Broken;
-    };
-    if *gate != OPEN {
-        return Head::Shut;
-    }
-    if rest.len() < 4 {
-        return Head::Broken;
-    }
-    let size = BigEndian::read_u32(rest) as usize;
-    if size > MOST {
-        return Head::Broken;
-    }
-    Head::Open { size }
 }
 
 /// Reads octets from a place on to the front of a room, as many as are there but not more than `size`, and says how many.

@@ -9,7 +9,7 @@ use Rattle.group_model.specs.declared.trees.Tree.{Tree}
 use Rattle.group_model.specs.Places.{Holders, holders_at}
 use Rattle.group_model.specs.Present.{changes_at}
 use Rattle.group_model.specs.Wraps.{falling}
-use Rattle.group_model.specs.Private.Unchanged.{unchanged_holders}
+use Rattle.tree_leaves.specs.Unchanged.{unchanged_holders}
 use Rattle.group_terms.specs.Positions.{some_leaf_below}
 
 -- the tree is that of an epoch of the list

@@ -1,10 +1,10 @@
 -- What stands at a place of a file.
 use Rattle.std.specs.Prelude.{◌≡◌, ◌≢◌, ◌≤◌, ℕ, List, ◌∷◌, length, take, drop, Err}
 use Rattle.tree_journal.specs.Records.{bodies_from, IsRecordAt}
-use Rattle.tree_journal.specs.Private.Heads.{head_in}
+use Rattle.journal_gates.specs.Heads.{head_in}
 use Rattle.tree_journal.specs.declared.reads.Found.{Found}
 use Rattle.tree_journal.specs.declared.reads.Found.TheVariants.{Record, End, Nothing}
-use Rattle.tree_journal.specs.declared.reads.Head.TheVariants.{Open}
+use Rattle.journal_gates.specs.declared.heads.Head.TheVariants.{Open}
 use Rattle.tree_journal.specs.declared.reads.Near.{Near}
 use Rattle.tree_journal.specs.declared.reads.Near.TheVariants.{Whole, Begun}
 

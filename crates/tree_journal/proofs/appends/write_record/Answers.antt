@@ -3,7 +3,7 @@ use Rattle.gd_disk.specs.Disks.{Only}
 use Rattle.gd_disk.specs.MomentLaws.{weaker}
 use Rattle.tree_journal.specs.Crashes.{IsBeforeOrAfter}
 use Rattle.tree_journal.specs.Records.{AreRecordsFrom, IsRecordAt, bodies_from}
-use Rattle.tree_journal.proofs.AnswerLemmas.{on_err}
+use Rattle.journal_gates.proofs.AnswerLemmas.{on_err}
 use Rattle.tree_journal.proofs.AppendLemmas.{ready, after_all, new_file, new_bodies, in_file}
 use Rattle.tree_journal.proofs.AppendStands.{new_stands}
 use Rattle.tree_journal.proofs.appends.write_record.Goals as goal

@@ -1,6 +1,6 @@
 use Rattle.std.proofs.Common.{◌∙◌}
 use Rattle.gd_disk.specs.MomentLaws.{joined, weaker}
-use Rattle.tree_journal.proofs.CallLemmas.{one_call}
+use Rattle.journal_gates.proofs.CallLemmas.{one_call}
 use Rattle.tree_journal.proofs.formats.read_name.Goals as goal
 
 pub returns-in_err-sync-clause-any_moment : goal.returns-in_err-sync-clause-any_moment

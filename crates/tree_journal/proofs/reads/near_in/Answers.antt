@@ -1,5 +1,5 @@
 use Rattle.std.proofs.Common.{◌∙◌, ◌+◌, ◌≤◌, ℕ, List, length, take, drop, Some, ap, sym, arith}
-use Rattle.tree_journal.specs.Private.Heads.{head_in}
+use Rattle.journal_gates.specs.Heads.{head_in}
 use Rattle.tree_journal.specs.Records.{IsRecordAt}
 use Rattle.tree_journal.proofs.HeadLemmas.{found_end, found_nothing, found_record, found_whole, near_body, near_head, near_there, on_error}
 use Rattle.tree_journal.proofs.reads.near_in.Goals as goal

@@ -1,4 +1,4 @@
-use Rattle.tree_journal.proofs.CallLemmas.{one_call}
+use Rattle.journal_gates.proofs.CallLemmas.{one_call}
 use Rattle.tree_journal.proofs.reads.read_front.Goals as goal
 
 pub returns-clause-any_moment : goal.returns-clause-any_moment

@@ -8,7 +8,7 @@ use Rattle.std.proofs.lemmas.Result.{on_ok_weaker}
 use Rattle.group_terms.specs.LeafMarks.{Marked}
 use Rattle.group_model.specs.Places.{Holders}
 use Rattle.group_model.specs.Steps.{seated}
-use Rattle.group_model.proofs.HolderLemmas.{placed_at, placed_nowhere}
+use Rattle.tree_leaves.proofs.HolderLemmas.{placed_at, placed_nowhere}
 use Rattle.group_model.proofs.SeatLemmas.{free_by_marks, length-seated, seated_more}
 use Rattle.group_model.proofs.seats.Seating.place.Goals as goal
 

@@ -2,9 +2,9 @@ use Rattle.std.proofs.Common.{◌≡◌, ◌∙◌, ◌+◌, ◌-◌, ℕ, lengt
 use Rattle.std.proofs.Math.Dec.{leb}
 use Rattle.std.proofs.lemmas.Result.{err_from_is_err_and}
 use Rattle.tree_journal.specs.Private.Found.{IsNear}
-use Rattle.tree_journal.specs.Private.Heads.{head_in}
+use Rattle.journal_gates.specs.Heads.{head_in}
 use Rattle.tree_journal.specs.Views.{View}
-use Rattle.tree_journal.specs.declared.reads.Head.TheVariants.{Open}
+use Rattle.journal_gates.specs.declared.heads.Head.TheVariants.{Open}
 use Rattle.tree_journal.proofs.HeadLemmas.{body_at, found_record, found_cut, found_whole}
 use Rattle.tree_journal.proofs.journals.Journal.next.Goals as goal
 

@@ -1,6 +1,0 @@
-use Rattle.std.proofs.Common.{◌≡◌, ◌++◌, drop, map}
-use Rattle.std.specs.Prelude.{is_none}
-use Rattle.group_model.proofs.holders.free.Given as goal
-
-abbrev pub invariant-loop-holder : goal.invariant-loop-holder
-invariant-loop-holder l = l.leaves ++ map is_none (drop l.holder-index l.holders) ≡ map is_none l.holders

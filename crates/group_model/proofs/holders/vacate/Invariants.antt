@@ -1,7 +1,0 @@
-use Rattle.std.proofs.Common.{◌≡◌, ◌++◌, map, take, drop, cond, None}
-use Rattle.group_model.specs.Places.{is_held_by}
-use Rattle.group_model.proofs.holders.vacate.Given as goal
-
-abbrev pub invariant-loop-holder : goal.invariant-loop-holder
-invariant-loop-holder l =
-    l.holders ≡ map (λ holder. cond (is_held_by l.member holder) None holder) (take l.holder-index l.fn.holders) ++ drop l.holder-index l.fn.holders

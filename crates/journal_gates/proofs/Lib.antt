@@ -1,0 +1,4 @@
+pub mod AnswerLemmas
+pub mod CallLemmas
+pub mod GateLemmas
+pub mod GatedMoments

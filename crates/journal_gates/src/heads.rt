@@ -1,0 +1,42 @@
+//! What the octets of a gate and a length say.
+ghost use Rattle.std.specs.Prelude.{◌≡◌, ◌≤◌, ℕ};
+ghost use Rattle.journal_gates.specs.Heads.{head_in};
+ghost use Rattle.journal_gates.specs.declared.heads.Head.TheVariants.{Open};
+
+use crate::gates::OPEN;
+use byteorder::{BigEndian, ByteOrder};
+
+/// The most octets of a record's body.
+pub const MOST: usize = 65_536;
+
+/// What the octets of a gate and a length say.
+#[derive(Clone, Copy)]
+pub enum Head {
+    /// The gate is closed.
+    Shut,
+    /// The gate is open, and the record's body has so many octets.
+    Open { size: usize },
+    /// There is no gate, or no length within its limit after an open one.
+    Broken,
+}
+
+/// What octets at a gate say, of which five are enough.
+pub fn head_in(octets: &[u8]) -> Head
+    ensures head { result ≡ head_in octets.now }
+    ensures short { (size : ℕ) → result ≡ Open size → size ≤ 65536 }
+{
+    let Some((gate, rest)) = octets.split_first() else {
+        return Head::Broken;
+    };
+    if *gate != OPEN {
+        return Head::Shut;
+    }
+    if rest.len() < 4 {
+        return Head::Broken;
+    }
+    let size = BigEndian::read_u32(rest) as usize;
+    if size > MOST {
+        return Head::Broken;
+    }
+    Head::Open { size }
+}

@@ -1,0 +1,10 @@
+use Rattle.std.proofs.Common.{◌≡◌, ◌&&◌, Option, map, take}
+use Rattle.std.specs.Prelude.{is_some}
+use Rattle.std.specs.List.{zip}
+use Rattle.group_terms.specs.Names.{Name}
+use Rattle.tree_leaves.specs.Fresh.{is_same_holder}
+use Rattle.tree_leaves.proofs.holders.held_on.Given as goal
+
+-- the answers for the leaves so far
+abbrev pub invariant-loop-i : goal.invariant-loop-i
+invariant-loop-i l = l.leaves ≡ map (λ (holder : Option Name × Option Name). is_some holder.1 && is_same_holder holder.0 holder.1) (take l.i (zip l.before l.after))
