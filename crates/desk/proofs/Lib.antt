@@ -2,3 +2,4 @@ pub mod Sums
 pub mod Keeps
 pub mod Steps
 pub mod Meetings
+pub mod TurnFacts

@@ -1,2 +1,3 @@
+mod CrashFacts
 mod MediumLemmas
 mod TornLemmas

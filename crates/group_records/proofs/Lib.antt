@@ -1,3 +1,4 @@
 pub mod HighLemmas
 pub mod ManyLemmas
+pub mod RecordFacts
 pub mod WrittenLemmas

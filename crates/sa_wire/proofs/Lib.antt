@@ -1,3 +1,4 @@
 pub mod AttributeLemmas
 pub mod WrittenLemmas
 pub mod OctetLemmas
+pub mod PolicyFacts
