@@ -2,6 +2,7 @@ pub mod AttributeLaws
 pub mod ChainLaws
 pub mod ChainReadings
 pub mod FieldLemmas
+pub mod FrameFacts
 pub mod HeaderLemmas
 pub mod NumberLemmas
 pub mod OctetLemmas
