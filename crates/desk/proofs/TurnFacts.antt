@@ -1,19 +1,22 @@
--- What the definitions of a desk tell apart: a seat that looked at another ticket than its own, a turn that was not counted, and the calls of a pass that were
--- given to another one.
+-- What the definitions of a desk tell apart: a seat that looked at another ticket than its own, a second seat that is served, a turn that was not counted, and the
+-- calls of a pass that were given to another one.
 use Rattle.std.proofs.Common.{◌≡◌, ◌≢◌, ℕ, ◌+◌, ◌%◌, ◌^◌, ◌<◌, List, [], ◌∷◌, length, length-append, map, Option, All, eqb, ap, ◌∙◌, subst, arith}
 use Rattle.std.proofs.lemmas.List.Sums.{sum_by-cons}
 use Rattle.std.proofs.lemmas.Option.{slice_get_within}
-use Rattle.atomic_table.specs.Table.{Me, Step}
+use mathlib.Core.Option.{some}
+use lib.ListN.{get_elem?}
+use Rattle.atomic_table.specs.Table.{Me, State, Step}
 use Rattle.desk.specs.declared.calls.Call.{Call}
 use Rattle.desk.specs.declared.views.Phase.{Phase}
 use Rattle.desk.specs.declared.views.Phase.TheVariants.{Idle, Waits, Serves}
+use Rattle.desk.specs.declared.views.Terms.{Terms}
 use Rattle.desk.specs.declared.views.View.{View}
 use Rattle.desk.specs.Calls.{AreCallsOf, StandsIn, times}
 use Rattle.desk.specs.Plays.{TakesOut, looked}
 use Rattle.desk.specs.Turned.{IsTurn}
-use Rattle.desk.specs.Turns.{one_if}
+use Rattle.desk.specs.Turns.{Stands, has, one_if}
 use Rattle.desk.specs.Views.{Holder}
-use Rattle.desk.proofs.Sums.{is-yes}
+use Rattle.desk.proofs.Sums.{below-small, is-yes, sum-two}
 
 abbrev is_waiting : Phase → ℕ
 is_waiting Idle = 0
@@ -29,6 +32,22 @@ module _ {K E G : Type 0} (listed : K → List E) (spare : K → ℕ) (tag : K �
       let served : is_waiting after.0.phase ≡ 0 = ap (λ (seat : Me (Option K) (View E G)). is_waiting seat.0.phase) takes.seat in
       let waiting : is_waiting after.0.phase ≡ 1 = ap (λ (seat : Me (Option K) (View E G)). is_waiting seat.0.phase) stays ∙ ap is_waiting waits in
       absurd (omega (arith, served, waiting))
+
+-- two seats are never served at once: the tickets that are served are all the one at the front, which only one of them can have
+module _ {K E G : Type 0} (listed : K → List E) (spare : K → ℕ) (tag : K → G) (terms : Terms E G) where
+  one_seat_is_served : (state : State (Option K) (View E G)) → Stands listed spare tag terms state → (i j : ℕ) (one other : View E G) → i ≢ j
+      → get_elem? state.views i ≡ some one → get_elem? state.views j ≡ some other → (ticket room later space : ℕ) → one.phase ≡ Serves ticket room
+      → other.phase ≡ Serves later space → ⊥
+  one_seat_is_served state stands i j one other apart here there ticket room later space serves serves_too =
+      let front = stands.front in
+      let at_front = ap (λ number. one_if (eqb number front)) (stands.served i one ticket room here serves).served ∙ is-yes front in
+      let at_front_too = ap (λ number. one_if (eqb number front)) (stands.served j other later space there serves_too).served ∙ is-yes front in
+      let first : has front one.phase ≡ 1 = ap (has front) serves ∙ at_front in
+      let second : has front other.phase ≡ 1 = ap (has front) serves_too ∙ at_front_too in
+      let both = sum-two (λ (view : View E G). has front view.phase) state.views i j one other apart here there in
+      let each = stands.tickets.each front in
+      let few = below-small front stands.next in
+      absurd (omega (arith, first, second, both, each, few))
 
 -- of two turns of a pass the second one's call has the higher place
 module _ {E G V A : Type 0} (relates : List E → V → E → A → Type 0) (start : List E) where
