@@ -1,54 +1,94 @@
-//! Words of other forms.
-use crate::runs::{GOOD_LINES, run};
-use console_run::Ending;
-use gd_edges::{StdSource, TextSink};
-use group_terms::List;
-use std::alloc::Global;
+//! Which words of the command line are read, and as what.
+use command_words::{Command, Opening, read_words, seed_of};
+use std::alloc::{AllocError, Global};
 
-const OTHER_WORDS: [&str; 18] = [
+const MOST_LIMIT: u32 = 4_294_967_295;
+
+/// Words of the grammar: how a group is opened, the limit, and the seed.
+const COMMANDS: [(&str, Opening, u32, u64); 9] = [
+    ("--new 2", Opening::New { depth: 2 }, MOST_LIMIT, 0),
+    ("--new=2", Opening::New { depth: 2 }, MOST_LIMIT, 0),
+    (
+        "--new 00000000000000000009",
+        Opening::New { depth: 9 },
+        MOST_LIMIT,
+        0,
+    ),
+    ("--open", Opening::Open, MOST_LIMIT, 0),
+    ("--open --limit 4", Opening::Open, 4, 0),
+    ("--limit=4 --open", Opening::Open, 4, 0),
+    (
+        "--seed 18446744073709551615 --new 1",
+        Opening::New { depth: 1 },
+        MOST_LIMIT,
+        18_446_744_073_709_551_615,
+    ),
+    (
+        "--seed=0 --limit=4294967295 --new=1",
+        Opening::New { depth: 1 },
+        MOST_LIMIT,
+        0,
+    ),
+    (
+        "--limit 1 --new=3 --seed 7",
+        Opening::New { depth: 3 },
+        1,
+        7,
+    ),
+];
+
+/// Words that are not of the grammar.
+const OTHERS: [&str; 20] = [
     "",
-    "batch",
     "--new",
-    "--new=",
     "--new 0",
     "--new 10",
     "--new +2",
-    "--new=000000000000000000002",
+    "--new= 2",
+    "--new 000000000000000000002",
     "--new 2 --new 2",
-    "--new=2 --open",
+    "--new 2 --open",
     "--open --open",
-    "--open 2",
-    "--limit 4 --seed 1",
-    "--new 2 --limit 0",
-    "--new 2 --limit 4294967296",
-    "--new 2 --limit 4 --limit 4",
-    "--new 2 --seed",
-    "--new 2 --seed 18446744073709551616",
+    "--open=1",
+    "--open 1",
+    "--limit 4",
+    "--open --limit 0",
+    "--open --limit 4294967296",
+    "--open --limit 4 --limit 4",
+    "--open --seed 18446744073709551616",
+    "--open --seed 7 --seed=8",
+    "--open --help",
+    "--version",
 ];
 
-/// They leave the source and the disk as they were.
 #[test]
-fn other_words_touch_nothing(rt: HostRuntime) {
+fn words_are_read_by_the_grammar(rt: HostRuntime) {
+    let alloc = rt.alloc();
     let mut holds = true;
-    for words in OTHER_WORDS {
-        holds &= touch_nothing(rt.alloc(), words);
+    for (text, opening, limit, seed) in COMMANDS {
+        let command = Command {
+            opening,
+            limit,
+            seed,
+        };
+        holds &= is_read(alloc, text, Some(command), seed) == Ok(true);
+    }
+    for text in OTHERS {
+        holds &= is_read(alloc, text, None, 0) == Ok(true);
     }
     assert!(rt; holds);
 }
 
-fn touch_nothing(alloc: Global, words: &str) -> bool {
-    let mut source = GOOD_LINES.as_bytes();
-    let mut sink = TextSink::new(alloc, List::new(alloc));
-    let ran = run(
-        alloc,
-        words,
-        &mut StdSource::new(&mut source),
-        &mut sink,
-        b"as it was",
-    );
-    let told = (sink.octets() == b"end 1\n".as_slice()) & (source == GOOD_LINES.as_bytes());
-    match ran {
-        Ok(outcome) => told & (outcome.ending == Ending::NoGroup) & outcome.disk_stays,
-        Err(_) => false,
+/// Whether words ask for this command, and have this seed.
+fn is_read(
+    alloc: Global,
+    text: &str,
+    command: Option<Command>,
+    seed: u64,
+) -> Result<bool, AllocError> {
+    let mut words = Vec::new(alloc);
+    for word in text.split_whitespace() {
+        words.push(String::from_str(alloc, word)?)?;
     }
+    Ok((read_words(&words) == command) & (seed_of(&words) == seed))
 }

@@ -1,15 +1,32 @@
-//! Tests of lists, logs, marks, names and faults, of changes that wait for a batch, and of pushes that were noted.
+//! Tests of lists, logs, marks, names and faults, of changes that wait for a batch, of pushes that were noted, of ciphers and hashes by the
+//! values of their standards, and of sources, sinks, signatures and draws.
 #![tactic(auto)]
 
 #[cfg(test)]
+mod blocks;
+#[cfg(test)]
+mod chains;
+#[cfg(test)]
+mod draws;
+#[cfg(test)]
 mod faults;
+#[cfg(test)]
+mod hashes;
 #[cfg(test)]
 mod lists;
 #[cfg(test)]
 mod marks;
 #[cfg(test)]
+mod memory;
+#[cfg(test)]
 mod names;
+#[cfg(test)]
+mod octets;
 #[cfg(test)]
 mod pushes;
 #[cfg(test)]
 mod queues;
+#[cfg(test)]
+mod signatures;
+#[cfg(test)]
+mod streams;

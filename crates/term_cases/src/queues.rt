@@ -45,10 +45,10 @@ fn waits_with_31_others() -> Option<bool> {
 /// Puts 32 changes into it.
 fn fill(queue: &mut Queue) -> Option<bool> {
     let mut filled = true;
-    for first in b"abcd" {
-        for last in b"01234567" {
-            filled &= queue.add(joins(&[*first, *last])?).is_ok();
-        }
+    for number in 0..32 {
+        filled &= queue
+            .add(joins(&[b'a' + number / 8, b'0' + number % 8])?)
+            .is_ok();
     }
     Some(filled)
 }

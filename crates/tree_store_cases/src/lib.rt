@@ -1,4 +1,5 @@
-//! Tests of what the calls of a store answer: calls of the disk that fail, crashes, stores that are opened again, and lists of batches that are stored and read.
+//! Tests of what the calls of a store answer: calls of the disk that fail, crashes, stores that are opened again, and lists of batches that are
+//! stored and read; and of what a store reads: the file of another implementation, files of no group, and records that are not due.
 #![tactic(auto)]
 
 #[cfg(test)]
@@ -6,9 +7,15 @@ mod batches;
 #[cfg(test)]
 mod calls;
 #[cfg(test)]
+mod files;
+#[cfg(test)]
+mod images;
+#[cfg(test)]
 mod lists;
 #[cfg(test)]
 mod numbers;
+#[cfg(test)]
+mod refusals;
 #[cfg(test)]
 mod reopened;
 #[cfg(test)]

@@ -1,5 +1,6 @@
 //! Paths, from a leaf to the root.
-use crate::keys::{add_keys, decoded, keyed};
+use crate::keys::{add_keys, keyed};
+use crate::octets::decoded;
 use crate::reads::{Wrong, append_key, fault};
 use group_terms::{NoMemory, Octets};
 use kd_wire::{Path, WireWhat, write_reply_kd};

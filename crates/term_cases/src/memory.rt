@@ -1,14 +1,14 @@
 //! A source and a sink in memory, and draws from a list.
 use crate::draws::pass;
-use gd_edges::{DrawList, Draws, Sink, Source, TextSink, TextSource};
+use gd_edges::{DrawList, Draws, Failed, Sink, Source, TextSink, TextSource};
 use group_terms::{List, NoMemory};
 
 /// What each call of a source that fails at its second call answers, what the room has then, and what is left.
-const TAKEN: [(Option<usize>, &str, &str); 4] = [
-    (Some(3), "abc", "de"),
-    (None, "abc", "de"),
-    (Some(2), "dec", ""),
-    (Some(0), "dec", ""),
+const TAKEN: [(Result<usize, Failed>, &[u8], &[u8]); 4] = [
+    (Ok(3), b"abc", b"de"),
+    (Err(Failed), b"abc", b"de"),
+    (Ok(2), b"dec", b""),
+    (Ok(0), b"dec", b""),
 ];
 
 #[test]
@@ -27,14 +27,18 @@ fn a_text_comes_in_pieces_and_fails_at_the_calls_listed(rt: HostRuntime) -> Resu
 fn is_taken(
     source: &mut TextSource,
     room: &mut [u8; 3],
-    (answer, got, rest): &(Option<usize>, &str, &str),
+    (answer, got, rest): &(Result<usize, Failed>, &[u8], &[u8]),
 ) -> bool {
-    let same = source.take(room).ok() == *answer;
-    same & (room.as_slice() == got.as_bytes()) & (source.rest() == rest.as_bytes())
+    let same = source.take(room) == *answer;
+    same & (room.as_slice() == *got) & (source.rest() == *rest)
 }
 
 /// What each call of a sink that fails at its second call answers, and all that is written then.
-const PUT: [(Option<usize>, &str); 3] = [(Some(2), "xy"), (None, "xy"), (Some(2), "xyxy")];
+const PUT: [(Result<usize, Failed>, &[u8]); 3] = [
+    (Ok(2), b"xy"),
+    (Err(Failed), b"xy"),
+    (Ok(2), b"xyxy"),
+];
 
 #[test]
 fn a_sink_in_memory_takes_whole_pieces_and_fails_at_the_calls_listed(
@@ -45,8 +49,8 @@ fn a_sink_in_memory_takes_whole_pieces_and_fails_at_the_calls_listed(
     Ok(())
 }
 
-fn is_put(sink: &mut TextSink, (answer, written): &(Option<usize>, &str)) -> bool {
-    (sink.put(b"xy").ok() == *answer) & (sink.octets() == written.as_bytes())
+fn is_put(sink: &mut TextSink, (answer, written): &(Result<usize, Failed>, &[u8])) -> bool {
+    (sink.put(b"xy") == *answer) & (sink.octets() == *written)
 }
 
 #[test]

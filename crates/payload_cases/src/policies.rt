@@ -1,7 +1,7 @@
 //! Bodies of the SA payload, and what is told of those with a fault.
 ghost use Rattle.std.specs.Prelude.{◌⊎◌, IsSome};
 
-use crate::octets::octets;
+use crate::octets::decoded;
 use group_terms::{List, NoMemory, SignKind, WireFault, WireWhat};
 use sa_wire::{
     KekPolicy, PlacedKek, PlacedSa, PlacedTek, SaPolicy, TekPolicy, read_placed_sa, read_sa,
@@ -67,7 +67,7 @@ fn places_are_those_of_the_octets(rt: HostRuntime) {
 
 /// Whether the policies are written so, and are read of it.
 fn text_is_read(alloc: Global) -> Option<bool> {
-    let text: [u8; 136] = octets(TEXT)?;
+    let text: [u8; 136] = decoded(TEXT)?;
     let mut body = List::new(alloc);
     write_sa(&BOTH, &mut body).ok()?;
     let placed = (read_placed_sa(&text, 40) == Ok(PLACED)) & (PLACED.policy() == BOTH);
@@ -190,7 +190,7 @@ fn attributes_stand_in_any_order_and_exactly_once(rt: HostRuntime) {
 
 fn is_answered(alloc: Global, (head, attributes, answer): &Attributes) -> Option<bool> {
     let attributes = hex::decode(alloc, attributes).ok()?;
-    let mut body = List::copy_of(alloc, &octets::<39>(head)?).ok()?;
+    let mut body = List::copy_of(alloc, &decoded::<39>(head)?).ok()?;
     body.extend(attributes.as_slice()).ok()?;
     Some(read(body.as_slice()) == *answer)
 }

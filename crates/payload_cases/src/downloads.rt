@@ -1,5 +1,6 @@
-//! Bodies for a traffic key and for a member that registers.
-use crate::keys::{add_keys, decoded, keyed, octets, traffic};
+//! Bodies of the key download, for a traffic key and for a member that registers.
+use crate::keys::{add_keys, keyed, octets, traffic};
+use crate::octets::decoded;
 use crate::reads::read;
 use group_terms::Octets;
 use kd_wire::{Path, PathKey, SpiPlaces, write_reply_kd, write_traffic_kd};

@@ -1,5 +1,6 @@
 //! Update arrays, and the keys that they give.
-use crate::keys::{decoded, job, updates_with};
+use crate::keys::{job, updates_with};
+use crate::octets::decoded;
 use crate::reads::{Wrong, append_key, append_words, fault, read};
 use group_terms::{NoMemory, Octets};
 use kd_wire::{SealedKeys, UpdateSpan, WireWhat, write_update};

@@ -1,14 +1,7 @@
-//! Keys whose octets count up, bodies with them, and texts in hexadecimal.
+//! Keys whose octets count up, and bodies with them.
 use group_terms::{NoMemory, Octets};
 use kd_wire::{Keyed, LkhId, NodeValue, Path, PathKey, TrafficValue, WrapJob, write_update_kd};
 use std::alloc::Global;
-
-/// The octets of a text in hexadecimal, if there are N.
-pub(crate) fn decoded<const N: usize>(text: &str) -> Option<[u8; N]> {
-    let mut octets = [0; N];
-    hex::decode_to_slice(text, &mut octets).ok()?;
-    Some(octets)
-}
 
 /// The body with the SPI of the tests and these arrays, of which there are at most 65,000 octets.
 pub(crate) fn updates_with(alloc: Global, arrays: &Octets) -> Result<Octets, NoMemory> {

@@ -1,6 +1,7 @@
 //! A traffic push that another implementation wrote, and a verifier that accepts nothing.
 ghost use Rattle.std.specs.Prelude.{ℕ, List, false};
 
+use crate::octets::decoded;
 use gd_edges::{SignKind, Verifier};
 use group_terms::{NodeValue, TrafficValue};
 use push_msg::PushHead;
@@ -15,10 +16,9 @@ const SPI: &str = "ade0b876903df1a0e56a5d4028bd8653";
 
 /// The octets of hexadecimal digits; zeros for other characters, with which no case holds.
 pub(crate) fn octets<const N: usize>(text: &str) -> [u8; N] {
-    let mut octets = [0; N];
-    match hex::decode_to_slice(text, &mut octets) {
-        Ok(()) => octets,
-        Err(_) => [0; N],
+    match decoded(text) {
+        Some(octets) => octets,
+        None => [0; N],
     }
 }
 

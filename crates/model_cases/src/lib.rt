@@ -1,0 +1,18 @@
+//! Tests of the tree at the present epoch, and of histories, on small groups with known keys; and of what can be derived from which keys: small
+//! graphs and drawn ones, what a history sent, and drawn groups.
+#![tactic(auto)]
+
+#[cfg(test)]
+mod closures;
+#[cfg(test)]
+mod draws;
+#[cfg(test)]
+mod groups;
+#[cfg(test)]
+mod histories;
+#[cfg(test)]
+mod keys;
+#[cfg(test)]
+mod sent;
+#[cfg(test)]
+mod trees;
