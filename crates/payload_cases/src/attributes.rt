@@ -2,7 +2,8 @@
 ghost use Rattle.std.specs.Prelude.{◌≤◌, length};
 
 use gd_wire::{AttrValue, Attribute, WireFault, WireWhat, read_attribute, write_long, write_short};
-use group_terms::{List, NoMemory};
+use group_terms::{List, NoMemory, Octets};
+use std::alloc::Global;
 
 /// An attribute of the short form, and one of the long form.
 const OCTETS: [u8; 12] = [0x80, 1, 0, 1, 0, 4, 0, 4, 0, 1, 0x51, 0x80];
@@ -23,14 +24,21 @@ const LONG: Attribute = Attribute {
 };
 
 #[test]
-fn attributes_are_written_and_read(rt: HostRuntime) -> Result<(), NoMemory> {
-    let mut text = List::new(rt.alloc());
-    write_short(1, 1, &mut text)?;
-    write_long(4, &[0, 1, 0x51, 0x80], &mut text)?;
+fn attributes_are_written_and_read(rt: HostRuntime) {
     let read = (read_attribute(&OCTETS, 0, 10) == Ok(SHORT))
         & (read_attribute(&OCTETS, 4, 10) == Ok(LONG));
-    assert!(rt; read & (text.as_slice() == OCTETS.as_slice()));
-    Ok(())
+    assert!(rt; read & are_written(rt.alloc()));
+}
+
+fn are_written(alloc: Global) -> bool {
+    let mut text = List::new(alloc);
+    let are_written = write_both(&mut text).is_ok();
+    are_written & (text.as_slice() == OCTETS.as_slice())
+}
+
+fn write_both(text: &mut Octets) -> Result<(), NoMemory> {
+    write_short(1, 1, text)?;
+    write_long(4, &[0, 1, 0x51, 0x80], text)
 }
 
 /// Where the second of them is cut off, and where a field is missing then.

@@ -19,24 +19,27 @@ const FIRST_PUSH: [u8; 12] = [
 ];
 
 #[test]
-fn known_payloads_are_written(rt: HostRuntime) -> Result<(), NoMemory> {
-    let mut name = List::new(rt.alloc());
-    write_identification(11, b"console", &mut name)?;
-    let name = is_payload(rt.alloc(), 0, name.as_slice(), &CONSOLE)?;
-    let mut number = List::new(rt.alloc());
-    write_sequence(1, &mut number)?;
-    let number = is_payload(rt.alloc(), 1, number.as_slice(), &FIRST_PUSH[..8])?;
-    assert!(rt; name & number);
-    Ok(())
+fn known_payloads_are_written(rt: HostRuntime) {
+    assert!(rt; name_is_written(rt.alloc()) & number_is_written(rt.alloc()));
+}
+
+fn name_is_written(alloc: Global) -> bool {
+    let mut body = List::new(alloc);
+    let is_written = write_identification(11, b"console", &mut body).is_ok();
+    is_written & is_payload(alloc, 0, body.as_slice(), &CONSOLE)
+}
+
+fn number_is_written(alloc: Global) -> bool {
+    let mut body = List::new(alloc);
+    let is_written = write_sequence(1, &mut body).is_ok();
+    is_written & is_payload(alloc, 1, body.as_slice(), &FIRST_PUSH[..8])
 }
 
 /// Whether the payload of a body has these octets.
-fn is_payload(alloc: Global, next: u8, body: &[u8], octets: &[u8]) -> Result<bool, NoMemory>
-    requires { length body.now ≤ 65531 }
-{
+fn is_payload(alloc: Global, next: u8, body: &[u8], octets: &[u8]) -> bool {
     let mut text = List::new(alloc);
-    write_payload(next, body, &mut text)?;
-    Ok(text.as_slice() == octets)
+    let body = &body[..body.len().min(65_531)];
+    write_payload(next, body, &mut text).is_ok() & (text.as_slice() == octets)
 }
 
 /// The same payloads, read.
@@ -134,14 +137,17 @@ fn body_fault(kind: u8, text: &[u8]) -> Option<WireFault>
 
 /// Room is filled, changed in place, filled again and cleared.
 #[test]
-fn room_is_filled_again(rt: HostRuntime) -> Result<(), NoMemory> {
-    let mut room = Room::new(rt.alloc(), 4)?;
+fn room_is_filled_again(rt: HostRuntime) {
+    assert!(rt; is_filled_again(rt.alloc()) == Ok(true));
+}
+
+fn is_filled_again(alloc: Global) -> Result<bool, NoMemory> {
+    let mut room = Room::new(alloc, 4)?;
     room.fill(&[1, 2, 3]);
     room.text_mut().reverse();
     let changed = room.text() == [3, 2, 1].as_slice();
     room.fill(&[4, 5, 6, 7]);
     let filled = room.text() == [4, 5, 6, 7].as_slice();
     room.clear();
-    assert!(rt; changed & filled & room.text().is_empty());
-    Ok(())
+    Ok(changed & filled & room.text().is_empty())
 }

@@ -37,28 +37,33 @@ pub(crate) fn push(
     requires some { IsSome policy.now.kek ⊎ IsSome policy.now.tek }
     requires few { length keys.now ≤ 65000 }
 {
-    let mut text = signed_text(alloc, policy, keys)?;
+    let mut text = Octets::new(alloc);
+    append_payloads(policy, keys, &mut text)?;
     let header = write_header(&header(text.len()));
     append_signature(&header, &mut text)?;
     if exchange {
         exchange_attributes(&mut text);
     }
     seal(&mut text);
-    let mut out = Octets::copy_of(alloc, &header)?;
-    out.extend(text.as_slice())?;
+    after_header(alloc, &header, text.as_slice())
+}
+
+/// A datagram of this header and this text.
+fn after_header(alloc: Global, header: &[u8], text: &[u8]) -> Result<Octets, NoMemory> {
+    let mut out = Octets::copy_of(alloc, header)?;
+    out.extend(text)?;
     Ok(out)
 }
 
-/// The payloads before the signature.
-fn signed_text(alloc: Global, policy: &SaPolicy, keys: &[u8]) -> Result<Octets, NoMemory>
+/// Appends the payloads before the signature.
+fn append_payloads(policy: &SaPolicy, keys: &[u8], text: &mut Octets) -> Result<(), NoMemory>
     requires some { IsSome policy.now.kek ⊎ IsSome policy.now.tek }
     requires few { length keys.now ≤ 65000 }
 {
-    let mut text = Octets::copy_of(alloc, &SEQUENCE_PAYLOAD)?;
-    write_payload_head(KD, sa_size(policy), &mut text)?;
-    write_sa(policy, &mut text)?;
-    write_payload(SIGNATURE, keys, &mut text)?;
-    Ok(text)
+    text.extend(&SEQUENCE_PAYLOAD)?;
+    write_payload_head(KD, sa_size(policy), text)?;
+    write_sa(policy, text)?;
+    write_payload(SIGNATURE, keys, text)
 }
 
 /// How many zeros fill a block after so many octets of payloads and the 36 of a signature.

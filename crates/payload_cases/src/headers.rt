@@ -1,6 +1,6 @@
 //! Headers of datagrams, and what is told of those with a fault.
 use gd_wire::{Header, WireFault, WireWhat, read_header, write_header};
-use group_terms::NoMemory;
+use group_terms::{List, NoMemory};
 use std::alloc::Global;
 
 const PUSH: Header = Header {
@@ -110,14 +110,23 @@ const SIZES: [(usize, Result<Header, WireFault>); 3] = [
 /// A datagram has at most 65,507 octets.
 #[test]
 fn datagrams_are_as_long_as_udp_holds(rt: HostRuntime) {
-    assert!(rt; SIZES.iter().all(|(size, answer)| read_long(rt.alloc(), *size) == Ok(*answer)));
+    assert!(rt; are_read_long(rt.alloc()) == Ok(true));
 }
 
-/// What is read of a datagram of so many octets, whose header says 65,500.
-fn read_long(alloc: Global, size: usize) -> Result<Result<Header, WireFault>, NoMemory> {
-    let mut datagram = vec![in alloc; 0; size]?;
-    if let Some(head) = datagram.as_mut_slice().first_chunk_mut() {
-        *head = write_header(&LONG);
+/// Whether this is read of the fronts of a datagram whose header says 65,500.
+fn are_read_long(alloc: Global) -> Result<bool, NoMemory> {
+    let mut datagram = List::copy_of(alloc, &write_header(&LONG))?;
+    let is_long = datagram.extend(&[0; 65_480]).is_ok();
+    Ok(is_long & are_read(datagram.as_slice()))
+}
+
+fn are_read(datagram: &[u8]) -> bool {
+    let mut same = true;
+    for (size, answer) in &SIZES {
+        same &= match datagram.get(..*size) {
+            Some(front) => read_header(front, 33) == *answer,
+            None => false,
+        };
     }
-    Ok(read_header(datagram.as_slice(), 33))
+    same
 }

@@ -1,5 +1,6 @@
 //! Tests of payloads: of the framing, of headers, attributes, chains and bodies, of the policies in the SA payload, of the key download
-//! payload, and of pushes. Known ones are as another implementation writes them; of those with a fault it is told where that is.
+//! payload, of pushes, and of the messages of a pull. Known ones are as another implementation writes them; of those with a fault it is told
+//! where that is.
 #![tactic(auto)]
 
 #[cfg(test)]
@@ -30,6 +31,8 @@ mod paths;
 mod payloads;
 #[cfg(test)]
 mod policies;
+#[cfg(test)]
+mod pull;
 #[cfg(test)]
 mod reads;
 #[cfg(test)]

@@ -89,7 +89,7 @@ fn is_case(alloc: Global, case: &Case) -> Result<bool, NoMemory> {
     Ok(holds)
 }
 
-/// Whether a crash leaves these octets on a disk.
+/// Whether a crash leaves these octets on a disk that was synced, after calls.
 fn leaves(
     alloc: Global,
     synced: &[u8],
@@ -98,11 +98,21 @@ fn leaves(
     image: &[u8],
 ) -> Result<bool, NoMemory> {
     let mut disk = holding(alloc, List::copy_of(alloc, synced)?);
+    let are_done = are_done(&mut disk, calls);
+    Ok(are_done & is_left(disk, choice, image)?)
+}
+
+fn are_done(disk: &mut MemDisk, calls: &[Call]) -> bool {
     let mut holds = true;
     for call in calls {
-        holds &= is_done(&mut disk, call);
+        holds &= is_done(disk, call);
     }
-    Ok(holds & (disk.crashed(choice)?.image() == image))
+    holds
+}
+
+/// Whether a crash leaves these octets on a disk after its calls.
+fn is_left(disk: MemDisk, choice: u64, image: &[u8]) -> Result<bool, NoMemory> {
+    Ok(disk.crashed(choice)?.image() == image)
 }
 
 /// A disk with these octets, of which there are at most 100,000.

@@ -5,6 +5,7 @@ use crate::journals::{
     CLOSED, FAULT, Journal, Left, Why, append, disk_failing_at, journal_failing_at, leaves, made,
     open, read,
 };
+use gd_disk::MemDisk;
 use group_terms::{NoMemory, Octets};
 use std::alloc::Global;
 use tree_journal::JournalRefusal;
@@ -87,11 +88,16 @@ fn crashes(
     choice: u64,
     left: Left,
 ) -> Result<bool, NoMemory> {
-    let (answered, disk) = match made(alloc, disk_failing_at(alloc, &[call])?) {
+    let (answered, disk) = used_on(alloc, disk_failing_at(alloc, &[call])?);
+    Ok((answered == answers) & leaves(alloc, disk.crashed(choice)?, left))
+}
+
+/// What calls answer of a journal that is made on a disk, and the disk after them.
+fn used_on(alloc: Global, disk: MemDisk) -> (Result<Answers, JournalRefusal>, MemDisk) {
+    match made(alloc, disk) {
         Ok(mut journal) => (Ok(used(alloc, &mut journal)), journal.into_disk()),
         Err(refused) => (Err(refused.why), refused.disk),
-    };
-    Ok((answered == answers) & leaves(alloc, disk.crashed(choice)?, left))
+    }
 }
 
 fn used(alloc: Global, journal: &mut Journal) -> Answers

@@ -63,10 +63,13 @@ fn all_fail<R: Files<File = File> + Clone>(alloc: Global, rt: &R) -> Result<bool
 fn take_nothing<R: Files<File = File> + Clone>(alloc: Global, rt: &R) -> Result<bool, NoMemory> {
     let mut holds = true;
     for path in ["no_such_folder/disk", ".", "/dev/full"] {
-        let mut disk = FileDisk::new(alloc, rt, path)?;
-        holds &= disk.write_at(0, b"abc") == Err(Failed);
+        holds &= takes_nothing(&mut FileDisk::new(alloc, rt, path)?);
     }
     Ok(holds)
+}
+
+fn takes_nothing<R: Files<File = File>>(disk: &mut FileDisk<R>) -> bool {
+    disk.write_at(0, b"abc") == Err(Failed)
 }
 
 /// What a sync could not bring to the device may be lost, and no later sync would tell: each call fails after one that failed.

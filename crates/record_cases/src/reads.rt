@@ -2,7 +2,7 @@
 ghost use Rattle.std.specs.Prelude.{◌≤◌, length, IsSome};
 
 use crate::crashes::holding;
-use crate::journals::{Journal, Left, append, journal_failing_at, leaves, made, open, read};
+use crate::journals::{Journal, Left, append, close, journal_failing_at, leaves, made, open, read};
 use gd_disk::MemDisk;
 use group_terms::{List, NoMemory, Octets};
 use std::alloc::Global;
@@ -85,8 +85,16 @@ fn is_read_back(alloc: Global, long: &[u8]) -> Result<bool, NoMemory>
 {
     let mut journal = journal_failing_at(alloc, &[])?;
     let is_appended = append(&mut journal, long).is_none();
-    let mut body = Octets::new(alloc);
-    Ok(is_appended & is_step(alloc, &mut journal, &mut body, Ok(true), long, 65_550))
+    let is_read = is_step(
+        alloc,
+        &mut journal,
+        &mut Octets::new(alloc),
+        Ok(true),
+        long,
+        65_550,
+    );
+    close(journal);
+    Ok(is_appended & is_read)
 }
 
 /// Whether a read answers this, the body is this then, and reading goes on there.
@@ -113,7 +121,9 @@ fn rewind_begins_again_with_the_first_record(rt: HostRuntime) {
 
 fn is_read_twice(alloc: Global) -> Result<bool, NoMemory> {
     let mut journal = opened(alloc, ONE)?;
-    Ok(reads_one(alloc, &mut journal) & reads_one(alloc, &mut journal))
+    let is_read = reads_one(alloc, &mut journal) & reads_one(alloc, &mut journal);
+    close(journal);
+    Ok(is_read)
 }
 
 fn opened(alloc: Global, image: &[u8]) -> Result<Journal, NoMemory> {
@@ -141,11 +151,18 @@ fn a_read_without_a_record_leaves_the_body_and_the_place(rt: HostRuntime) {
 }
 
 fn stay(alloc: Global) -> Result<bool, NoMemory> {
-    let is_ended = stays(alloc, &mut opened(alloc, ONE)?, Ok(false));
-    Ok(is_ended & stays(alloc, &mut opened(alloc, ONE_ALONE)?, NO_SECOND))
+    let is_ended = stays_in(alloc, ONE, Ok(false))?;
+    Ok(is_ended & stays_in(alloc, ONE_ALONE, NO_SECOND)?)
 }
 
-/// Whether reads after the first one answer this, and leave the body and the place.
+/// Whether reads of a file after the first one answer this, and leave the body and the place.
+fn stays_in(alloc: Global, image: &[u8], end: Answer) -> Result<bool, NoMemory> {
+    let mut journal = opened(alloc, image)?;
+    let holds = stays(alloc, &mut journal, end);
+    close(journal);
+    Ok(holds)
+}
+
 fn stays(alloc: Global, journal: &mut Journal, end: Answer) -> bool {
     let mut body = Octets::new(alloc);
     is_step(alloc, journal, &mut body, Ok(true), b"ab", 16)

@@ -1,7 +1,7 @@
 //! Journals that are opened again in place.
 ghost use Rattle.std.specs.Prelude.{IsSome};
 
-use crate::journals::{CLOSED, FAULT, Journal, Left, append, has_left, journal_failing_at, read};
+use crate::journals::{CLOSED, FAULT, Journal, Left, append, close, has_left, journal_failing_at};
 use group_terms::{NoMemory, Octets};
 use std::alloc::Global;
 
@@ -29,7 +29,9 @@ fn are_left(alloc: Global) -> Result<bool, NoMemory> {
 fn is_left(alloc: Global, call: u64, left: Left) -> Result<bool, NoMemory> {
     let mut journal = journal_failing_at(alloc, &[call])?;
     let is_fault = append(&mut journal, b"first") == FAULT;
-    Ok(is_fault & has_again(alloc, &mut journal, left))
+    let is_there = has_again(alloc, &mut journal, left);
+    close(journal);
+    Ok(is_fault & is_there)
 }
 
 /// Whether a journal is opened again, and this is left.
@@ -46,7 +48,9 @@ fn is_appended(alloc: Global) -> Result<bool, NoMemory> {
     let mut journal = journal_failing_at(alloc, &[10])?;
     let is_fault = append(&mut journal, b"first") == FAULT;
     let is_appended = appends_again(alloc, &mut journal);
-    Ok(is_fault & is_appended & has_again(alloc, &mut journal, (&[2], Ok(false))))
+    let is_there = has_again(alloc, &mut journal, (&[2], Ok(false)));
+    close(journal);
+    Ok(is_fault & is_appended & is_there)
 }
 
 /// Whether a journal without a record is opened again, and one appended.
@@ -67,7 +71,9 @@ fn a_journal_that_is_not_opened_again_is_closed(rt: HostRuntime) {
 fn each_is_closed(alloc: Global) -> Result<bool, NoMemory> {
     let mut journal = journal_failing_at(alloc, &[8, 10])?;
     let are_closed = is_closed(&mut journal) & is_closed(&mut journal);
-    Ok(are_closed & has_again(alloc, &mut journal, (&[], Ok(false))))
+    let is_empty = has_again(alloc, &mut journal, (&[], Ok(false)));
+    close(journal);
+    Ok(are_closed & is_empty)
 }
 
 /// Whether a journal is not opened again, and no record is appended to it then.
@@ -86,7 +92,9 @@ fn a_closed_journal_is_opened_again_at_its_first_record(rt: HostRuntime) {
 fn is_there(alloc: Global) -> Result<bool, NoMemory> {
     let mut journal = journal_failing_at(alloc, &[])?;
     let is_appended = append(&mut journal, b"first").is_none();
-    Ok(is_appended & is_there_again(alloc, &mut journal) & is_there_again(alloc, &mut journal))
+    let is_there = is_there_again(alloc, &mut journal) & is_there_again(alloc, &mut journal);
+    close(journal);
+    Ok(is_appended & is_there)
 }
 
 /// Whether no record is appended to a journal once it is closed, and it has its record once it is opened again.

@@ -1,4 +1,5 @@
 //! A pull that another implementation made: what both sides know, its messages, and the keys that it gives.
+use crate::known::octets;
 use group_terms::{Keyed, LkhId, MemberName, NoMemory, NodeValue, Path, PathKey, TrafficValue};
 use pull_msgs::{GroupName, Nonce, Octets, Phase1};
 
@@ -56,15 +57,6 @@ const PATH: [(u16, u32, &str, &str); 3] = [
 pub(crate) const NI: &str = "000102030405060708090a0b0c0d0e0f";
 
 pub(crate) const NR: &str = "101112131415161718191a1b1c1d1e1f";
-
-/// The octets of hexadecimal digits; zeros for other characters, with which no case holds.
-pub(crate) fn octets<const N: usize>(text: &str) -> [u8; N] {
-    let mut octets = [0; N];
-    match hex::decode_to_slice(text, &mut octets) {
-        Ok(()) => octets,
-        Err(_) => [0; N],
-    }
-}
 
 /// Whether a message was written, with these octets.
 pub(crate) fn has_octets(written: Result<Octets, NoMemory>, octets: &[u8]) -> bool {

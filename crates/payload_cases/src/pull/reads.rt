@@ -1,6 +1,7 @@
 //! The same messages, read one after another: each is opened after the one before it.
-use crate::known::{
-    FIRST, FOURTH, Known, MESSAGE, SECOND, SPI, THIRD, octets, path, traffic, what_is_known,
+use crate::known::octets;
+use crate::pull::known::{
+    FIRST, FOURTH, Known, MESSAGE, SECOND, SPI, THIRD, path, traffic, what_is_known,
 };
 use group_terms::Keyed;
 use pull_msgs::{PullFault, read_first, read_fourth, read_second, read_third};

@@ -1,5 +1,5 @@
 //! Messages of other pulls: under the key of another phase 1 SA, after another IV, and for another message id.
-use crate::drafts::{
+use crate::pull::drafts::{
     IV, MESSAGE, NONCE, NONCE_PAYLOAD, SEQUENCE, SEQUENCE_PAYLOAD, first, malformed, message,
     nonce, phase,
 };

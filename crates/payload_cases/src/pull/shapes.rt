@@ -1,8 +1,10 @@
 //! Messages of other shapes: what is told of them, and what is not looked at.
 ghost use Rattle.std.specs.Prelude.{◌≤◌, length};
 
-use crate::drafts::{GAP, IV, MESSAGE, NONCE, SEQUENCE, first, malformed, message, nonce, phase};
 use crate::known::octets;
+use crate::pull::drafts::{
+    GAP, IV, MESSAGE, NONCE, SEQUENCE, first, malformed, message, nonce, phase,
+};
 use group_terms::{NoMemory, WireWhat};
 use pull_msgs::{First, PullFault, read_first, read_fourth, read_second, read_third};
 use std::alloc::Global;

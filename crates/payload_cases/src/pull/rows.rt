@@ -1,6 +1,7 @@
 //! The pulls of three members of one group, whose octets another implementation wrote: what is read of them is written again as the same
 //! octets.
-use crate::known::{group, has_octets, nonce, octets};
+use crate::known::octets;
+use crate::pull::known::{group, has_octets, nonce};
 use group_terms::{MemberName, NoMemory};
 use pull_msgs::{
     Keyed, Nonce, Octets, Phase1, Second, next_iv, read_fourth, read_second, write_first,

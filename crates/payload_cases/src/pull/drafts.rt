@@ -1,7 +1,7 @@
 //! Messages that are put together from the framing and the ciphers, with any payloads after the HASH.
 ghost use Rattle.std.specs.Prelude.{◌≤◌, length};
 
-use crate::known::nonce_of;
+use crate::pull::known::nonce_of;
 use gd_cipher::{Hmac, Key128, cbc_seal, phase2_iv};
 use gd_wire::{
     Header, fault, write_header, write_identification, write_payload, write_payload_head,

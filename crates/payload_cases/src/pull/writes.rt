@@ -1,7 +1,7 @@
 //! Messages have the octets that another implementation writes.
-use crate::known::{
-    FIRST, FOURTH, Known, MESSAGE, SECOND, SPI, THIRD, group, has_octets, keyed, octets,
-    what_is_known,
+use crate::known::octets;
+use crate::pull::known::{
+    FIRST, FOURTH, Known, MESSAGE, SECOND, SPI, THIRD, group, has_octets, keyed, what_is_known,
 };
 use group_terms::SignKind;
 use pull_msgs::{write_first, write_fourth, write_second, write_third};

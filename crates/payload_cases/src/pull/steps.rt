@@ -1,5 +1,6 @@
 //! The member's side of a pull: it takes each message at its step, and a refusal leaves it where it was.
-use crate::known::{FIRST, FOURTH, MESSAGE, NI, SECOND, THIRD, group, nonce, octets, phase};
+use crate::known::octets;
+use crate::pull::known::{FIRST, FOURTH, MESSAGE, NI, SECOND, THIRD, group, nonce, phase};
 use group_terms::SignKind;
 use member_pull::{Begun, MemberPull, Octets, PullRefusal};
 use pull_msgs::{Nonce, next_iv, write_second};
