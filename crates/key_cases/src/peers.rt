@@ -11,8 +11,12 @@ use std::alloc::Global;
 
 #[test]
 fn a_peer_keeps_the_newest_keys(rt: HostRuntime) {
-    let mut peers = Peers::new(rt.alloc());
-    assert!(rt; keeps_the_newest(&mut peers) == Some(true));
+    assert!(rt; newest_are_kept(rt.alloc()) == Some(true));
+}
+
+fn newest_are_kept(alloc: Global) -> Option<bool> {
+    let mut peers = Peers::new(alloc);
+    keeps_the_newest(&mut peers)
 }
 
 fn keeps_the_newest(peers: &mut Peers) -> Option<bool> {

@@ -16,8 +16,9 @@ fn a_member_takes_both_pushes(rt: HostRuntime) {
 }
 
 fn takes_both(alloc: Global) -> Option<bool> {
+    let told = reply(0)?;
     let mut room = Room::new(alloc).ok()?;
-    let mut store = MemberStore::new(reply(0)?);
+    let mut store = MemberStore::new(told);
     takes_pushes(&mut store, &mut room)
 }
 

@@ -40,16 +40,23 @@ fn what_is_derived_is_what_a_second_closure_reaches(rt: HostRuntime) {
 fn is_closed_alike(alloc: Global, draws: &mut Draws) -> Result<bool, NoMemory> {
     let mut pairs = List::new(alloc);
     draw_pairs(draws, &mut pairs)?;
+    is_derived_as_reached(alloc, key(draws.number(), 1), pairs.as_slice())
+}
+
+fn is_derived_as_reached(alloc: Global, start: KeyName, pairs: &[Wrap]) -> Result<bool, NoMemory> {
     let mut reached = List::new(alloc);
-    let start = key(draws.number(), 1);
-    reach(start, pairs.as_slice(), &mut reached)?;
+    reach(start, pairs, &mut reached)?;
+    Ok(are_derived(alloc, &start, pairs, reached.as_slice()))
+}
+
+/// Whether of the twelve keys just these are derived.
+fn are_derived(alloc: Global, start: &KeyName, pairs: &[Wrap], reached: &[KeyName]) -> bool {
     let mut same = true;
     for number in 1..13 {
         let goal = key(number, 1);
-        let due = reached.as_slice().contains(&goal);
-        same &= is_derived_if(alloc, &start, &goal, pairs.as_slice(), due);
+        same &= is_derived_if(alloc, start, &goal, pairs, reached.contains(&goal));
     }
-    Ok(same)
+    same
 }
 
 /// Up to 24 pairs of twelve keys.

@@ -29,11 +29,28 @@ fn holds_of_a_drawn_group(
 ) -> Result<bool, NoMemory> {
     let mut history = History::new(alloc, 2);
     draw_batches(alloc, draws, &mut history)?;
+    holds_of_history(alloc, &history, names)
+}
+
+fn holds_of_history(
+    alloc: Global,
+    history: &History,
+    names: &[MemberName],
+) -> Result<bool, NoMemory> {
     let mut sent = List::new(alloc);
-    add_pairs(alloc, &history, names, true, &mut sent)?;
+    add_pairs(alloc, history, names, true, &mut sent)?;
+    holds_of_sent(alloc, history, names, sent.as_slice())
+}
+
+fn holds_of_sent(
+    alloc: Global,
+    history: &History,
+    names: &[MemberName],
+    sent: &[Wrap],
+) -> Result<bool, NoMemory> {
     let mut world = List::new(alloc);
-    add_pairs(alloc, &history, names, false, &mut world)?;
-    holds_of(alloc, &history, names, sent.as_slice(), world.as_slice())
+    add_pairs(alloc, history, names, false, &mut world)?;
+    holds_of(alloc, history, names, sent, world.as_slice())
 }
 
 /// Adds those of eight drawn batches that fit.
@@ -116,33 +133,49 @@ fn holds_of(
 ) -> Result<bool, NoMemory> {
     let mut holds = true;
     for epoch in 1..=history.epoch() {
-        holds &= is_for_members(alloc, history, epoch, names, sent, world)?;
+        holds &= is_for_members(alloc, history, epoch, names, sent)?;
+        holds &= !is_for_others(alloc, history, epoch, names, world)?;
     }
     let next = history.epoch().saturating_add(1);
     Ok(holds & !derives(alloc, names, world, next)?)
 }
 
-/// Whether each member of an epoch derives its traffic key by what was sent, and the others all together do not by all that can be.
+/// Whether each member of an epoch derives its traffic key by what was sent.
 fn is_for_members(
     alloc: Global,
     history: &History,
     epoch: u32,
     names: &[MemberName],
     sent: &[Wrap],
-    world: &[Wrap],
 ) -> Result<bool, NoMemory>
     requires { epoch ≤ length history.now.batches }
 {
     let mut holds = true;
-    let mut others = List::new(alloc);
     for member in names {
         if history.is_member(epoch, member) {
             holds &= derives(alloc, &[*member], sent, epoch)?;
-        } else {
+        }
+    }
+    Ok(holds)
+}
+
+/// Whether those who are no members of an epoch derive its traffic key, all together, by all that can be sent.
+fn is_for_others(
+    alloc: Global,
+    history: &History,
+    epoch: u32,
+    names: &[MemberName],
+    world: &[Wrap],
+) -> Result<bool, NoMemory>
+    requires { epoch ≤ length history.now.batches }
+{
+    let mut others = List::new(alloc);
+    for member in names {
+        if !history.is_member(epoch, member) {
             others.push(*member)?;
         }
     }
-    Ok(holds & !derives(alloc, others.as_slice(), world, epoch)?)
+    derives(alloc, others.as_slice(), world, epoch)
 }
 
 /// Whether names derive the traffic key of an epoch from their phase 1 keys, by pairs.

@@ -100,9 +100,13 @@ fn histories_are_as_key_servers_show_them(rt: HostRuntime) {
 /// Whether this is what the history of two batches says of its epochs.
 fn has_epochs(alloc: Global, joins: &str, leaves: &str, epochs: &[Epoch; 3]) -> bool {
     let mut history = History::new(alloc, 2);
-    let mut holds = are_added(alloc, &mut history, joins, leaves);
+    are_added(alloc, &mut history, joins, leaves) & are_epochs(alloc, &history, epochs)
+}
+
+fn are_epochs(alloc: Global, history: &History, epochs: &[Epoch; 3]) -> bool {
+    let mut holds = true;
     for epoch in epochs {
-        holds &= is_epoch(alloc, &history, epoch);
+        holds &= is_epoch(alloc, history, epoch);
     }
     holds
 }
@@ -119,13 +123,20 @@ const PATHS: [(u32, u8, &[Key]); 6] = [
 
 #[test]
 fn paths_have_the_keys_of_their_epoch(rt: HostRuntime) {
-    let alloc = rt.alloc();
+    assert!(rt; has_paths(rt.alloc()));
+}
+
+fn has_paths(alloc: Global) -> bool {
     let mut history = History::new(alloc, 2);
-    let mut holds = are_added(alloc, &mut history, "abc", "b");
+    are_added(alloc, &mut history, "abc", "b") & are_paths(alloc, &history)
+}
+
+fn are_paths(alloc: Global, history: &History) -> bool {
+    let mut holds = true;
     for (epoch, letter, keys) in &PATHS {
-        holds &= is_path(alloc, &history, *epoch, *letter, keys);
+        holds &= is_path(alloc, history, *epoch, *letter, keys);
     }
-    assert!(rt; holds);
+    holds
 }
 
 /// Whether these are the keys of a member at an epoch. Who has none is no member then.

@@ -2,8 +2,8 @@
 ghost use Rattle.std.specs.Prelude.{◌+◌, ◌^◌, ◌<◌};
 ghost use Rattle.group_model.specs.Steps.{IsReady};
 
-use crate::keys::{Epoch, are_keys, are_wraps, batch_of, epoch_of, named};
-use group_model::{LkhId, NoMemory, PresentTree, TreeStep};
+use crate::keys::{Epoch, Key, are_keys, are_wraps, batch_of, epoch_of, named};
+use group_model::{Batch, LkhId, NoMemory, PresentTree, TreeStep};
 use std::alloc::Global;
 
 /// A step, with the tree after it.
@@ -112,18 +112,28 @@ fn has_members(alloc: Global, tree: &PresentTree) -> bool {
 /// `d` comes in where `b` goes out: before the step is taken it is known how many members there are then, which leaf `d` has, and when each of the
 /// positions 1 to 7 is changed last.
 fn is_foreseen(alloc: Global, tree: &PresentTree) -> bool {
-    let Some(batch) = batch_of("b", "d") else {
-        return false;
-    };
-    if !tree.fits(&batch) {
+    match batch_of("b", "d") {
+        Some(batch) => foresees(alloc, tree, &batch),
+        None => false,
+    }
+}
+
+fn foresees(alloc: Global, tree: &PresentTree, batch: &Batch) -> bool {
+    if !tree.fits(batch) {
         return false;
     }
-    let Ok(Some(step)) = tree.step(alloc, &batch, 3) else {
-        return false;
-    };
-    (tree.members_after(&step) == 3)
+    match tree.step(alloc, batch, 3) {
+        Ok(Some(step)) => is_of_d(tree, &step),
+        _ => false,
+    }
+}
+
+fn is_of_d(tree: &PresentTree, step: &TreeStep) -> bool
+    requires { IsReady tree.now step.now }
+{
+    (tree.members_after(step) == 3)
         & are_positions(step.joined(), &[5])
-        & is_made_after(tree, &step, &[2, 2, 1, 1, 2, 1, 0])
+        & is_made_after(tree, step, &[2, 2, 1, 1, 2, 1, 0])
 }
 
 /// Whether these are the epochs at which the positions 1 to 7 get their last keys, once a step is taken.
@@ -145,13 +155,17 @@ fn is_made_after(tree: &PresentTree, step: &TreeStep, want: &[u32; 7]) -> bool
 /// Takes the step of a batch, with a limit of 3. Whether it is this one.
 fn is_taken(alloc: Global, tree: &mut PresentTree, want: &Step) -> bool {
     let [outs, ins] = want.batch;
-    let Some(batch) = batch_of(outs, ins) else {
-        return false;
-    };
-    if !tree.fits(&batch) {
+    match batch_of(outs, ins) {
+        Some(batch) => takes(alloc, tree, &batch, want),
+        None => false,
+    }
+}
+
+fn takes(alloc: Global, tree: &mut PresentTree, batch: &Batch, want: &Step) -> bool {
+    if !tree.fits(batch) {
         return false;
     }
-    match tree.step(alloc, &batch, 3) {
+    match tree.step(alloc, batch, 3) {
         Ok(Some(step)) => {
             let same = is_step(alloc, tree, &step, want);
             tree.advance(step);
@@ -166,13 +180,26 @@ fn is_taken(alloc: Global, tree: &mut PresentTree, want: &Step) -> bool {
 fn is_step(alloc: Global, tree: &PresentTree, step: &TreeStep, want: &Step) -> bool
     requires { IsReady tree.now step.now }
 {
-    let (Some(drawn), Ok(wraps)) = (want.drawn, tree.wraps(alloc, step)) else {
-        return false;
-    };
     (step.epoch() == want.tree.epoch)
         & (step.sequence() == want.sequence)
-        & are_positions(step.drawn(), drawn)
-        & are_wraps(wraps.as_slice(), want.tree.wraps)
+        & are_drawn(step, want.drawn)
+        & encrypts(alloc, tree, step, want.tree.wraps)
+}
+
+fn are_drawn(step: &TreeStep, want: Option<&[u16]>) -> bool {
+    match want {
+        Some(want) => are_positions(step.drawn(), want),
+        None => false,
+    }
+}
+
+fn encrypts(alloc: Global, tree: &PresentTree, step: &TreeStep, want: &[[Key; 2]]) -> bool
+    requires { IsReady tree.now step.now }
+{
+    match tree.wraps(alloc, step) {
+        Ok(wraps) => are_wraps(wraps.as_slice(), want),
+        Err(NoMemory) => false,
+    }
 }
 
 fn are_positions(ids: &[LkhId], want: &[u16]) -> bool {

@@ -58,6 +58,9 @@ fn are_filled(alloc: Global) -> Result<bool, NoMemory> {
 
 /// Whether a text of 45 or of 60 octets has 60 once zeros fill its last block.
 fn fills(text: &mut Octets) -> bool {
+    if text.len() < 45 {
+        return false;
+    }
     let is_filled = write_padding(text).is_ok() & (text.len() == 60);
     is_filled & (text.as_slice().get(44..47) == Some([7, 0, 0].as_slice()))
 }

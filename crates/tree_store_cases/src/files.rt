@@ -21,9 +21,18 @@ pub(crate) fn opened(
 /// What is read of a file; `None` where that fails in another way.
 pub(crate) fn read(alloc: Global, file: Octets) -> Option<Found> {
     match opened(alloc, file) {
-        Ok(mut store) => rest_of(alloc, &mut store),
+        Ok(mut store) => {
+            let found = rest_of(alloc, &mut store);
+            close(store);
+            found
+        }
         Err(refused) => refused_at(0, refused.why),
     }
+}
+
+/// Lets a store go. Each other function that did so would cost the proof as much again.
+pub(crate) fn close(store: TreeStore<MemDisk>) {
+    store.into_disk();
 }
 
 fn rest_of(alloc: Global, store: &mut TreeStore<MemDisk>) -> Option<Found> {

@@ -1,5 +1,5 @@
 //! A file that another implementation made.
-use crate::files::opened;
+use crate::files::{close, opened};
 use gd_disk::MemDisk;
 use group_terms::{Batch, BatchValues, Change, Drawn, NoMemory, Octets};
 use std::alloc::Global;
@@ -78,7 +78,11 @@ fn a_file_of_another_implementation_is_read(rt: HostRuntime) {
 
 fn is_read(alloc: Global) -> Result<bool, NoMemory> {
     match opened(alloc, image(alloc)?) {
-        Ok(mut store) => reads_group(alloc, &mut store),
+        Ok(mut store) => {
+            let is_read = reads_group(alloc, &mut store);
+            close(store);
+            is_read
+        }
         Err(_) => Ok(false),
     }
 }

@@ -204,12 +204,16 @@ fn write_record(
 ) -> Result<(), NoMemory> {
     let mut changed = Octets::new(alloc);
     write_changed(&mut changed, record, changes)?;
-    let Ok(size) = u32::try_from(changed.len()) else {
+    append_record(file, changed.as_slice())
+}
+
+fn append_record(file: &mut Octets, record: &[u8]) -> Result<(), NoMemory> {
+    let Ok(size) = u32::try_from(record.len()) else {
         return Err(NoMemory);
     };
     file.push(1)?;
     file.extend(&size.to_be_bytes())?;
-    file.extend(changed.as_slice())
+    file.extend(record)
 }
 
 fn write_changed(changed: &mut Octets, record: &[u8], changes: &[Change]) -> Result<(), NoMemory> {

@@ -106,7 +106,9 @@ pub(crate) fn holds(alloc: Global, disk: MemDisk, head: &Head, list: &[Stored]) 
 }
 
 /// Lets a store go. Each other function that did so would cost the proof as much again.
-pub(crate) fn close(_store: Store) {}
+pub(crate) fn close(store: Store) {
+    store.into_disk();
+}
 
 fn opened(alloc: Global, disk: UnseenDisk) -> Result<Store, FormatRefusal<UnseenDisk>> {
     TreeStore::open(alloc, disk)

@@ -26,21 +26,13 @@ fn iv_after_first(alloc: Global, known: &Known) -> Option<[u8; 16]> {
     let numbers = (first.message == MESSAGE) & (first.id_type == 11);
     let texts = (first.ni.octets() == known.ni.octets())
         & (first.id.as_slice() == b"console".as_slice());
-    if numbers & texts {
-        Some(first.next_iv)
-    } else {
-        None
-    }
+    (numbers & texts).then_some(first.next_iv)
 }
 
 fn iv_after_second(alloc: Global, known: &Known, iv: &[u8; 16]) -> Option<[u8; 16]> {
     let text = octets::<236>(SECOND);
     let second = read_second(alloc, &text, &known.phase, &MESSAGE, iv, &known.ni).ok()?;
-    if second.nr.octets() == known.nr.octets() {
-        Some(second.next_iv)
-    } else {
-        None
-    }
+    (second.nr.octets() == known.nr.octets()).then_some(second.next_iv)
 }
 
 fn iv_after_third(alloc: Global, known: &Known, iv: &[u8; 16]) -> Option<[u8; 16]> {

@@ -115,9 +115,10 @@ fn pull_of(row: &Row) -> Pull {
 
 #[test]
 fn messages_are_written_again(rt: HostRuntime) {
+    let alloc = rt.alloc();
     let mut holds = true;
-    for row in ROWS {
-        holds &= is_written_again(rt.alloc(), &row);
+    for row in &ROWS {
+        holds &= is_written_again(alloc, row);
     }
     assert!(rt; holds);
 }
@@ -146,9 +147,16 @@ fn are_written_again(alloc: Global, row: &Row, pull: &Pull, iv: &[u8; 16]) -> bo
 /// The IV of what follows a message that was written.
 fn iv_after(written: Result<Octets, NoMemory>) -> Option<[u8; 16]> {
     match written {
-        Ok(written) if written.len() >= 16 => Some(next_iv(written.as_slice())),
-        _ => None,
+        Ok(written) => iv_of(written.as_slice()),
+        Err(NoMemory) => None,
     }
+}
+
+fn iv_of(message: &[u8]) -> Option<[u8; 16]> {
+    if message.len() < 16 {
+        return None;
+    }
+    Some(next_iv(message))
 }
 
 fn answer_is_written_again(

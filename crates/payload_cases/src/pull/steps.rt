@@ -95,12 +95,16 @@ fn answers_and_keys_of_other_pulls_are_refused(rt: HostRuntime) {
 }
 
 fn other_hash_is_told(alloc: Global) -> Option<bool> {
-    let mut begun = begin(alloc, MESSAGE)?;
     let nonce = Nonce::read(&[7; 8])?;
+    let mut begun = begin(alloc, MESSAGE)?;
     let answer = answer(alloc, MESSAGE, begun.datagram.as_slice(), &nonce)?;
-    match no_second(alloc, &mut begun.pull, answer.as_slice()) {
-        Some(PullRefusal::BadHash { carried, expected }) => Some(carried != expected),
-        _ => None,
+    Some(tells_other_hash(alloc, &mut begun.pull, answer.as_slice()))
+}
+
+fn tells_other_hash(alloc: Global, pull: &mut MemberPull, answer: &[u8]) -> bool {
+    match no_second(alloc, pull, answer) {
+        Some(PullRefusal::BadHash { carried, expected }) => carried != expected,
+        _ => false,
     }
 }
 
