@@ -9,6 +9,7 @@ use group_terms::{List, Log, NoMemory};
 use std::alloc::Global;
 use std::sync::Wait;
 use std::sync::atomic::AtomicBool;
+use std::test::Fail;
 use std::thread;
 use std::thread::Threads;
 
@@ -83,11 +84,7 @@ fn turn_once<'a, R: Threads + Wait + Sync>(
 }
 
 /// A desk of one pass at a value that publishes on the board of this hall.
-fn desk_of(
-    alloc: Global,
-    hall: &Hall,
-    publisher: Publisher,
-) -> Result<DeskMade<Waiting<'_>>, NoMemory>
+fn desk_of(alloc: Global, hall: &Hall, publisher: Publisher) -> Result<DeskMade<Waiting<'_>>, Fail>
     requires { publisher.board ≡ hall.now.board }
     ensures desk { IfOk result (λ made. (made.desk.terms.tag.board ≡ hall.now.board) × (made.desk.terms.passes ≡ 1)) }
     ensures passes { IfOk result (λ made. made.passes ≡ new_passes made.desk.id made.desk.terms) }
@@ -99,12 +96,12 @@ fn desk_of(
     };
     match Desk::new(alloc, waiting, 1, 1) {
         Ok(made) => Ok(made),
-        Err(_) => Err(NoMemory),
+        Err(_) => Err(Fail::new("memory is short")),
     }
 }
 
 #[test]
-fn a_look_waits_for_no_turn(rt: HostRuntime) -> Result<(), NoMemory> {
+fn a_look_waits_for_no_turn(rt: HostRuntime) -> Result<(), Fail> {
     let BoardMade {
         board,
         publisher,
@@ -123,14 +120,12 @@ fn a_look_waits_for_no_turn(rt: HostRuntime) -> Result<(), NoMemory> {
         pass: reader,
     };
     let DeskMade { desk, mut passes } = desk_of(rt.alloc(), &hall, publisher)?;
-    let Some(mut pass) = passes.pop() else {
-        return Err(NoMemory);
-    };
+    let mut pass = passes.pop().ok_or("one pass")?;
     let (turned, seen) = thread::join(
         &rt,
         || turn_once(&rt, &desk, &mut pass, told),
         || look_and_tell(&rt, &mut watch),
     );
-    assert!(rt; turned & (seen.epoch == 1) & (seen.sequence == 0));
+    assert_eq!(rt; (turned, seen.epoch, seen.sequence), (true, 1, 0));
     Ok(())
 }
