@@ -14,7 +14,7 @@ ghost use Rattle.std.specs.Prelude.{◌<◌};
 
 use boards::look_together;
 use rounds::sum_of_rounds;
-use std::alloc::Global;
+use std::alloc::{Allocator, Global};
 use std::io::ErrorKind;
 use std::rt::Runtime;
 use std::sync::Wait;
@@ -39,30 +39,47 @@ struct Asked {
 fn answer_all<R: Runtime + Threads + Wait + Sync>(rt: &R, alloc: Global) -> io::Result<()> {
     let mut words = env::args(rt)?.skip(1);
     while let Some(what) = words.next() {
-        let threads = words.next().ok_or(ErrorKind::InvalidInput)?;
-        let count = words.next().ok_or(ErrorKind::InvalidInput)?;
-        let asked = read_asked(threads.as_str(), count.as_str())?;
-        answer(rt, alloc, what.as_str(), asked)?;
+        let (threads, count) = (words.next(), words.next());
+        answer(rt, alloc, what.as_str(), read_asked(&threads, &count))?;
     }
     Ok(())
 }
 
-fn read_asked(threads: &str, count: &str) -> io::Result<Asked> {
-    match (threads.parse::<u8>(), count.parse::<u32>()) {
-        (Ok(threads), Ok(count)) => Ok(Asked { threads, count }),
-        _ => Err(ErrorKind::InvalidInput.into()),
+/// The words after the first one of three.
+fn read_asked<A: Allocator>(
+    threads: &Option<String<A>>,
+    count: &Option<String<A>>,
+) -> Option<Asked> {
+    match (threads, count) {
+        (Some(threads), Some(count)) => parse_asked(threads.as_str(), count.as_str()),
+        _ => None,
     }
+}
+
+fn parse_asked(threads: &str, count: &str) -> Option<Asked> {
+    Some(Asked {
+        threads: small_number(threads)?,
+        count: number(count)?,
+    })
+}
+
+fn small_number(word: &str) -> Option<u8> {
+    word.parse::<u8>().ok()
+}
+
+fn number(word: &str) -> Option<u32> {
+    word.parse::<u32>().ok()
 }
 
 fn answer<R: Runtime + Threads + Wait + Sync>(
     rt: &R,
     alloc: Global,
     what: &str,
-    asked: Asked,
+    asked: Option<Asked>,
 ) -> io::Result<()> {
-    match what {
-        "looks" => looks(rt, alloc, asked),
-        "turns" => turns(rt, alloc, asked),
+    match (what, asked) {
+        ("looks", Some(asked)) => looks(rt, alloc, asked),
+        ("turns", Some(asked)) => turns(rt, alloc, asked),
         _ => Err(ErrorKind::InvalidInput.into()),
     }
 }

@@ -1,7 +1,7 @@
 //! A publisher and passes with the board that they are of.
 ghost use Rattle.std.specs.Prelude.{◌≡◌};
 
-use epoch_board::{BoardPass, EpochBoard, Publisher};
+use epoch_board::{BoardPass, EpochBoard, Publisher, Seen};
 
 #[derive(Drop)]
 pub struct Ledger<'a> {
@@ -41,10 +41,13 @@ impl<'a> Watch<'a> {
         let mut before = self.board.now(&mut self.pass);
         for _ in 0..looks {
             let seen = self.board.now(&mut self.pass);
-            if seen < before || seen.epoch != seen.sequence {
-                self.rises = false;
-            }
+            self.rises &= may_follow(before, seen);
             before = seen;
         }
     }
+}
+
+/// Whether this pair has one number twice, and is not less than the one before it.
+fn may_follow(before: Seen, seen: Seen) -> bool {
+    seen.epoch >= before.epoch && seen.epoch == seen.sequence
 }
