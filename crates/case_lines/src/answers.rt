@@ -10,12 +10,12 @@ pub trait Cases {
     fn answer(&mut self, rt: &HostRuntime, words: &[&str], text: &mut Text) -> Option<()>;
 }
 
-/// Answers standard input, line by line. `InvalidInput` at the first line that asks for nothing that can be done.
-pub fn answer_all<C: Cases>(rt: &HostRuntime, cases: &mut C) -> io::Result<()> {
+/// Answers standard input, line by line, from the first case on. `InvalidInput` at the first line that asks for nothing that can be done.
+pub fn answer_all<C: Cases + Drop>(rt: &HostRuntime, mut cases: C) -> io::Result<()> {
     let input = BufReader::new(rt.alloc(), rt.reader())?;
     for line in input.lines(rt.alloc()) {
         let line = line?;
-        answer_line(rt, line.as_str(), cases)?;
+        answer_line(rt, line.as_str(), &mut cases)?;
     }
     Ok(())
 }

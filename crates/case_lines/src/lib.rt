@@ -2,9 +2,11 @@
 #![tactic(auto)]
 
 pub use answers::{Cases, answer_all};
+pub use places::put;
 pub use texts::Text;
 pub use words::{array, long_number, number, octets};
 
 mod answers;
+mod places;
 mod texts;
 mod words;

@@ -1,40 +1,47 @@
 //! What batches put out.
 
 use crate::cases::TestCore;
+use crate::groups::{Told, close_batch};
 use crate::keyed::add_keyed;
 use crate::texts::{Detail, add_refused, add_shown};
 use case_lines::Text;
-use gcks_core::{CoreOutput, Prepared, PushPair};
-use group_terms::{Batch, KeyName, Octets, Wrap};
+use gcks_core::{CoreOutput, Keyed, MemberName, PushPair};
+use group_terms::{KeyName, Octets, Wrap};
 use std::alloc::Global;
 
-/// Closes the batch: its epoch, what it encrypts, its pushes, and what those are told who come in.
-pub fn batch(alloc: Global, detail: Detail, core: &mut TestCore, text: &mut Text) {
-    let prepared = match core.prepare(alloc) {
-        Ok(prepared) => prepared,
-        Err(why) => return add_refused("batch", why, text),
-    };
-    let mut replies = Text::new(alloc);
-    add_replies(alloc, detail, core.queued(), &prepared, &mut replies);
-    match core.commit(prepared) {
-        Ok(output) => add_made(detail, &output, &replies, text),
-        Err(why) => add_refused("batch", why, text),
+/// The text that a batch is told by: what it put out, and then the replies.
+#[derive(Drop)]
+struct BatchText {
+    alloc: Global,
+    detail: Detail,
+    output: Text,
+    replies: Text,
+}
+
+impl Told for BatchText {
+    fn add_reply(&mut self, member: &MemberName, reply: &Keyed) {
+        add_keyed(self.alloc, self.detail, member, reply, &mut self.replies);
+    }
+
+    fn add_output(&mut self, output: &CoreOutput) {
+        add_output(self.detail, output, &mut self.output);
     }
 }
 
-/// What a batch puts out, and then the replies.
-fn add_made(detail: Detail, output: &CoreOutput, replies: &Text, text: &mut Text) {
-    add_output(detail, output, text);
-    text.add_text(replies);
-}
-
-/// What those are told who come in with a batch.
-fn add_replies(alloc: Global, detail: Detail, batch: &Batch, prepared: &Prepared, text: &mut Text) {
-    for change in batch.changes() {
-        let member = change.member();
-        if let Some(keyed) = prepared.keyed(member) {
-            add_keyed(alloc, detail, member, keyed, text);
+/// Closes the batch: its epoch, what it encrypts, its pushes, and what those are told who come in.
+pub fn batch(alloc: Global, detail: Detail, core: &mut TestCore, text: &mut Text) {
+    let mut told = BatchText {
+        alloc,
+        detail,
+        output: Text::new(alloc),
+        replies: Text::new(alloc),
+    };
+    match close_batch(alloc, core, &mut told) {
+        Ok(()) => {
+            text.add_text(&told.output);
+            text.add_text(&told.replies);
         }
+        Err(why) => add_refused("batch", why, text),
     }
 }
 

@@ -1,25 +1,25 @@
 //! A case: a group and what it is asked.
-ghost use Rattle.std.specs.Prelude.{◌≤◌};
 
 use crate::batches::{add_pair, batch};
+use crate::groups::{SeedCore, SeedOpening, SeedParts, create, parts_on};
 use crate::looks::{add_counts, show, state};
 use crate::requests::ask;
 use crate::runs::work;
 use crate::texts::{Detail, add_refused, add_shown, detail_of};
-use case_lines::{Cases, Text, long_number, number, octets};
+use case_lines::{Cases, Text, long_number, number, octets, put};
 use gcks_core::{Core, CoreOpened, GroupName, MemberName, NewGroup, Opening, Parts};
 use gd_disk::MemDisk;
 use gd_edges::{ChaChaDraws, TestSigner};
 use group_terms::List;
 use std::alloc::Global;
 
-type TestParts = Parts<MemDisk, TestSigner, ChaChaDraws>;
+type TestParts = SeedParts<MemDisk>;
 
-pub type TestCore = Core<MemDisk, TestSigner, ChaChaDraws>;
+pub type TestCore = SeedCore<MemDisk>;
 
 type TestOpened = CoreOpened<MemDisk, TestSigner, ChaChaDraws>;
 
-type TestOpening = Opening<MemDisk, TestSigner, ChaChaDraws>;
+type TestOpening = SeedOpening<MemDisk>;
 
 /// What the group of a case is called.
 const GROUP: &[u8] = b"console";
@@ -49,14 +49,9 @@ impl Cases for Case {
 impl Case {
     /// An empty disk, and the draws of a seed.
     pub fn begin(alloc: Global, seed: u64, detail: Detail) -> Self {
-        let parts = Parts {
-            disk: MemDisk::new(alloc),
-            signer: TestSigner::new(),
-            draws: ChaChaDraws::new(seed, 0),
-        };
         Case {
             detail,
-            parts: Some(parts),
+            parts: Some(parts_on(MemDisk::new(alloc), seed)),
             core: None,
         }
     }
@@ -122,7 +117,7 @@ impl Case {
             return None;
         };
         let seed = long_number(seed)?;
-        *self = Case::begin(alloc, seed, detail_of(detail)?);
+        put(self, Case::begin(alloc, seed, detail_of(detail)?));
         text.add("case ");
         text.add(name);
         text.add("\n");
@@ -149,7 +144,7 @@ impl Case {
     fn put_disk(&mut self, disk: MemDisk, text: &mut Text) -> Option<()> {
         match &mut self.parts {
             Some(parts) => {
-                parts.disk = disk;
+                put(&mut parts.disk, disk);
                 self.add_disk(text)
             }
             None => None,
@@ -157,7 +152,8 @@ impl Case {
     }
 
     fn close(&mut self, text: &mut Text) -> Option<()> {
-        self.parts = self.take_apart();
+        let parts = self.take_apart();
+        put(&mut self.parts, parts);
         self.add_disk(text)
     }
 
@@ -168,11 +164,12 @@ impl Case {
             draws,
         } = self.take_apart()?;
         let disk = disk.crashed(choice).ok()?;
-        self.parts = Some(Parts {
+        let parts = Parts {
             disk,
             signer,
             draws,
-        });
+        };
+        put(&mut self.parts, Some(parts));
         self.add_disk(text)
     }
 
@@ -217,13 +214,13 @@ impl Case {
     fn keep_made(&mut self, made: Result<TestCore, TestOpening>, depth: u8, text: &mut Text) {
         match made {
             Ok(core) => {
-                self.core = Some(core);
+                put(&mut self.core, Some(core));
                 text.add("new depth ");
                 text.add_number(u64::from(depth));
                 text.add("\n");
             }
             Err(Opening { refusal, parts }) => {
-                self.parts = Some(parts);
+                put(&mut self.parts, Some(parts));
                 add_refused("new", refusal, text);
             }
         }
@@ -240,10 +237,10 @@ impl Case {
         match opened {
             Ok(opened) => {
                 add_opened(self.detail, &opened, text);
-                self.core = Some(opened.core);
+                put(&mut self.core, Some(opened.core));
             }
             Err(Opening { refusal, parts }) => {
-                self.parts = Some(parts);
+                put(&mut self.parts, Some(parts));
                 add_refused("open", refusal, text);
             }
         }
@@ -283,15 +280,6 @@ fn call_core(
 /// Opens a group, of which nothing more is said.
 fn open(alloc: Global, parts: TestParts) -> Result<TestOpened, TestOpening> {
     Core::open(alloc, parts)
-}
-
-/// Makes a group, of which nothing more is said.
-fn create(alloc: Global, parts: TestParts, group: &NewGroup) -> Result<TestCore, TestOpening>
-    requires shallow { 1 ≤ group.now.depth }
-    requires not_deep { group.now.depth ≤ 9 }
-    requires limited { 1 ≤ group.now.limit }
-{
-    Core::create(alloc, parts, group)
 }
 
 fn reopen(alloc: Global, detail: Detail, core: &mut TestCore, text: &mut Text) {

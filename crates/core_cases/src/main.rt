@@ -34,6 +34,7 @@ use texts::Detail;
 
 mod batches;
 mod cases;
+mod groups;
 mod keyed;
 mod looks;
 mod no_disks;
@@ -44,5 +45,5 @@ mod texts;
 mod works;
 
 fn main(rt: HostRuntime) -> io::Result<()> {
-    answer_all(&rt, &mut Case::begin(rt.alloc(), 0, Detail::Octets))
+    answer_all(&rt, Case::begin(rt.alloc(), 0, Detail::Octets))
 }

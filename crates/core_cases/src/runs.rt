@@ -1,18 +1,16 @@
 //! Works: many batches over a core.
 ghost use Rattle.std.specs.Prelude.{◌≤◌, IfSome};
 
+use crate::groups;
+use crate::groups::{SeedCore, close_batch, parts_on};
 use crate::no_disks::NoDisk;
 use crate::tallies::Tally;
 use crate::works::{Kind, Work};
 use case_lines::{Text, number};
-use gcks_core::{Core, GroupName, NewGroup, Parts, Prepared};
+use gcks_core::{GroupName, NewGroup};
 use gd_disk::{Disk, FileDisk};
-use gd_edges::{ChaChaDraws, TestSigner};
-use group_terms::{Batch, Change};
+use group_terms::Change;
 use std::alloc::Global;
-
-/// A core on a disk, with signatures of tests and draws of a seed.
-type WorkCore<D> = Core<D, TestSigner, ChaChaDraws>;
 
 /// Does the work of these words, and says what came of it. `None` where it could not be done.
 pub(crate) fn work(rt: &HostRuntime, words: &[&str], text: &mut Text) -> Option<()> {
@@ -57,11 +55,13 @@ fn run<D: Disk + Drop>(alloc: Global, disk: D, work: &Work, count: u32) -> Optio
 {
     let name = GroupName::read(b"console")?;
     let mut core = create(alloc, disk, work.depth, name)?;
-    close_batches(alloc, &mut core, work, count)
+    let tally = close_batches(alloc, &mut core, work, count);
+    drop(core);
+    tally
 }
 
 /// Makes a group without a batch.
-fn create<D: Disk + Drop>(alloc: Global, disk: D, depth: u8, name: GroupName) -> Option<WorkCore<D>>
+fn create<D: Disk + Drop>(alloc: Global, disk: D, depth: u8, name: GroupName) -> Option<SeedCore<D>>
     requires shallow { 1 ≤ depth }
     requires not_deep { depth ≤ 9 }
 {
@@ -70,25 +70,20 @@ fn create<D: Disk + Drop>(alloc: Global, disk: D, depth: u8, name: GroupName) ->
         name,
         limit: u32::MAX,
     };
-    let parts = Parts {
-        disk,
-        signer: TestSigner::new(),
-        draws: ChaChaDraws::new(0, 0),
-    };
-    Core::create(alloc, parts, &group).ok()
+    groups::create(alloc, parts_on(disk, 0), &group).ok()
 }
 
 /// Closes so many batches of a work.
 fn close_batches<D: Disk>(
     alloc: Global,
-    core: &mut WorkCore<D>,
+    core: &mut SeedCore<D>,
     work: &Work,
     count: u32,
 ) -> Option<Tally> {
     let mut tally = Tally::default();
     for number in 0..count {
         queue_changes(alloc, core, work, number)?;
-        close_batch(alloc, core, &mut tally)?;
+        close_batch(alloc, core, &mut tally).ok()?;
     }
     Some(tally)
 }
@@ -96,7 +91,7 @@ fn close_batches<D: Disk>(
 /// Has the changes of the batch of this number wait.
 fn queue_changes<D: Disk>(
     alloc: Global,
-    core: &mut WorkCore<D>,
+    core: &mut SeedCore<D>,
     work: &Work,
     number: u32,
 ) -> Option<()> {
@@ -107,7 +102,7 @@ fn queue_changes<D: Disk>(
 }
 
 /// Has a change wait. Nobody may come in who is a member.
-fn queue_change<D: Disk>(core: &mut WorkCore<D>, change: &Change) -> Option<()> {
+fn queue_change<D: Disk>(core: &mut SeedCore<D>, change: &Change) -> Option<()> {
     match change {
         Change::In { member } => {
             if core.is_member(member) {
@@ -116,23 +111,5 @@ fn queue_change<D: Disk>(core: &mut WorkCore<D>, change: &Change) -> Option<()> 
             core.join(member).ok()
         }
         Change::Out { member } => core.leave(member).ok(),
-    }
-}
-
-/// Closes the batch of the changes that wait, and takes the replies to those who come in.
-fn close_batch<D: Disk>(alloc: Global, core: &mut WorkCore<D>, tally: &mut Tally) -> Option<()> {
-    let prepared = core.prepare(alloc).ok()?;
-    add_replies(core.queued(), &prepared, tally);
-    let output = core.commit(prepared).ok()?;
-    tally.add_output(&output);
-    Some(())
-}
-
-/// Adds the replies to those who come in with a batch.
-fn add_replies(batch: &Batch, prepared: &Prepared, tally: &mut Tally) {
-    for change in batch.changes() {
-        if let Some(reply) = prepared.keyed(change.member()) {
-            tally.add_reply(reply);
-        }
     }
 }

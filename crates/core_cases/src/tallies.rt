@@ -1,6 +1,8 @@
 //! What came of a work.
+
+use crate::groups::Told;
 use case_lines::Text;
-use gcks_core::{CoreOutput, Keyed, PushPair};
+use gcks_core::{CoreOutput, Keyed, MemberName, PushPair};
 use group_terms::Octets;
 
 /// Where a group stands after a work, and what was made by then.
@@ -22,9 +24,16 @@ pub(crate) struct Tally {
     pub(crate) sum: u64,
 }
 
-impl Tally {
-    /// Adds what a batch put out.
-    pub(crate) fn add_output(&mut self, output: &CoreOutput) {
+impl Told for Tally {
+    fn add_reply(&mut self, _member: &MemberName, reply: &Keyed) {
+        self.replies = self.replies.saturating_add(1);
+        for key in reply.path.keys() {
+            self.keys = self.keys.saturating_add(1);
+            self.add_end(&key.value.key);
+        }
+    }
+
+    fn add_output(&mut self, output: &CoreOutput) {
         self.batches = self.batches.saturating_add(1);
         self.epoch = output.epoch;
         self.sequence = output.sequence;
@@ -34,7 +43,9 @@ impl Tally {
             self.add_pair(pair);
         }
     }
+}
 
+impl Tally {
     fn add_pair(&mut self, pair: &PushPair) {
         self.add_push(&pair.membership);
         self.add_push(&pair.traffic);
@@ -44,15 +55,6 @@ impl Tally {
         self.pushes = self.pushes.saturating_add(1);
         self.octets = self.octets.saturating_add(push.len() as u64);
         self.add_end(push.as_slice());
-    }
-
-    /// Adds what somebody is told who comes in.
-    pub(crate) fn add_reply(&mut self, reply: &Keyed) {
-        self.replies = self.replies.saturating_add(1);
-        for key in reply.path.keys() {
-            self.keys = self.keys.saturating_add(1);
-            self.add_end(&key.value.key);
-        }
     }
 
     /// Appends what came of a work, to the name of its kind.
