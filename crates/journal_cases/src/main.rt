@@ -29,7 +29,7 @@ mod stores;
 mod values;
 
 fn main(rt: HostRuntime) -> io::Result<()> {
-    answer_all(&rt, &mut Journals)
+    answer_all(&rt, Journals)
 }
 
 /// No line depends on those before it.

@@ -5,15 +5,24 @@ use case_lines::Text;
 use gd_disk::{Disk, FileDisk, MemDisk};
 use group_terms::Octets;
 use std::alloc::Global;
-use tree_journal::{Journal, JournalRefusal};
+use tree_journal::{FormatRefusal, Journal, JournalRefusal};
 
 /// The octets of a body that is appended.
 const SIZE: usize = 300;
 
 /// Reads all records; their sizes.
 pub fn read_records(alloc: Global, disk: MemDisk, sizes: &mut Text) -> Result<(), JournalRefusal> {
-    let mut journal = Journal::open(alloc, disk).map_err(|refused| refused.why)?;
-    add_sizes(alloc, &mut journal, sizes)
+    match Journal::open(alloc, disk) {
+        Ok(mut journal) => {
+            let read = add_sizes(alloc, &mut journal, sizes);
+            drop(journal);
+            read
+        }
+        Err(FormatRefusal { why, disk }) => {
+            drop(disk);
+            Err(why)
+        }
+    }
 }
 
 fn add_sizes(
@@ -33,7 +42,9 @@ fn add_sizes(
 pub fn append(rt: &HostRuntime, path: &str, count: u32, text: &mut Text) -> Option<()> {
     let disk = FileDisk::new(rt.alloc(), rt, path).ok()?;
     let mut journal = Journal::format(rt.alloc(), disk).ok()?;
-    append_all(&mut journal, count).ok()?;
+    let appended = append_all(&mut journal, count);
+    drop(journal);
+    appended.ok()?;
     text.add_number(u64::from(count));
     text.add(" records\n");
     Some(())

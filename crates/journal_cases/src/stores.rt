@@ -4,7 +4,7 @@ use case_lines::Text;
 use gd_disk::{Disk, FileDisk};
 use std::alloc::Global;
 use tree_journal::JournalRefusal;
-use tree_store::TreeStore;
+use tree_store::{FormatRefusal, TreeStore};
 
 /// The depth of a group, how many batches were read, and where it is after the last one.
 #[derive(Clone, Copy)]
@@ -48,8 +48,17 @@ pub fn add_refusal(words: &str, why: JournalRefusal, text: &mut Text) -> Option<
 
 /// Reads all batches of a group.
 pub fn read_group<D: Disk + Drop>(alloc: Global, disk: D) -> Result<Seen, JournalRefusal> {
-    let mut store = TreeStore::open(alloc, disk).map_err(|refused| refused.why)?;
-    read_batches(alloc, &mut store)
+    match TreeStore::open(alloc, disk) {
+        Ok(mut store) => {
+            let seen = read_batches(alloc, &mut store);
+            drop(store);
+            seen
+        }
+        Err(FormatRefusal { why, disk }) => {
+            drop(disk);
+            Err(why)
+        }
+    }
 }
 
 fn read_batches<D: Disk>(alloc: Global, store: &mut TreeStore<D>) -> Result<Seen, JournalRefusal> {
@@ -63,6 +72,7 @@ fn read_batches<D: Disk>(alloc: Global, store: &mut TreeStore<D>) -> Result<Seen
         seen.batches = seen.batches.saturating_add(1);
         seen.epoch = stored.epoch;
         seen.sequence = stored.sequence;
+        drop(stored);
     }
     Ok(seen)
 }

@@ -1,11 +1,10 @@
 //! What the lines so far have said, and the answer to the next one.
 
-use crate::bodies::{attribute, chain, header, kd, sa};
+use crate::bodies::{ask_placed, attribute, base_of, chain, header};
 use crate::pulls::Pulls;
 use crate::pushes::Pushes;
 use crate::repeats::repeat;
-use crate::words::{phase, pull, rekey_key};
-use case_lines::{Cases, Text};
+use case_lines::{Cases, Text, octets};
 use group_terms::NoMemory;
 use std::alloc::Global;
 
@@ -20,15 +19,10 @@ impl Cases for Known {
     fn answer(&mut self, rt: &HostRuntime, words: &[&str], text: &mut Text) -> Option<()> {
         let (word, rest) = words.split_first()?;
         match *word {
-            "kek" => self.pushes.know(rekey_key(rest)?),
-            "phase" => self.pulls.know_phase(phase(rest)?),
-            "pull" => self.pulls.know_pull(pull(rt.alloc(), rest)?),
-            word => {
-                self.ask(rt.alloc(), word, rest, text)?;
-                text.add("\n");
-            }
+            "kek" | "phase" | "pull" => self.know(rt.alloc(), word, rest),
+            "repeat" => repeat(rt.alloc(), rest, text),
+            word => self.ask(rt.alloc(), word, rest, text),
         }
-        Some(())
     }
 }
 
@@ -41,26 +35,56 @@ impl Known {
         })
     }
 
-    /// What is asked for by one word and the others.
-    fn ask(&mut self, alloc: Global, word: &str, rest: &[&str], text: &mut Text) -> Option<()> {
+    /// What is known from now on.
+    fn know(&mut self, alloc: Global, word: &str, rest: &[&str]) -> Option<()> {
         match word {
-            "push" => self.pushes.answer(alloc, rest, text),
-            "repeat" => repeat(alloc, rest, text),
-            "header" => header(alloc, rest, text),
-            "attribute" => attribute(alloc, rest, text),
-            "chain" => chain(alloc, rest, text),
-            _ => self.ask_body(alloc, word, rest, text),
+            "kek" => self.pushes.know(rest),
+            "phase" => self.pulls.know_phase(rest),
+            _ => self.pulls.know_pull(alloc, rest),
+        }
+    }
+
+    /// What is asked of the octets that the last word has, in a line.
+    fn ask(&mut self, alloc: Global, word: &str, rest: &[&str], text: &mut Text) -> Option<()> {
+        let (last, rest) = rest.split_last()?;
+        let octets = octets(alloc, last)?;
+        let asked = self.ask_octets(alloc, word, rest, octets.as_slice(), text);
+        drop(octets);
+        text.add("\n");
+        asked
+    }
+
+    /// What one word and the others ask of octets.
+    fn ask_octets(
+        &mut self,
+        alloc: Global,
+        word: &str,
+        rest: &[&str],
+        octets: &[u8],
+        text: &mut Text,
+    ) -> Option<()> {
+        match word {
+            "push" => self.pushes.answer(rest, octets, text),
+            "header" => header(rest, octets, text),
+            "attribute" => attribute(rest, octets, text),
+            "chain" => chain(alloc, rest, octets, text),
+            _ => self.ask_body(alloc, word, rest, octets, text),
         }
     }
 
     /// What is asked of a body, or of a message of a pull.
-    fn ask_body(&self, alloc: Global, word: &str, rest: &[&str], text: &mut Text) -> Option<()> {
-        match word {
-            "sa" => sa(alloc, rest, false, text),
-            "sa-fields" => sa(alloc, rest, true, text),
-            "kd" => kd(alloc, rest, false, text),
-            "kd-fields" => kd(alloc, rest, true, text),
-            _ => self.pulls.answer(alloc, word, rest, text),
+    fn ask_body(
+        &self,
+        alloc: Global,
+        word: &str,
+        rest: &[&str],
+        octets: &[u8],
+        text: &mut Text,
+    ) -> Option<()> {
+        match rest {
+            [] => self.pulls.answer(alloc, word, octets, text),
+            [base] => ask_placed(word, base_of(base, octets)?, octets, text),
+            _ => None,
         }
     }
 }

@@ -3,7 +3,7 @@
 use case_lines::Text;
 use gd_wire::{WireFault, WireWhat};
 use group_terms::Keyed;
-use kd_wire::{KdView, PathKey, SealedKey, TrafficValue, UpdateSpan};
+use kd_wire::{KdView, PathKey, SealedKey, SealedKeys, TrafficValue, UpdateSpan};
 use sa_wire::{KekPolicy, SaPolicy, TekPolicy};
 
 /// `ok`, or what a reader finds wrong.
@@ -16,20 +16,23 @@ pub fn add_answer(fault: Option<WireFault>, text: &mut Text) {
 
 /// What is wrong, and at which place.
 pub fn add_fault(fault: WireFault, text: &mut Text) {
-    let (name, number) = match fault.what {
-        WireWhat::Short => ("short ", None),
-        WireWhat::Length => ("length ", None),
-        WireWhat::Reserved => ("reserved ", None),
-        WireWhat::Version => ("version ", None),
-        WireWhat::Padding => ("padding ", None),
-        WireWhat::Kind { number } => ("kind ", Some(number)),
-        WireWhat::Value => ("value ", None),
-    };
-    text.add(name);
+    text.add(name_of(fault.what));
     text.add_number(u64::from(fault.at));
-    if let Some(number) = number {
+    if let WireWhat::Kind { number } = fault.what {
         text.add(" ");
         text.add_number(u64::from(number));
+    }
+}
+
+fn name_of(what: WireWhat) -> &'static str {
+    match what {
+        WireWhat::Short => "short ",
+        WireWhat::Length => "length ",
+        WireWhat::Reserved => "reserved ",
+        WireWhat::Version => "version ",
+        WireWhat::Padding => "padding ",
+        WireWhat::Kind { .. } => "kind ",
+        WireWhat::Value => "value ",
     }
 }
 
@@ -79,9 +82,13 @@ pub fn add_kd(view: &KdView, body: &[u8], text: &mut Text) {
     if let Some(spi) = &view.lkh_spi {
         text.add(if view.tek.is_some() { " lkh" } else { "lkh" });
         add_spaced(spi, text);
-        add_path(view.download.keys(), " path", text);
-        add_given(&view.updates, body, text);
+        add_tree_keys(view, body, text);
     }
+}
+
+fn add_tree_keys(view: &KdView, body: &[u8], text: &mut Text) {
+    add_path(view.download.keys(), " path", text);
+    add_given(&view.updates, body, text);
 }
 
 /// ` CIPHER-KEY INTEGRITY-KEY SPI`.
@@ -115,11 +122,19 @@ fn add_name(id: u16, made: u32, text: &mut Text) {
 
 fn add_given(updates: &Option<UpdateSpan>, body: &[u8], text: &mut Text) {
     if let Some(span) = updates {
-        for array in span.arrays(body) {
-            for key in array.keys {
-                add_sealed(&key, text);
-            }
-        }
+        add_arrays(span, body, text);
+    }
+}
+
+fn add_arrays(span: &UpdateSpan, body: &[u8], text: &mut Text) {
+    for array in span.arrays(body) {
+        add_array(array.keys, text);
+    }
+}
+
+fn add_array(keys: SealedKeys, text: &mut Text) {
+    for key in keys {
+        add_sealed(&key, text);
     }
 }
 

@@ -48,7 +48,7 @@ mod words;
 
 fn main(rt: HostRuntime) -> io::Result<()> {
     match Known::new(rt.alloc()) {
-        Ok(mut known) => answer_all(&rt, &mut known),
+        Ok(known) => answer_all(&rt, known),
         Err(NoMemory) => Err(ErrorKind::OutOfMemory.into()),
     }
 }

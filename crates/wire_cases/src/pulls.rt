@@ -1,7 +1,8 @@
 //! Messages of a pull that are read, in a line of text each.
 
 use crate::fields::{add_fault, add_kek, add_keyed, add_tek};
-use case_lines::{Text, octets};
+use crate::words::{phase, pull};
+use case_lines::{Text, put};
 use group_terms::Phase1;
 use pull_msgs::{
     First, Nonce, PullFault, Second, read_first, read_fourth, read_second, read_third,
@@ -35,30 +36,32 @@ impl Pulls {
         }
     }
 
-    /// From now on messages are under this phase 1 SA.
-    pub fn know_phase(&mut self, phase: Phase1) {
-        self.phase = Some(phase);
+    /// From now on messages are under the phase 1 SA of these words.
+    pub fn know_phase(&mut self, words: &[&str]) -> Option<()> {
+        self.phase = Some(phase(words)?);
+        Some(())
     }
 
-    /// From now on messages are of this pull.
-    pub fn know_pull(&mut self, pull: Pull) {
-        self.pull = Some(pull);
+    /// From now on messages are of the pull of these words.
+    pub fn know_pull(&mut self, alloc: Global, words: &[&str]) -> Option<()> {
+        put(&mut self.pull, Some(pull(alloc, words)?));
+        Some(())
     }
 
     /// Reads the message of the pull that a word names, and says what it gives or why it is refused.
-    pub fn answer(&self, alloc: Global, word: &str, words: &[&str], text: &mut Text) -> Option<()> {
-        let [datagram] = words else {
-            return None;
-        };
+    pub fn answer(
+        &self,
+        alloc: Global,
+        word: &str,
+        datagram: &[u8],
+        text: &mut Text,
+    ) -> Option<()> {
         let phase = given(&self.phase)?;
-        let datagram = octets(alloc, datagram)?;
-        match word {
-            "first" => first(alloc, datagram.as_slice(), phase, text),
-            _ => {
-                let pull = given(&self.pull)?;
-                answer_later(alloc, word, datagram.as_slice(), phase, pull, text)
-            }
+        if word == "first" {
+            first(alloc, datagram, phase, text);
+            return Some(());
         }
+        answer_later(alloc, word, datagram, phase, given(&self.pull)?, text)
     }
 }
 
@@ -87,12 +90,11 @@ fn answer_later(
     }
 }
 
-fn first(alloc: Global, datagram: &[u8], phase: &Phase1, text: &mut Text) -> Option<()> {
+fn first(alloc: Global, datagram: &[u8], phase: &Phase1, text: &mut Text) {
     match read_first(alloc, datagram, phase) {
         Ok(first) => add_first(&first, text),
         Err(fault) => add_refused(&fault, text),
     }
-    Some(())
 }
 
 /// `ok NONCE ID-TYPE ID`, with `-` for an ID of no octets.

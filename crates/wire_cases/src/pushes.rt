@@ -1,10 +1,11 @@
 //! Pushes that are opened one after the other, in a line of text each.
 
 use crate::fields::{add_names, add_traffic};
-use case_lines::{Text, number, octets};
+use crate::words::rekey_key;
+use case_lines::{Text, number};
 use gd_edges::TestVerifier;
 use group_terms::{NoMemory, NodeValue};
-use kd_wire::UpdateSpan;
+use kd_wire::{SealedKeys, UpdateSpan};
 use push_msg::{OpenBody, OpenPush, PushRefusal, Room, open_push};
 use std::alloc::Global;
 
@@ -29,19 +30,19 @@ impl Pushes {
         Ok(Pushes { known: None, room })
     }
 
-    /// From now on pushes are for this SPI, under this key.
-    pub fn know(&mut self, key: RekeyKey) {
-        self.known = Some(key);
+    /// From now on pushes are for the SPI of these words, under their key.
+    pub fn know(&mut self, words: &[&str]) -> Option<()> {
+        self.known = Some(rekey_key(words)?);
+        Some(())
     }
 
     /// Opens a push after a last number, and says what it gives or why it is refused.
-    pub fn answer(&mut self, alloc: Global, words: &[&str], text: &mut Text) -> Option<()> {
-        let [last, datagram] = words else {
+    pub fn answer(&mut self, words: &[&str], datagram: &[u8], text: &mut Text) -> Option<()> {
+        let [last] = words else {
             return None;
         };
         let (known, last) = (self.known?, number(last)?);
-        let datagram = octets(alloc, datagram)?;
-        self.open(&known, last, datagram.as_slice(), text);
+        self.open(&known, last, datagram, text);
         Some(())
     }
 
@@ -74,9 +75,13 @@ fn add_push(push: &OpenPush, keys: &[u8], text: &mut Text) {
 
 fn add_given(span: &UpdateSpan, body: &[u8], text: &mut Text) {
     for array in span.arrays(body) {
-        for key in array.keys {
-            add_names(&key, text);
-        }
+        add_array(array.keys, text);
+    }
+}
+
+fn add_array(keys: SealedKeys, text: &mut Text) {
+    for key in keys {
+        add_names(&key, text);
     }
 }
 

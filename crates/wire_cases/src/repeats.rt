@@ -22,6 +22,7 @@ pub fn repeat(alloc: Global, words: &[&str], text: &mut Text) -> Option<()> {
     };
     let count = number(count)?;
     text.add_hex(&repeated(alloc, work, count)?);
+    text.add("\n");
     Some(())
 }
 

@@ -51,7 +51,9 @@ fn nonce(alloc: Global, word: &str) -> Option<Option<Nonce>> {
         return Some(None);
     }
     let octets = octets(alloc, word)?;
-    Some(Some(Nonce::read(octets.as_slice())?))
+    let nonce = Nonce::read(octets.as_slice());
+    drop(octets);
+    Some(Some(nonce?))
 }
 
 /// As many octets as are asked for in hexadecimal, if they are given.
@@ -65,8 +67,18 @@ fn maybe_array<const N: usize>(word: &str) -> Option<Option<[u8; N]>> {
 /// The kinds of payloads in a text, with commas between them.
 pub fn kinds(alloc: Global, text: &str) -> Option<Vec<u8>> {
     let mut kinds = Vec::new(alloc);
+    match add_kinds(text, &mut kinds) {
+        Some(()) => Some(kinds),
+        None => {
+            drop(kinds);
+            None
+        }
+    }
+}
+
+fn add_kinds(text: &str, kinds: &mut Vec<u8>) -> Option<()> {
     for kind in text.split(',') {
         kinds.push(kind.parse::<u8>().ok()?).ok()?;
     }
-    Some(kinds)
+    Some(())
 }
