@@ -26,34 +26,34 @@ fn make_on(alloc: Global, disk: FileDisk<HostRuntime>, count: u32) -> Option<()>
         spi: [0xad; 16],
         limit: u32::MAX,
     };
-    let mut store = TreeStore::create(alloc, disk, &head).ok()?;
-    let made = store_all(alloc, &mut store, count);
-    drop(store);
-    made
-}
-
-/// Stores so many batches in the store of a group that has none.
-fn store_all(alloc: Global, store: &mut FileStore, count: u32) -> Option<()>
-    requires { IsSome store.old.end }
-{
     let mut tree = PresentTree::new(alloc, DEPTH).ok()?;
-    let made = store_batches(alloc, store, &mut tree, count);
+    let made = make_with(alloc, disk, &head, &mut tree, count);
     drop(tree);
     made
 }
 
-fn store_batches(
+/// Makes the store of a group with this head, whose tree is this one after its batches.
+fn make_with(
     alloc: Global,
-    store: &mut FileStore,
+    disk: FileDisk<HostRuntime>,
+    head: &Head,
     tree: &mut PresentTree,
     count: u32,
 ) -> Option<()>
-    requires { IsSome store.old.end }
+    requires shallow { 1 ≤ head.now.depth }
+    requires not_deep { head.now.depth ≤ 9 }
+    requires limited { 1 ≤ head.now.limit }
 {
+    let mut store = TreeStore::create(alloc, disk, head).ok()?;
+    let mut made = Some(());
     for number in 0..count {
-        store_batch(alloc, store, tree, number)?;
+        made = store_batch(alloc, &mut store, tree, number);
+        if made.is_none() {
+            break;
+        }
     }
-    Some(())
+    drop(store);
+    made
 }
 
 /// Stores the batch of this number. The tree goes on by it.
@@ -67,48 +67,20 @@ fn store_batch(
     ensures { IsSome store.new.end }
 {
     let batch = batch(alloc, number)?;
-    let stored = store_changes(alloc, store, tree, &batch, number);
-    drop(batch);
-    stored
-}
-
-fn store_changes(
-    alloc: Global,
-    store: &mut FileStore,
-    tree: &mut PresentTree,
-    batch: &Batch,
-    number: u32,
-) -> Option<()>
-    requires { IsSome store.old.end }
-    ensures { IsSome store.new.end }
-{
-    if !tree.fits(batch) {
+    if !tree.fits(&batch) {
         return None;
     }
-    let Ok(Some(step)) = tree.step(alloc, batch, u32::MAX) else {
+    let Ok(Some(step)) = tree.step(alloc, &batch, u32::MAX) else {
         return None;
     };
-    let stored = store_step(alloc, store, batch, &step, number);
+    let made = record(alloc, &batch, &step, number)?;
+    let stored = store.commit(&made).ok();
+    drop(made);
     match stored {
         Some(()) => tree.advance(step),
         None => drop(step),
     }
     stored
-}
-
-/// Stores what a batch makes of a tree.
-fn store_step(
-    alloc: Global,
-    store: &mut FileStore,
-    batch: &Batch,
-    step: &TreeStep,
-    number: u32,
-) -> Option<()>
-    requires { IsSome store.old.end }
-    ensures { IsSome store.new.end }
-{
-    let made = record(alloc, batch, step, number)?;
-    store.commit(&made).ok()
 }
 
 /// The record of a batch.
