@@ -38,7 +38,8 @@ fn answer_words<C: Cases>(
     cases.answer(rt, words.as_slice(), text)
 }
 
-fn print_text(rt: &HostRuntime, text: &Text) -> io::Result<()> {
+/// Prints a text. `OutOfMemory` where something of it was left out.
+pub fn print_text(rt: &HostRuntime, text: &Text) -> io::Result<()> {
     match text.whole() {
         Some(text) => print!(rt; "{text}"),
         None => Err(ErrorKind::OutOfMemory.into()),

@@ -16,19 +16,20 @@
 //! A run is told in full, by the SHA-256 of its report and of its journal, or in full but for the octets of its pushes.
 #![tactic(auto)]
 
+use case_lines::{Text, print_text};
 use cases::Case;
-use lines::read_line;
 use std::io;
-use std::io::{BufRead, BufReader};
+use std::io::{BufRead, BufReader, ErrorKind};
 
 mod cases;
-mod lines;
 mod runs;
 mod texts;
 
 fn main(rt: HostRuntime) -> io::Result<()> {
     let mut case = Case::begin(rt.alloc());
-    answer_all(&rt, &mut case)
+    let answered = answer_all(&rt, &mut case);
+    drop(case);
+    answered
 }
 
 /// Answers standard input, line by line.
@@ -42,8 +43,9 @@ fn answer_all(rt: &HostRuntime, case: &mut Case) -> io::Result<()> {
 }
 
 fn answer(rt: &HostRuntime, case: &mut Case, line: &str) -> io::Result<()> {
-    let line = read_line(rt.alloc(), line)?;
-    let answer = case.answer(rt.alloc(), line)?;
-    print!(rt; "{answer}")?;
-    Ok(())
+    let mut text = Text::new(rt.alloc());
+    match case.answer(rt.alloc(), line, &mut text) {
+        Some(()) => print_text(rt, &text),
+        None => Err(ErrorKind::InvalidInput.into()),
+    }
 }

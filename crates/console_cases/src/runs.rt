@@ -1,29 +1,45 @@
 //! A run of the console.
 
+use case_lines::put;
 use command_words::seed_of;
 use console_run::{Ending, Finished, console};
 use gd_disk::MemDisk;
 use gd_edges::{ChaChaDraws, TestSigner, TestVerifier, TextSink, TextSource};
 use group_terms::{List, NoMemory, Octets};
 use std::alloc::Global;
-use std::io;
-use std::io::ErrorKind;
 
 /// The words and the script of a run, and which calls of its source and of its sink fail.
 #[derive(Drop)]
 pub struct Asked {
-    pub words: Vec<String>,
+    words: Vec<String>,
     script: Octets,
-    pub source_fails: List<u64>,
-    pub sink_fails: List<u64>,
+    source_fails: List<u64>,
+    sink_fails: List<u64>,
 }
 
 /// What a run left.
 #[derive(Drop)]
 pub struct Ran {
-    pub sink: TextSink,
+    sink: TextSink,
     pub ending: Ending,
-    pub disk: MemDisk,
+    disk: MemDisk,
+}
+
+impl Ran {
+    pub fn report(&self) -> &[u8] {
+        self.sink.octets()
+    }
+
+    pub fn journal(&self) -> &[u8] {
+        self.disk.image()
+    }
+
+    /// The disk alone.
+    pub fn into_disk(self) -> MemDisk {
+        let Ran { sink, disk, .. } = self;
+        drop(sink);
+        disk
+    }
 }
 
 impl Asked {
@@ -38,16 +54,31 @@ impl Asked {
     }
 
     /// Adds a line to the script.
-    pub fn add_line(&mut self, line: &str) -> io::Result<()> {
-        match self.extend(line) {
-            Ok(()) => Ok(()),
-            Err(NoMemory) => Err(ErrorKind::OutOfMemory.into()),
-        }
-    }
-
-    fn extend(&mut self, line: &str) -> Result<(), NoMemory> {
+    pub fn add_line(&mut self, line: &str) -> Result<(), NoMemory> {
         self.script.extend(line.as_bytes())?;
         self.script.push(b'\n')
+    }
+
+    /// The source fails at these of its calls.
+    pub fn fail_source(&mut self, calls: List<u64>) -> Option<()> {
+        put(&mut self.source_fails, calls);
+        Some(())
+    }
+
+    /// The sink fails at these of its calls.
+    pub fn fail_sink(&mut self, calls: List<u64>) -> Option<()> {
+        put(&mut self.sink_fails, calls);
+        Some(())
+    }
+
+    /// These are the words of the run.
+    pub fn put_words(&mut self, alloc: Global, words: &[&str]) -> Option<()> {
+        put(&mut self.words, Vec::new(alloc));
+        for word in words {
+            let word = String::from_str(alloc, word).ok()?;
+            self.words.push(word).ok()?;
+        }
+        Some(())
     }
 }
 
