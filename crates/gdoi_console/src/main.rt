@@ -27,13 +27,19 @@ fn main(rt: HostRuntime) -> ExitCode {
 /// Runs the console; its status.
 fn run(rt: &HostRuntime) -> Result<u8, AllocError> {
     let words = arguments(rt)?;
+    let status = run_words(rt, &words);
+    drop(words);
+    status
+}
+
+fn run_words(rt: &HostRuntime, words: &Vec<String>) -> Result<u8, AllocError> {
     let disk = FileDisk::new(rt.alloc(), rt, JOURNAL).map_err(|_| AllocError)?;
-    let draws = ChaChaDraws::new(seed_of(&words), SERVER_STREAM);
+    let draws = ChaChaDraws::new(seed_of(words), SERVER_STREAM);
     let mut script = StdSource::new(rt.stdin());
     let mut out = StdSink::new(rt.stdout());
     let finished = console(
         rt.alloc(),
-        &words,
+        words,
         &mut script,
         &mut out,
         disk,
@@ -41,7 +47,9 @@ fn run(rt: &HostRuntime) -> Result<u8, AllocError> {
         &TestVerifier::new(),
         draws,
     );
-    Ok(finished.ending.status())
+    let status = finished.ending.status();
+    drop(finished);
+    Ok(status)
 }
 
 /// The words after the program's name; none where the arguments cannot be had as text.

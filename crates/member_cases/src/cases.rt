@@ -5,7 +5,7 @@ use crate::members::Members;
 use crate::readings::read;
 use crate::trees::Tree;
 use crate::words::{group, name, path_key, position};
-use case_lines::{Cases, Text, number, octets};
+use case_lines::{Cases, Text, number, octets, put};
 use group_terms::NoMemory;
 use member_store::Room;
 use std::alloc::Global;
@@ -72,8 +72,8 @@ impl Case {
         let [name] = words else {
             return None;
         };
-        self.tree = Tree::new(alloc);
-        self.members = Members::new(alloc);
+        put(&mut self.tree, Tree::new(alloc));
+        put(&mut self.members, Members::new(alloc));
         text.add("case ");
         text.add(name);
         text.add("\n");

@@ -7,9 +7,9 @@ use crate::records::{ALL, write_record};
 use crate::replies::write_reply;
 use crate::stores::STORES;
 use case_lines::{Text, number};
-use gcks_core::{Core, GroupName, MemberName, NewGroup, Parts, Prepared, PushPair};
+use gcks_core::{Core, CoreOutput, GroupName, MemberName, NewGroup, Parts, Prepared, PushPair};
 use gd_edges::{ChaChaDraws, TestSigner};
-use group_terms::Octets;
+use group_terms::{NoMemory, Octets};
 use std::alloc::Global;
 use std::fs;
 use std::io::{BufWriter, Write};
@@ -23,10 +23,12 @@ pub(crate) fn write(rt: &HostRuntime, words: &[&str]) -> Option<()> {
         return None;
     };
     let churn = Churn::new(depth.parse::<u8>().ok()?, number(going)?)?;
+    let count = number(count)?;
     let file = fs::create(rt, path).ok()?;
     let mut out = BufWriter::new(rt.alloc(), file).ok()?;
-    write_group(rt.alloc(), &churn, number(count)?, &mut out)?;
-    out.flush().ok()
+    let written = write_group(rt.alloc(), &churn, count, &mut out);
+    drop(out);
+    written
 }
 
 /// Makes a group, closes `count` batches, and writes what it sends to the members who have stores.
@@ -36,8 +38,11 @@ fn write_group<W: Write>(alloc: Global, churn: &Churn, count: u32, out: &mut W) 
 {
     let name = GroupName::read(b"console")?;
     let mut core = create(alloc, churn.depth, name)?;
-    write_batches(alloc, &mut core, churn, count, out)?;
-    write_record(ALL, &[], out)
+    let written = write_batches(alloc, &mut core, churn, count, out);
+    drop(core);
+    written?;
+    write_record(ALL, &[], out)?;
+    out.flush().ok()
 }
 
 fn create(alloc: Global, depth: u8, name: GroupName) -> Option<BenchCore>
@@ -101,12 +106,21 @@ fn close_batch<W: Write>(
     out: &mut W,
 ) -> Option<()> {
     let prepared = core.prepare(alloc).ok()?;
-    write_replies(alloc, &prepared, churn, number, out)?;
-    let output = core.commit(prepared).ok()?;
-    if let Some(pair) = &output.pushes {
-        write_pair(pair, out)?;
+    if write_replies(alloc, &prepared, churn, number, out).is_none() {
+        drop(prepared);
+        return None;
     }
-    Some(())
+    let output = core.commit(prepared).ok()?;
+    let written = write_pushes(&output, out);
+    drop(output);
+    written
+}
+
+fn write_pushes<W: Write>(output: &CoreOutput, out: &mut W) -> Option<()> {
+    match &output.pushes {
+        Some(pair) => write_pair(pair, out),
+        None => Some(()),
+    }
 }
 
 fn write_replies<W: Write>(
@@ -136,8 +150,12 @@ fn write_one_reply<W: Write>(
     };
     let keyed = prepared.keyed(&name(alloc, member)?)?;
     let mut text = Octets::new(alloc);
-    write_reply(keyed, &mut text).ok()?;
-    write_record(store, text.as_slice(), out)
+    let written = match write_reply(keyed, &mut text) {
+        Ok(()) => write_record(store, text.as_slice(), out),
+        Err(NoMemory) => None,
+    };
+    drop(text);
+    written
 }
 
 /// For whom a record is that a member alone is to have, if it has a store.

@@ -44,7 +44,7 @@ mod words;
 
 fn main(rt: HostRuntime) -> io::Result<()> {
     match Case::new(rt.alloc()) {
-        Ok(mut case) => answer_all(&rt, &mut case),
+        Ok(case) => answer_all(&rt, case),
         Err(NoMemory) => Err(ErrorKind::OutOfMemory.into()),
     }
 }

@@ -5,6 +5,7 @@ use crate::records::{ALL, MOST, read_record};
 use crate::replies::read_reply;
 use crate::stores::Stores;
 use case_lines::Text;
+use std::alloc::Global;
 use std::fs;
 use std::io::{BufReader, Read};
 
@@ -14,16 +15,25 @@ pub(crate) fn read(rt: &HostRuntime, words: &[&str], text: &mut Text) -> Option<
         return None;
     };
     let mut stores = Stores::new(rt.alloc()).ok()?;
-    read_file(rt, path, &mut stores)?;
+    let read = read_file(rt, path, &mut stores);
     stores.tally().add_to(text);
-    Some(())
+    drop(stores);
+    read
 }
 
 fn read_file(rt: &HostRuntime, path: &str, stores: &mut Stores) -> Option<()> {
-    let mut room = vec![in rt.alloc(); 0; MOST].ok()?;
     let file = fs::open(rt, path).ok()?;
     let mut from = BufReader::new(rt.alloc(), file).ok()?;
-    read_records(&mut from, room.as_mut_slice(), stores)
+    let read = read_from(rt.alloc(), &mut from, stores);
+    drop(from);
+    read
+}
+
+fn read_from<R: Read>(alloc: Global, from: &mut R, stores: &mut Stores) -> Option<()> {
+    let mut room = vec![in alloc; 0; MOST].ok()?;
+    let read = read_records(from, room.as_mut_slice(), stores);
+    drop(room);
+    read
 }
 
 /// Reads records up to the last one.
