@@ -2,7 +2,7 @@
 use gd_edges::{ChaChaDraws, Draws};
 
 /// A seed, a stream, how many blocks are passed, and the next block: words of the key streams in RFC 8439, appendix A.1.
-const DRAWN: [(u64, u8, u64, u128); 4] = [
+static DRAWN: [(u64, u8, u64, u128); 4] = [
     (0, 0, 0, 0xade0b876_903df1a0_e56a5d40_28bd8653),
     (0, 0, 1, 0xb819d2bd_1aed8da0_ccef36a8_c70d778b),
     (0, 1, 4, 0x2452eb3a_9249f8ec_8d829d9b_ddd4ceb1),

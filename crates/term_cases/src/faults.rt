@@ -3,11 +3,10 @@ use group_terms::{Failed, List, NoMemory, Schedule, WireFault, WireWhat, counted
 use std::alloc::Global;
 
 #[test]
-fn faults_are_written_and_counted(rt: HostRuntime) -> Result<(), NoMemory> {
-    let written = has_a_text(rt.alloc())?;
-    let counted = lists_the_calls_that_fail(rt.alloc())?;
+fn faults_are_written_and_counted(rt: HostRuntime) {
+    let written = has_a_text(rt.alloc()) == Ok(true);
+    let counted = lists_the_calls_that_fail(rt.alloc()) == Ok(true);
     assert!(rt; written & counted & (counted_on(u64::MAX) == u64::MAX));
-    Ok(())
 }
 
 fn has_a_text(alloc: Global) -> Result<bool, NoMemory> {

@@ -3,11 +3,9 @@ use group_terms::{List, Log, NoMemory};
 use std::alloc::Global;
 
 #[test]
-fn lists_and_logs_change(rt: HostRuntime) -> Result<(), NoMemory> {
-    let copied = copies(rt.alloc())?;
-    let changed = change(rt.alloc())?;
-    assert!(rt; copied & changed);
-    Ok(())
+fn lists_and_logs_change(rt: HostRuntime) {
+    let copied = copies(rt.alloc()) == Ok(true);
+    assert!(rt; copied & (change(rt.alloc()) == Ok(true)));
 }
 
 fn copies(alloc: Global) -> Result<bool, NoMemory> {

@@ -1,6 +1,8 @@
-/// The octets of hexadecimal digits, if there are N.
-pub(crate) fn octets<const N: usize>(text: &str) -> Option<[u8; N]> {
+/// The octets of hexadecimal digits; zeros where there are not N, with which no case holds.
+pub(crate) fn octets<const N: usize>(text: &str) -> [u8; N] {
     let mut octets = [0; N];
-    hex::decode_to_slice(text, &mut octets).ok()?;
-    Some(octets)
+    match hex::decode_to_slice(text, &mut octets) {
+        Ok(()) => octets,
+        Err(_) => [0; N],
+    }
 }

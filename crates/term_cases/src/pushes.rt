@@ -1,16 +1,20 @@
 //! Pushes that were noted, by their numbers.
 use group_terms::NoMemory;
 use sent_pushes::{SentPushes, a_noted_push_is_found, the_next_number_is_the_least};
+use std::alloc::Global;
 
 #[test]
-fn pushes_are_found_by_their_numbers(rt: HostRuntime) -> Result<(), NoMemory> {
-    let mut sent = SentPushes::new(rt.alloc());
+fn pushes_are_found_by_their_numbers(rt: HostRuntime) {
+    assert!(rt; are_found(rt.alloc()) == Ok(true));
+}
+
+fn are_found(alloc: Global) -> Result<bool, NoMemory> {
+    let mut sent = SentPushes::new(alloc);
     sent.reserve(3)?;
     sent.note(7, 20);
     sent.note(3, 30);
     sent.note(3, 40);
-    assert!(rt; finds_the_last(&sent) & goes_by_numbers(&sent));
-    Ok(())
+    Ok(finds_the_last(&sent) & goes_by_numbers(&sent))
 }
 
 #[test]
