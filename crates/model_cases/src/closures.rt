@@ -2,7 +2,7 @@
 use crate::draws::{Draws, key};
 use group_model::{KeyName, List, NoMemory, Wrap};
 use std::alloc::Global;
-use sym_closure::{derive, is_derivation};
+use sym_closure::{Derivation, derive, is_derivation};
 
 #[test]
 fn a_key_follows_from_the_one_that_it_is_encrypted_under(rt: HostRuntime) {
@@ -15,14 +15,19 @@ fn follows_from_its_leaf(alloc: Global) -> bool {
         by: leaf,
         gives: above,
     }];
-    let Ok(Some(found)) = derive(alloc, &[leaf], &pairs, &above) else {
-        return false;
+    let follows = match derive(alloc, &[leaf], &pairs, &above) {
+        Ok(Some(found)) => leads_above(&found, &pairs),
+        _ => false,
     };
-    (found.names.as_slice() == [leaf, above].as_slice())
-        & is_derivation(&[leaf], &pairs, &found, &above)
-        & !is_derivation(&[leaf], &pairs, &found, &root)
-        & !is_derivation(&[], &pairs, &found, &above)
-        & is_derived_if(alloc, &leaf, &root, &pairs, false)
+    follows & is_derived_if(alloc, &leaf, &root, &pairs, false)
+}
+
+/// Whether a derivation leads from the leaf's key to the one above, and to no other, and from nothing else.
+fn leads_above(found: &Derivation, pairs: &[Wrap]) -> bool {
+    (found.names.as_slice() == [key(5, 1), key(2, 1)].as_slice())
+        & is_derivation(&[key(5, 1)], pairs, found, &key(2, 1))
+        & !is_derivation(&[key(5, 1)], pairs, found, &key(1, 1))
+        & !is_derivation(&[], pairs, found, &key(2, 1))
 }
 
 /// Pairs drawn at random among twelve keys: what is derived is what a second closure reaches.

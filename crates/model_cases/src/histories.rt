@@ -1,7 +1,8 @@
 //! What histories say of their epochs, and of the keys of members.
 ghost use Rattle.std.specs.Prelude.{◌≤◌, length};
 
-use crate::keys::{Epoch, Key, are_keys, are_wraps, batch_of, epoch_of, named};
+use crate::draws::named;
+use crate::keys::{Epoch, Key, are_keys, are_wraps, batch_of, epoch_of};
 use group_model::{History, LkhId};
 use std::alloc::Global;
 
@@ -24,11 +25,11 @@ const THREE: Epoch = Epoch {
 };
 
 /// Who comes in with the first batch, who goes out with the second, and what the history says of its epochs.
-const HISTORIES: [(&str, &str, [Epoch; 3]); 3] = [
+static HISTORIES: [(&str, &str, &[Epoch]); 3] = [
     (
         "abc",
         "b",
-        [
+        &[
             BEFORE,
             THREE,
             Epoch {
@@ -48,7 +49,7 @@ const HISTORIES: [(&str, &str, [Epoch; 3]); 3] = [
     (
         "abcd",
         "a",
-        [
+        &[
             BEFORE,
             Epoch {
                 epoch: 1,
@@ -74,7 +75,7 @@ const HISTORIES: [(&str, &str, [Epoch; 3]); 3] = [
     (
         "abc",
         "",
-        [
+        &[
             BEFORE,
             THREE,
             Epoch {
@@ -98,12 +99,12 @@ fn histories_are_as_key_servers_show_them(rt: HostRuntime) {
 }
 
 /// Whether this is what the history of two batches says of its epochs.
-fn has_epochs(alloc: Global, joins: &str, leaves: &str, epochs: &[Epoch; 3]) -> bool {
+fn has_epochs(alloc: Global, joins: &str, leaves: &str, epochs: &[Epoch]) -> bool {
     let mut history = History::new(alloc, 2);
     are_added(alloc, &mut history, joins, leaves) & are_epochs(alloc, &history, epochs)
 }
 
-fn are_epochs(alloc: Global, history: &History, epochs: &[Epoch; 3]) -> bool {
+fn are_epochs(alloc: Global, history: &History, epochs: &[Epoch]) -> bool {
     let mut holds = true;
     for epoch in epochs {
         holds &= is_epoch(alloc, history, epoch);
@@ -112,7 +113,7 @@ fn are_epochs(alloc: Global, history: &History, epochs: &[Epoch; 3]) -> bool {
 }
 
 /// The keys of a member at an epoch, from its leaf up.
-const PATHS: [(u32, u8, &[Key]); 6] = [
+static PATHS: [(u32, u8, &[Key]); 6] = [
     (0, b'a', &[]),
     (1, b'a', &[(4, 1), (2, 1), (1, 1)]),
     (1, b'b', &[(5, 1), (2, 1), (1, 1)]),
@@ -141,9 +142,7 @@ fn are_paths(alloc: Global, history: &History) -> bool {
 
 /// Whether these are the keys of a member at an epoch. Who has none is no member then.
 fn is_path(alloc: Global, history: &History, epoch: u32, letter: u8, keys: &[Key]) -> bool {
-    let Some(member) = named(letter) else {
-        return false;
-    };
+    let member = named(letter);
     if epoch > history.epoch() {
         return false;
     }
@@ -163,9 +162,7 @@ fn are_added(alloc: Global, history: &mut History, joins: &str, leaves: &str) ->
 
 /// Adds a batch in which some members go out and others come in, which fits.
 fn is_added(alloc: Global, history: &mut History, outs: &str, ins: &str) -> bool {
-    let Some(batch) = batch_of(outs, ins) else {
-        return false;
-    };
+    let batch = batch_of(outs, ins);
     if history.epoch() == u32::MAX || !history.fits(&batch) {
         return false;
     }
@@ -192,10 +189,7 @@ fn has_leaves(history: &History, epoch: u32, want: &[u16; 4]) -> bool
 {
     let mut same = true;
     for (letter, leaf) in b"abcd".iter().zip(want) {
-        match named(*letter) {
-            Some(member) => same &= history.place(epoch, &member) == LkhId::new(*leaf),
-            None => same = false,
-        }
+        same &= history.place(epoch, &named(*letter)) == LkhId::new(*leaf);
     }
     same
 }

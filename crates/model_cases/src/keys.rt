@@ -1,5 +1,6 @@
 //! Batches by letters, and keys by numbers.
-use group_model::{Batch, Change, KeyName, LkhId, MOST_CHANGES, MemberName, Wrap};
+use crate::draws::{key, named};
+use group_model::{Batch, Change, KeyName, MOST_CHANGES, Wrap};
 
 /// The number of a position and the epoch at which its key was made; the traffic key has the number 0.
 pub(crate) type Key = (u16, u32);
@@ -16,31 +17,24 @@ pub(crate) struct Epoch {
     pub(crate) wraps: &'static [[Key; 2]],
 }
 
-/// The batch in which some go out and others come in; each is called by one letter.
-pub(crate) fn batch_of(outs: &str, ins: &str) -> Option<Batch> {
+/// The batch in which some go out and others come in, of whom there are at most 32; each is called by one letter.
+pub(crate) fn batch_of(outs: &str, ins: &str) -> Batch {
     let mut batch = Batch::new();
     for letter in outs.bytes() {
-        let member = named(letter)?;
-        push(&mut batch, Change::Out { member })?;
+        let member = named(letter);
+        push(&mut batch, Change::Out { member });
     }
     for letter in ins.bytes() {
-        let member = named(letter)?;
-        push(&mut batch, Change::In { member })?;
+        let member = named(letter);
+        push(&mut batch, Change::In { member });
     }
-    Some(batch)
+    batch
 }
 
-fn push(batch: &mut Batch, change: Change) -> Option<()> {
+fn push(batch: &mut Batch, change: Change) {
     if batch.changes().len() < MOST_CHANGES {
         batch.push(change);
-        Some(())
-    } else {
-        None
     }
-}
-
-pub(crate) fn named(letter: u8) -> Option<MemberName> {
-    MemberName::read(&[letter])
 }
 
 /// An epoch, or none for 0.
@@ -51,22 +45,15 @@ pub(crate) fn epoch_of(number: u32) -> Option<u32> {
 pub(crate) fn are_wraps(wraps: &[Wrap], want: &[[Key; 2]]) -> bool {
     let mut same = wraps.len() == want.len();
     for (wrap, [by, gives]) in wraps.iter().zip(want) {
-        same &= (wrap.by == key_of(*by)) & (wrap.gives == key_of(*gives));
+        same &= (wrap.by == key(by.0, by.1)) & (wrap.gives == key(gives.0, gives.1));
     }
     same
 }
 
 pub(crate) fn are_keys(names: &[KeyName], want: &[Key]) -> bool {
     let mut same = names.len() == want.len();
-    for (name, key) in names.iter().zip(want) {
-        same &= *name == key_of(*key);
+    for (name, (number, made)) in names.iter().zip(want) {
+        same &= *name == key(*number, *made);
     }
     same
-}
-
-fn key_of((number, made): Key) -> KeyName {
-    match LkhId::new(number) {
-        Some(id) => KeyName::Node { id, made },
-        None => KeyName::Traffic { made },
-    }
 }

@@ -17,26 +17,33 @@ fn a_history_tells_what_was_held_and_sent(rt: HostRuntime) {
 }
 
 fn tells_what_was_held_and_sent(alloc: Global) -> Result<bool, NoMemory> {
-    let (member, stranger) = (named(b'a'), named(b'b'));
-    let (leaf, root, traffic) = (key(2, 1), key(1, 1), key(0, 1));
-    let by = KeyName::Phase { member };
-    let other = KeyName::Phase { member: stranger };
-    let inner = pair(leaf, root);
-    let history = [batched(alloc, member, &[inner, inner], &[leaf, root, traffic])?];
-    let replies = [pair(by, leaf), pair(by, root), pair(by, traffic)];
-    Ok(
-        is_held(
-            alloc,
-            &history,
-            &[stranger, member, stranger],
-            &[other, by, leaf, root, traffic],
-        ) & is_held(alloc, &history, &[stranger], &[other])
-            & is_sent(
-                alloc,
-                &history,
-                &[inner, replies[0], replies[1], replies[2]],
-            ),
-    )
+    let inner = pair(key(2, 1), key(1, 1));
+    let told = [key(2, 1), key(1, 1), key(0, 1)];
+    let history = [batched(alloc, named(b'a'), &[inner, inner], &told)?];
+    Ok(tells_what_was_held(alloc, &history) & tells_what_was_sent(alloc, &history))
+}
+
+fn tells_what_was_held(alloc: Global, history: &[Entry]) -> bool {
+    let members = [named(b'b'), named(b'a'), named(b'b')];
+    let names = [phase(b'b'), phase(b'a'), key(2, 1), key(1, 1), key(0, 1)];
+    is_held(alloc, history, &members, &names)
+        & is_held(alloc, history, &[named(b'b')], &[phase(b'b')])
+}
+
+fn tells_what_was_sent(alloc: Global, history: &[Entry]) -> bool {
+    let pairs = [
+        pair(key(2, 1), key(1, 1)),
+        pair(phase(b'a'), key(2, 1)),
+        pair(phase(b'a'), key(1, 1)),
+        pair(phase(b'a'), key(0, 1)),
+    ];
+    is_sent(alloc, history, &pairs)
+}
+
+/// The phase 1 key of who is called by a letter.
+fn phase(letter: u8) -> KeyName {
+    let member = named(letter);
+    KeyName::Phase { member }
 }
 
 fn is_held(alloc: Global, history: &[Entry], members: &[MemberName], names: &[KeyName]) -> bool {

@@ -2,8 +2,9 @@
 ghost use Rattle.std.specs.Prelude.{◌+◌, ◌^◌, ◌<◌};
 ghost use Rattle.group_model.specs.Steps.{IsReady};
 
-use crate::keys::{Epoch, Key, are_keys, are_wraps, batch_of, epoch_of, named};
-use group_model::{Batch, LkhId, NoMemory, PresentTree, TreeStep};
+use crate::draws::named;
+use crate::keys::{Epoch, Key, are_keys, are_wraps, batch_of, epoch_of};
+use group_model::{LkhId, NoMemory, PresentTree, TreeStep};
 use std::alloc::Global;
 
 /// A step, with the tree after it.
@@ -16,23 +17,20 @@ struct Step {
     tree: Epoch,
 }
 
-/// The first step, in which `a`, `b` and `c` come in.
-const FIRST: Step = Step {
-    batch: ["", "abc"],
-    drawn: Some(&[1, 2, 3, 4, 5, 6]),
-    sequence: 0,
-    tree: Epoch {
-        epoch: 1,
-        members: 3,
-        leaves: [4, 5, 6, 0],
-        made: [1, 1, 1, 1, 1, 1, 0, 0],
-        wraps: &[],
+/// With the first step `a`, `b` and `c` come in. With a limit of 3 the third step would be past it, and leaves the tree as it is.
+static STEPS: [Step; 3] = [
+    Step {
+        batch: ["", "abc"],
+        drawn: Some(&[1, 2, 3, 4, 5, 6]),
+        sequence: 0,
+        tree: Epoch {
+            epoch: 1,
+            members: 3,
+            leaves: [4, 5, 6, 0],
+            made: [1, 1, 1, 1, 1, 1, 0, 0],
+            wraps: &[],
+        },
     },
-};
-
-/// With a limit of 3 the third step would be past it, and leaves the tree as it is.
-const STEPS: [Step; 3] = [
-    FIRST,
     Step {
         batch: ["b", ""],
         drawn: Some(&[1, 2]),
@@ -72,11 +70,15 @@ fn steps_make_what_their_batch_makes(rt: HostRuntime) {
 
 fn are_steps(alloc: Global) -> Result<bool, NoMemory> {
     let mut tree = PresentTree::new(alloc, 2)?;
+    Ok(are_taken(alloc, &mut tree))
+}
+
+fn are_taken(alloc: Global, tree: &mut PresentTree) -> bool {
     let mut holds = true;
     for step in &STEPS {
-        holds &= is_taken(alloc, &mut tree, step) & is_tree(&tree, step);
+        holds &= is_taken(alloc, tree, step) & is_tree(tree, step);
     }
-    Ok(holds)
+    holds
 }
 
 /// A tree says who has which leaf and which keys. Before a step is taken it says what comes of it.
@@ -87,42 +89,50 @@ fn trees_say_who_is_there_and_what_comes(rt: HostRuntime) {
 
 fn is_tree_of_three(alloc: Global) -> Result<bool, NoMemory> {
     let mut tree = PresentTree::new(alloc, 2)?;
-    Ok(is_taken(alloc, &mut tree, &FIRST) & has_members(alloc, &tree) & is_foreseen(alloc, &tree))
+    Ok(says_who_is_there(alloc, &mut tree))
+}
+
+fn says_who_is_there(alloc: Global, tree: &mut PresentTree) -> bool {
+    let first = &STEPS[0];
+    is_taken(alloc, tree, first) & has_members(alloc, tree) & is_foreseen(alloc, tree)
 }
 
 /// `c` is a member and has leaf 6, and `d` is none.
 fn has_members(alloc: Global, tree: &PresentTree) -> bool {
-    let (Some(c), Some(d)) = (named(b'c'), named(b'd')) else {
-        return false;
-    };
-    let (Some(leaf), Some(free)) = (LkhId::new(6), LkhId::new(7)) else {
-        return false;
-    };
-    let Ok(path) = tree.path(alloc, &c) else {
-        return false;
-    };
     (tree.depth() == 2)
-        & tree.is_member(&c)
-        & !tree.is_member(&d)
-        & (tree.member_at(leaf) == Some(c))
-        & tree.member_at(free).is_none()
-        & are_keys(path.as_slice(), &[(6, 1), (3, 1), (1, 1)])
+        & !tree.is_member(&named(b'd'))
+        & is_at_leaf_six(tree)
+        & has_path(alloc, tree)
+}
+
+fn is_at_leaf_six(tree: &PresentTree) -> bool {
+    match (LkhId::new(6), LkhId::new(7)) {
+        (Some(leaf), Some(free)) => {
+            (tree.member_at(leaf) == Some(named(b'c'))) & tree.member_at(free).is_none()
+        }
+        _ => false,
+    }
+}
+
+fn has_path(alloc: Global, tree: &PresentTree) -> bool {
+    let c = named(b'c');
+    if !tree.is_member(&c) {
+        return false;
+    }
+    match tree.path(alloc, &c) {
+        Ok(path) => are_keys(path.as_slice(), &[(6, 1), (3, 1), (1, 1)]),
+        Err(NoMemory) => false,
+    }
 }
 
 /// `d` comes in where `b` goes out: before the step is taken it is known how many members there are then, which leaf `d` has, and when each of the
 /// positions 1 to 7 is changed last.
 fn is_foreseen(alloc: Global, tree: &PresentTree) -> bool {
-    match batch_of("b", "d") {
-        Some(batch) => foresees(alloc, tree, &batch),
-        None => false,
-    }
-}
-
-fn foresees(alloc: Global, tree: &PresentTree, batch: &Batch) -> bool {
-    if !tree.fits(batch) {
+    let batch = batch_of("b", "d");
+    if !tree.fits(&batch) {
         return false;
     }
-    match tree.step(alloc, batch, 3) {
+    match tree.step(alloc, &batch, 3) {
         Ok(Some(step)) => is_of_d(tree, &step),
         _ => false,
     }
@@ -154,18 +164,11 @@ fn is_made_after(tree: &PresentTree, step: &TreeStep, want: &[u32; 7]) -> bool
 
 /// Takes the step of a batch, with a limit of 3. Whether it is this one.
 fn is_taken(alloc: Global, tree: &mut PresentTree, want: &Step) -> bool {
-    let [outs, ins] = want.batch;
-    match batch_of(outs, ins) {
-        Some(batch) => takes(alloc, tree, &batch, want),
-        None => false,
-    }
-}
-
-fn takes(alloc: Global, tree: &mut PresentTree, batch: &Batch, want: &Step) -> bool {
-    if !tree.fits(batch) {
+    let batch = batch_of(want.batch[0], want.batch[1]);
+    if !tree.fits(&batch) {
         return false;
     }
-    match tree.step(alloc, batch, 3) {
+    match tree.step(alloc, &batch, 3) {
         Ok(Some(step)) => {
             let same = is_step(alloc, tree, &step, want);
             tree.advance(step);
@@ -223,10 +226,7 @@ fn is_tree(tree: &PresentTree, want: &Step) -> bool {
 fn has_leaves(tree: &PresentTree, want: &[u16; 4]) -> bool {
     let mut same = true;
     for (letter, leaf) in b"abcd".iter().zip(want) {
-        match named(*letter) {
-            Some(member) => same &= tree.place(&member) == LkhId::new(*leaf),
-            None => same = false,
-        }
+        same &= tree.place(&named(*letter)) == LkhId::new(*leaf);
     }
     same
 }
