@@ -1,5 +1,6 @@
 //! Update arrays, and the keys that they give.
 use crate::keys::{job, updates_with};
+use crate::known::octets;
 use crate::octets::decoded;
 use crate::reads::{Wrong, append_key, append_words, fault, read};
 use group_terms::{NoMemory, Octets};
@@ -19,17 +20,25 @@ const SEALED: &str = "e8efcf39975a5ca65201b69242e9fd868de47b8c3e924036d2f0f959e9
 /// Two keys sealed as openssl seals them, and the body with them.
 #[test]
 fn keys_are_sealed(rt: HostRuntime) {
-    assert!(rt; is_sealed(rt.alloc()) == Some(true));
+    assert!(rt; is_sealed(rt.alloc()));
 }
 
-fn is_sealed(alloc: Global) -> Option<bool> {
-    let text: [u8; 153] = decoded(UPDATES)?;
-    let (first, second) = (job((4, 1), (2, 2))?, job((2, 2), (1, 2))?);
+fn is_sealed(alloc: Global) -> bool {
     let mut arrays = Octets::new(alloc);
-    write_update(&first, &mut arrays).ok()?;
-    write_update(&second, &mut arrays).ok()?;
-    let body = updates_with(alloc, &arrays).ok()?;
-    Some(body.as_slice() == text.as_slice())
+    let are_sealed = write_both(&mut arrays) == Some(());
+    are_sealed & are_known(alloc, &arrays)
+}
+
+fn write_both(arrays: &mut Octets) -> Option<()> {
+    write_update(&job((4, 1), (2, 2))?, arrays).ok()?;
+    write_update(&job((2, 2), (1, 2))?, arrays).ok()
+}
+
+fn are_known(alloc: Global, arrays: &Octets) -> bool {
+    match updates_with(alloc, arrays) {
+        Ok(body) => body.as_slice() == octets::<153>(UPDATES).as_slice(),
+        Err(NoMemory) => false,
+    }
 }
 
 const SPAN: UpdateSpan = UpdateSpan {
@@ -81,7 +90,7 @@ const SEALS: [(u16, u32, u16, u32); 3] = [(4, 1, 3, 2), (3, 2, 2, 2), (2, 2, 1, 
 
 /// The positions and the epochs of the keys of an array, with the root's key at any place, and what is wrong with some: places are those of
 /// the body.
-const SEVERAL: [(&[(u16, u16)], Wrong); 6] = [
+static SEVERAL: [(&[(u16, u16)], Wrong); 6] = [
     (&[(2, 2), (1, 2)], None),
     (&[(3, 2), (2, 2), (1, 2)], None),
     (&[(1, 2), (2, 2), (3, 2)], None),
@@ -91,14 +100,32 @@ const SEVERAL: [(&[(u16, u16)], Wrong); 6] = [
 ];
 
 #[test]
-fn arrays_have_several_keys(rt: HostRuntime) -> Result<(), NoMemory> {
-    let sealed = body_with(rt.alloc(), &[(3, 2), (2, 2), (1, 2)])?;
-    let sealed = are_sealed_in_turn(sealed.as_slice()) == Some(true);
-    let told = SEVERAL.iter().all(|(keys, wrong)| {
-        body_with(rt.alloc(), keys).is_ok_and(|body| fault(body.as_slice()) == *wrong)
-    });
-    assert!(rt; sealed & told);
-    Ok(())
+fn arrays_have_several_keys(rt: HostRuntime) {
+    let alloc = rt.alloc();
+    assert!(rt; three_are_sealed_in_turn(alloc) & are_told(alloc));
+}
+
+fn three_are_sealed_in_turn(alloc: Global) -> bool {
+    match body_with(alloc, &[(3, 2), (2, 2), (1, 2)]) {
+        Ok(body) => are_sealed_in_turn(body.as_slice()) == Some(true),
+        Err(NoMemory) => false,
+    }
+}
+
+fn are_told(alloc: Global) -> bool {
+    let mut holds = true;
+    for (keys, wrong) in &SEVERAL {
+        holds &= is_told(alloc, keys, *wrong);
+    }
+    holds
+}
+
+/// Whether this is wrong with the body that has these keys.
+fn is_told(alloc: Global, keys: &[(u16, u16)], wrong: Wrong) -> bool {
+    match body_with(alloc, keys) {
+        Ok(body) => fault(body.as_slice()) == wrong,
+        Err(NoMemory) => false,
+    }
 }
 
 /// The body with one array of these keys.

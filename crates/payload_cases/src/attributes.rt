@@ -42,7 +42,7 @@ fn write_both(text: &mut Octets) -> Result<(), NoMemory> {
 }
 
 /// Where the second of them is cut off, and where a field is missing then.
-const CUT: [(usize, u32); 6] = [(4, 14), (5, 14), (6, 16), (7, 16), (8, 18), (11, 18)];
+static CUT: [(usize, u32); 6] = [(4, 14), (5, 14), (6, 16), (7, 16), (8, 18), (11, 18)];
 
 #[test]
 fn an_attribute_that_is_cut_off_is_short(rt: HostRuntime) {
@@ -58,7 +58,7 @@ fn is_short(end: usize, at: u32) -> bool {
 /// The place that is changed, what it gets, and the kind and the next place that are read then, or else the place of the fault.
 type Changed = (usize, u8, Result<(u16, usize), u32>);
 
-const SHORT_CHANGED: [Changed; 5] = [
+static SHORT_CHANGED: [Changed; 5] = [
     (0, 0x00, Err(14)),
     (0, 0x81, Ok((0x0101, 4))),
     (1, 0x02, Ok((2, 4))),
@@ -66,7 +66,7 @@ const SHORT_CHANGED: [Changed; 5] = [
     (3, 0x00, Ok((1, 4))),
 ];
 
-const LONG_CHANGED: [Changed; 9] = [
+static LONG_CHANGED: [Changed; 9] = [
     (0, 0x80, Ok((4, 4))),
     (0, 0x01, Ok((0x0104, 8))),
     (1, 0x05, Ok((5, 8))),

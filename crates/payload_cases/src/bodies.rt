@@ -83,7 +83,7 @@ type Sized = (u8, usize, Option<(WireWhat, u32)>);
 
 const LENGTH: Option<(WireWhat, u32)> = Some((WireWhat::Length, 30));
 
-const SIZES: [Sized; 19] = [
+static SIZES: [Sized; 19] = [
     (8, 31, LENGTH),
     (8, 32, None),
     (8, 33, LENGTH),

@@ -51,7 +51,7 @@ fn write_chain(text: &mut Octets) -> Result<(), NoMemory> {
 /// One octet that is changed: the place, what it gets, and what is told, with the number of payloads before the fault.
 type Changed = (usize, u8, WireWhat, u32, usize);
 
-const FAULTS: [Changed; 9] = [
+static FAULTS: [Changed; 9] = [
     (0, 5, WireWhat::Kind { number: 5 }, 28, 1),
     (1, 1, WireWhat::Reserved, 29, 0),
     (3, 0, WireWhat::Length, 30, 0),
@@ -89,7 +89,7 @@ fn is_told((place, octet, what, at, before): &Changed) -> bool {
 type Cut = (u8, usize, Option<(WireWhat, u32)>);
 
 /// Another kind, a header that is missing, and a block too many: fewer than 16 zeros may come after the payloads.
-const CUT: [Cut; 7] = [
+static CUT: [Cut; 7] = [
     (10, 16, Some((WireWhat::Kind { number: 10 }, 16))),
     (8, 6, Some((WireWhat::Short, 34))),
     (8, 9, Some((WireWhat::Short, 34))),

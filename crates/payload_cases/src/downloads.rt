@@ -42,14 +42,18 @@ fn a_reply_is_written_and_read(rt: HostRuntime) {
 
 fn reply_holds(alloc: Global) -> Option<bool> {
     let text: [u8; 242] = decoded(REPLY)?;
-    let mut path = Path::new();
-    add_keys(1, &[4], &mut path);
-    add_keys(2, &[2, 1], &mut path);
-    let keyed = keyed(2, 3, path);
+    let keyed = keyed(2, 3, path());
     let mut body = Octets::new(alloc);
     write_reply_kd(&keyed, &mut body).ok()?;
     let written = body.as_slice() == text.as_slice();
     Some(written & is_read(&text, Some(octets(9)), Some(74), keyed.path.keys()))
+}
+
+fn path() -> Path {
+    let mut path = Path::new();
+    add_keys(1, &[4], &mut path);
+    add_keys(2, &[2, 1], &mut path);
+    path
 }
 
 /// Whether a body gives the traffic key, this SPI for keys of the tree, at this place, and these keys.

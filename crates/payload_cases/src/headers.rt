@@ -30,7 +30,7 @@ fn is_told(datagram: &[u8], what: WireWhat, at: u32) -> bool {
 }
 
 /// Faults of a header: the place that is changed, what it gets, and what is told.
-const FAULTS: [(u32, u8, WireWhat); 5] = [
+static FAULTS: [(u32, u8, WireWhat); 5] = [
     (17, 0x11, WireWhat::Version),
     (18, 32, WireWhat::Kind { number: 32 }),
     (19, 0x03, WireWhat::Value),
@@ -55,7 +55,7 @@ fn is_first((at, octet, what): &(u32, u8, WireWhat)) -> bool {
 }
 
 /// The first and the last of the octets of which the same is told, and at which place.
-const OCTETS: [(usize, usize, Option<(WireWhat, u32)>); 7] = [
+static OCTETS: [(usize, usize, Option<(WireWhat, u32)>); 7] = [
     (0, 16, None),
     (17, 17, Some((WireWhat::Version, 17))),
     (18, 18, Some((WireWhat::Kind { number: 32 }, 18))),
@@ -89,7 +89,7 @@ const LONG: Header = Header {
 };
 
 /// The number of octets, and what is read of them.
-const SIZES: [(usize, Result<Header, WireFault>); 3] = [
+static SIZES: [(usize, Result<Header, WireFault>); 3] = [
     (65_500, Ok(LONG)),
     (
         65_507,

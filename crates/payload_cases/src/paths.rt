@@ -8,7 +8,7 @@ use std::alloc::Global;
 
 /// Positions of keys, and what is wrong with the body that has them. The first key stands at place 98 of the body, and the number of keys at
 /// 95.
-const PATHS: [(&[u16], Wrong); 7] = [
+static PATHS: [(&[u16], Wrong); 7] = [
     (&[3, 1], None),
     (&DEEPEST, None),
     (&[1], Some((WireWhat::Value, 95))),

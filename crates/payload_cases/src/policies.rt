@@ -1,8 +1,8 @@
 //! Bodies of the SA payload, and what is told of those with a fault.
 ghost use Rattle.std.specs.Prelude.{◌⊎◌, IsSome};
 
-use crate::octets::decoded;
-use group_terms::{List, NoMemory, SignKind, WireFault, WireWhat};
+use crate::known::octets;
+use group_terms::{List, NoMemory, Octets, SignKind, WireFault, WireWhat};
 use sa_wire::{
     KekPolicy, PlacedKek, PlacedSa, PlacedTek, SaPolicy, TekPolicy, read_placed_sa, read_sa,
     sa_size, write_sa,
@@ -62,27 +62,27 @@ const PLACED: PlacedSa = PlacedSa {
 
 #[test]
 fn places_are_those_of_the_octets(rt: HostRuntime) {
-    assert!(rt; text_is_read(rt.alloc()) == Some(true));
+    let text = octets::<136>(TEXT);
+    assert!(rt; is_written(rt.alloc(), &text) & is_read(&text) & (PLACED.policy() == BOTH));
 }
 
-/// Whether the policies are written so, and are read of it.
-fn text_is_read(alloc: Global) -> Option<bool> {
-    let text: [u8; 136] = decoded(TEXT)?;
+fn is_written(alloc: Global, text: &[u8]) -> bool {
     let mut body = List::new(alloc);
-    write_sa(&BOTH, &mut body).ok()?;
-    let placed = (read_placed_sa(&text, 40) == Ok(PLACED)) & (PLACED.policy() == BOTH);
-    let written = (body.as_slice() == text.as_slice()) & (sa_size(&BOTH) == 136);
-    Some(written & placed & (read_sa(&text, 40) == Ok(BOTH)))
+    let is_written = write_sa(&BOTH, &mut body).is_ok();
+    is_written & (body.as_slice() == text) & (sa_size(&BOTH) == 136)
+}
+
+fn is_read(text: &[u8; 136]) -> bool {
+    (read_placed_sa(text, 40) == Ok(PLACED)) & (read_sa(text, 40) == Ok(BOTH))
 }
 
 /// Both policies and each alone: how many octets their body has, and that it is read as the same.
 #[test]
-fn policies_are_written_and_read(rt: HostRuntime) -> Result<(), NoMemory> {
-    let both = is_read_again(rt.alloc(), &BOTH, 136)?;
-    let kek = is_read_again(rt.alloc(), &KEK_ALONE, 85)?;
-    let tek = is_read_again(rt.alloc(), &TEK_ALONE, 63)?;
+fn policies_are_written_and_read(rt: HostRuntime) {
+    let both = is_read_again(rt.alloc(), &BOTH, 136) == Ok(true);
+    let kek = is_read_again(rt.alloc(), &KEK_ALONE, 85) == Ok(true);
+    let tek = is_read_again(rt.alloc(), &TEK_ALONE, 63) == Ok(true);
     assert!(rt; both & kek & tek);
-    Ok(())
 }
 
 fn is_read_again(alloc: Global, policy: &SaPolicy, size: usize) -> Result<bool, NoMemory>
@@ -114,7 +114,7 @@ const SAT_OF_16: &str =
 type Attributes = (&'static str, &'static str, Result<SaPolicy, WireFault>);
 
 /// The attributes of a TEK stand in any order, and the duration has either form.
-const TAKEN: [Attributes; 3] = [
+static TAKEN: [Attributes; 3] = [
     (
         SAT_OF_24,
         "800100010002000400000e10800400018005000580060080",
@@ -134,7 +134,7 @@ const TAKEN: [Attributes; 3] = [
 
 /// A second attribute of a kind, one without a rule, a long form where that is not taken, and a number that is not taken, after a SAT of
 /// which the attributes begin at place 39 of the body; then a SAT that ends where the key length is still awaited.
-const REFUSED: [Attributes; 5] = [
+static REFUSED: [Attributes; 5] = [
     (
         SAT_OF_20,
         "800100018001000180020e108004000180050005",
@@ -179,18 +179,27 @@ const REFUSED: [Attributes; 5] = [
 
 #[test]
 fn attributes_stand_in_any_order_and_exactly_once(rt: HostRuntime) {
-    let taken = TAKEN
-        .iter()
-        .all(|row| is_answered(rt.alloc(), row) == Some(true));
-    let refused = REFUSED
-        .iter()
-        .all(|row| is_answered(rt.alloc(), row) == Some(true));
-    assert!(rt; taken & refused);
+    assert!(rt; are_answered(rt.alloc(), &TAKEN) & are_answered(rt.alloc(), &REFUSED));
 }
 
-fn is_answered(alloc: Global, (head, attributes, answer): &Attributes) -> Option<bool> {
-    let attributes = hex::decode(alloc, attributes).ok()?;
-    let mut body = List::copy_of(alloc, &decoded::<39>(head)?).ok()?;
-    body.extend(attributes.as_slice()).ok()?;
-    Some(read(body.as_slice()) == *answer)
+fn are_answered(alloc: Global, rows: &[Attributes]) -> bool {
+    let mut holds = true;
+    for row in rows {
+        holds &= is_answered(alloc, row);
+    }
+    holds
+}
+
+fn is_answered(alloc: Global, (head, attributes, answer): &Attributes) -> bool {
+    let mut body = List::new(alloc);
+    let is_whole = append(alloc, head, &mut body) & append(alloc, attributes, &mut body);
+    is_whole & (read(body.as_slice()) == *answer)
+}
+
+/// Appends the octets of hexadecimal digits.
+fn append(alloc: Global, digits: &str, body: &mut Octets) -> bool {
+    match hex::decode(alloc, digits) {
+        Ok(octets) => body.extend(octets.as_slice()).is_ok(),
+        Err(_) => false,
+    }
 }

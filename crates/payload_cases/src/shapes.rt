@@ -26,7 +26,7 @@ const TRAFFIC: Keys = Keys::Traffic { spi: TRAFFIC_SPI };
 
 const UPDATES: Keys = Keys::Updates { spi: SPI };
 
-const SHAPES: [Shape; 6] = [
+static SHAPES: [Shape; 6] = [
     // Both policies, or the key download of the other push.
     (Some(SPI), Some(TRAFFIC_SPI), TRAFFIC, 40),
     (Some(SPI), None, TRAFFIC, 129),
@@ -49,8 +49,8 @@ fn payloads_belong_together(rt: HostRuntime) {
 
 fn are_malformed(alloc: Global, room: &mut Room) -> bool {
     let mut holds = true;
-    for shape in SHAPES {
-        holds &= is_malformed(alloc, room, &shape) == Ok(true);
+    for shape in &SHAPES {
+        holds &= is_malformed(alloc, room, shape) == Ok(true);
     }
     holds
 }
@@ -115,7 +115,7 @@ fn is_refused<V: Verifier>(push: &[u8], room: &mut Room, verifier: &V, at: Optio
 
 /// Which bits of the algorithm and of the size of the key are turned in what the verifier checks, where the push is malformed then, and where
 /// it is with its last two attributes exchanged: of two differences the earlier is told, and each before the signature.
-const KINDS: [(u16, u16, Option<u32>, Option<u32>); 4] = [
+static KINDS: [(u16, u16, Option<u32>, Option<u32>); 4] = [
     (1, 0, Some(119), Some(123)),
     (0, 1, Some(123), Some(119)),
     (1, 1, Some(119), Some(119)),
@@ -135,15 +135,19 @@ fn the_policy_has_the_kind_of_the_signature(rt: HostRuntime) {
 fn kinds_are_compared(alloc: Global, room: &mut Room) -> Result<bool, NoMemory> {
     let push = membership(alloc, false)?;
     let exchanged = membership(alloc, true)?;
+    Ok(are_refused(push.as_slice(), exchanged.as_slice(), room))
+}
+
+fn are_refused(push: &[u8], exchanged: &[u8], room: &mut Room) -> bool {
     let mut holds = true;
-    for (algorithm, key_bits, at, at_exchanged) in KINDS {
+    for (algorithm, key_bits, at, at_exchanged) in &KINDS {
         let verifier = Refuses {
-            kind: changed(algorithm, key_bits),
+            kind: changed(*algorithm, *key_bits),
         };
-        holds &= is_refused(push.as_slice(), room, &verifier, at);
-        holds &= is_refused(exchanged.as_slice(), room, &verifier, at_exchanged);
+        holds &= is_refused(push, room, &verifier, *at);
+        holds &= is_refused(exchanged, room, &verifier, *at_exchanged);
     }
-    Ok(holds)
+    holds
 }
 
 fn membership(alloc: Global, exchange: bool) -> Result<Octets, NoMemory> {

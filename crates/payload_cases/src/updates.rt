@@ -24,18 +24,32 @@ fn membership_pushes_are_opened(rt: HostRuntime) {
 
 fn is_opened(alloc: Global, room: &mut Room, arrays: usize) -> Result<bool, NoMemory> {
     let updates = updates(alloc, arrays)?;
-    let body = body_of(alloc, &spi(), updates.as_slice())?;
-    let written = write_membership(
-        alloc,
-        &head(),
-        updates.as_slice(),
-        &kek(),
-        &TestSigner::new(),
-    )?;
-    let long = written.len() == arrays.saturating_mul(64).saturating_add(204);
-    let text = written.as_slice();
-    let open = open_push(text, &spi(), &kek(), 1, &TestVerifier::new(), room);
-    Ok(long & gives_the_root(open) & (room.text() == body.as_slice()))
+    let size = arrays.saturating_mul(64).saturating_add(204);
+    let updates = updates.as_slice();
+    Ok(is_pushed(alloc, room, updates, size) & is_body(alloc, room.text(), updates))
+}
+
+/// Whether the push of these arrays has so many octets, and is opened.
+fn is_pushed(alloc: Global, room: &mut Room, updates: &[u8], size: usize) -> bool
+    requires { length updates.now ≤ 64000 }
+{
+    match write_membership(alloc, &head(), updates, &kek(), &TestSigner::new()) {
+        Ok(push) => (push.len() == size) & opens(push.as_slice(), room),
+        Err(_) => false,
+    }
+}
+
+fn opens(push: &[u8], room: &mut Room) -> bool {
+    gives_the_root(open_push(push, &spi(), &kek(), 1, &TestVerifier::new(), room))
+}
+
+fn is_body(alloc: Global, text: &[u8], updates: &[u8]) -> bool
+    requires { length updates.now ≤ 64000 }
+{
+    match body_of(alloc, &spi(), updates) {
+        Ok(body) => text == body.as_slice(),
+        Err(NoMemory) => false,
+    }
 }
 
 /// Whether a push with number 2 gives the root's key of epoch 7, in arrays after 25 octets.

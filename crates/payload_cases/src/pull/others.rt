@@ -79,7 +79,7 @@ fn why_refused(alloc: Global, which: Which, other: Other) -> Option<PullFault> {
     refusal(alloc, which, text.as_slice(), &with_another(other))
 }
 
-const MALFORMED: [(Which, Other, WireWhat, u32); 7] = [
+static MALFORMED: [(Which, Other, WireWhat, u32); 7] = [
     (Which::Third, Other::Cookies, WireWhat::Value, 0),
     (Which::Third, Other::Message, WireWhat::Value, 20),
     (
@@ -107,14 +107,23 @@ const MALFORMED: [(Which, Other, WireWhat, u32); 7] = [
 #[test]
 fn messages_of_other_pulls_are_refused(rt: HostRuntime) {
     let alloc = rt.alloc();
+    let other_key = needs_the_key(alloc, Which::First)
+        & needs_the_key(alloc, Which::Second)
+        & needs_the_key(alloc, Which::Fourth);
+    let other_hash = is_of_another_hash(why_refused(alloc, Which::Third, Other::LastOfIv));
+    assert!(rt; are_malformed(alloc) & other_key & other_hash);
+}
+
+fn are_malformed(alloc: Global) -> bool {
     let mut holds = true;
-    for (which, other, what, at) in MALFORMED {
-        holds &= why_refused(alloc, which, other) == malformed(what, at);
+    for (which, other, what, at) in &MALFORMED {
+        holds &= why_refused(alloc, *which, *other) == malformed(*what, *at);
     }
-    for which in [Which::First, Which::Second, Which::Fourth] {
-        holds &= why_refused(alloc, which, Other::Key).is_some();
-    }
-    assert!(rt; holds & is_of_another_hash(why_refused(alloc, Which::Third, Other::LastOfIv)));
+    holds
+}
+
+fn needs_the_key(alloc: Global, which: Which) -> bool {
+    why_refused(alloc, which, Other::Key).is_some()
 }
 
 fn is_of_another_hash(refusal: Option<PullFault>) -> bool {

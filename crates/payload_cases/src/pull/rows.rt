@@ -22,7 +22,7 @@ struct Row {
     fourth: &'static str,
 }
 
-const ROWS: [Row; 3] = [
+static ROWS: [Row; 3] = [
     Row {
         cookies: "5af0404596b21f9f7b6e73d7963c8e20",
         skeyid_a: "83e14feb60d288465209454f412d43edb6a0e2bbd26675eae2e7d1a52caf420d",

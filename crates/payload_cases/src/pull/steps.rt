@@ -18,9 +18,24 @@ fn no_second(alloc: Global, pull: &mut MemberPull, text: &[u8]) -> Option<PullRe
     pull.second(alloc, text).err()
 }
 
-/// Why a pull refuses keys; `None` where it takes them.
-fn no_fourth(alloc: Global, pull: &mut MemberPull, text: &[u8]) -> Option<PullRefusal> {
-    pull.fourth(alloc, text).err()
+/// Whether a pull says this of an answer: why it refuses it, or `None` where it takes it.
+fn says_of_second(
+    alloc: Global,
+    pull: &mut MemberPull,
+    text: &[u8],
+    why: Option<PullRefusal>,
+) -> bool {
+    no_second(alloc, pull, text) == why
+}
+
+/// Whether a pull says this of keys: why it refuses them, or `None` where it takes them.
+fn says_of_fourth(
+    alloc: Global,
+    pull: &mut MemberPull,
+    text: &[u8],
+    why: Option<PullRefusal>,
+) -> bool {
+    pull.fourth(alloc, text).err() == why
 }
 
 fn malformed(at: u32) -> Option<PullRefusal> {
@@ -38,12 +53,14 @@ fn a_pull_goes_step_by_step(rt: HostRuntime) {
 fn goes_step_by_step(alloc: Global) -> Option<bool> {
     let mut begun = begin(alloc, MESSAGE)?;
     let first = begun.datagram.as_slice() == octets::<108>(FIRST).as_slice();
-    let pull = &mut begun.pull;
-    let second = agrees(alloc, pull)
-        & (no_second(alloc, pull, &octets::<236>(SECOND)) == WRONG_STEP);
-    let fourth = gets_keys(alloc, pull)
-        & (no_fourth(alloc, pull, &octets::<332>(FOURTH)) == WRONG_STEP);
-    Some(first & second & fourth)
+    Some(first & goes_on(alloc, &mut begun.pull))
+}
+
+fn goes_on(alloc: Global, pull: &mut MemberPull) -> bool {
+    agrees(alloc, pull)
+        & says_of_second(alloc, pull, &octets::<236>(SECOND), WRONG_STEP)
+        & gets_keys(alloc, pull)
+        & says_of_fourth(alloc, pull, &octets::<332>(FOURTH), WRONG_STEP)
 }
 
 fn agrees(alloc: Global, pull: &mut MemberPull) -> bool {
@@ -67,22 +84,42 @@ fn a_refusal_leaves_the_pull(rt: HostRuntime) {
 }
 
 fn refusals_leave_pulls(alloc: Global) -> Option<bool> {
-    let mut pull = begin(alloc, MESSAGE)?.pull;
-    let mut later = begin(alloc, OTHER_MESSAGE)?.pull;
+    let mut begun = begin(alloc, MESSAGE)?;
+    let left = is_left(alloc, &mut begun.pull);
+    drop(begun);
+    Some(left & leaves_a_later_one(alloc)?)
+}
+
+/// An answer is not for a later pull.
+fn leaves_a_later_one(alloc: Global) -> Option<bool> {
+    let mut later = begin(alloc, OTHER_MESSAGE)?;
+    Some(says_of_second(
+        alloc,
+        &mut later.pull,
+        &octets::<236>(SECOND),
+        malformed(20),
+    ))
+}
+
+fn is_left(alloc: Global, pull: &mut MemberPull) -> bool {
     let second = octets::<236>(SECOND);
     let fourth = octets::<332>(FOURTH);
-    let mut other_id = second;
+    let early = says_of_fourth(alloc, pull, &fourth, WRONG_STEP) & refuses_others(alloc, pull);
+    let answered = says_of_second(alloc, pull, &second, None);
+    early & answered & refuses_longer(alloc, pull) & says_of_fourth(alloc, pull, &fourth, None)
+}
+
+fn refuses_others(alloc: Global, pull: &mut MemberPull) -> bool {
+    let mut other_id = octets::<236>(SECOND);
     other_id[23] = 2;
-    let mut longer = fourth;
+    says_of_second(alloc, pull, &other_id, malformed(20))
+        & says_of_second(alloc, pull, &[], malformed(0))
+}
+
+fn refuses_longer(alloc: Global, pull: &mut MemberPull) -> bool {
+    let mut longer = octets::<332>(FOURTH);
     longer[27] = longer[27].wrapping_add(1);
-    let early = (no_fourth(alloc, &mut pull, &fourth) == WRONG_STEP)
-        & (no_second(alloc, &mut pull, &other_id) == malformed(20))
-        & (no_second(alloc, &mut pull, &[]) == malformed(0));
-    let answered = (no_second(alloc, &mut pull, &second) == None)
-        & (no_second(alloc, &mut later, &second) == malformed(20));
-    let keyed = (no_fourth(alloc, &mut pull, &longer) == malformed(24))
-        & (no_fourth(alloc, &mut pull, &fourth) == None);
-    Some(early & answered & keyed)
+    says_of_fourth(alloc, pull, &longer, malformed(24))
 }
 
 /// An answer to another nonce of the member carries another HASH; both values are told. A later pull that waits for its keys does not take
@@ -111,11 +148,14 @@ fn tells_other_hash(alloc: Global, pull: &mut MemberPull, answer: &[u8]) -> bool
 fn earlier_keys_are_refused(alloc: Global) -> Option<bool> {
     let mut begun = begin(alloc, OTHER_MESSAGE)?;
     let answer = answer(alloc, OTHER_MESSAGE, begun.datagram.as_slice(), &nonce(NI))?;
-    let taken = no_second(alloc, &mut begun.pull, answer.as_slice()) == None;
+    let taken = says_of_second(alloc, &mut begun.pull, answer.as_slice(), None);
+    Some(taken & refuses_earlier_keys(alloc, &mut begun.pull))
+}
+
+fn refuses_earlier_keys(alloc: Global, pull: &mut MemberPull) -> bool {
     let earlier = octets::<332>(FOURTH);
-    let once = no_fourth(alloc, &mut begun.pull, &earlier) == malformed(20);
-    let twice = no_fourth(alloc, &mut begun.pull, &earlier) == malformed(20);
-    Some(taken & once & twice)
+    says_of_fourth(alloc, pull, &earlier, malformed(20))
+        & says_of_fourth(alloc, pull, &earlier, malformed(20))
 }
 
 /// An answer to a first message, with a nonce that is that of both sides.
