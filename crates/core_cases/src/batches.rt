@@ -5,7 +5,7 @@ use crate::groups::{Told, close_batch};
 use crate::keyed::add_keyed;
 use crate::texts::{Detail, add_refused, add_shown};
 use case_lines::Text;
-use gcks_core::{CoreOutput, Keyed, MemberName, PushPair};
+use gcks_core::{CoreOutput, Keyed, MemberName, PushPair, Refusal};
 use group_terms::{KeyName, Octets, Wrap};
 use std::alloc::Global;
 
@@ -28,6 +28,19 @@ impl Told for BatchText {
     }
 }
 
+impl BatchText {
+    /// Appends what came of closing the batch.
+    fn add_to(&self, closed: Result<(), Refusal>, text: &mut Text) {
+        match closed {
+            Ok(()) => {
+                text.add_text(&self.output);
+                text.add_text(&self.replies);
+            }
+            Err(why) => add_refused("batch", why, text),
+        }
+    }
+}
+
 /// Closes the batch: its epoch, what it encrypts, its pushes, and what those are told who come in.
 pub fn batch(alloc: Global, detail: Detail, core: &mut TestCore, text: &mut Text) {
     let mut told = BatchText {
@@ -36,13 +49,9 @@ pub fn batch(alloc: Global, detail: Detail, core: &mut TestCore, text: &mut Text
         output: Text::new(alloc),
         replies: Text::new(alloc),
     };
-    match close_batch(alloc, core, &mut told) {
-        Ok(()) => {
-            text.add_text(&told.output);
-            text.add_text(&told.replies);
-        }
-        Err(why) => add_refused("batch", why, text),
-    }
+    let closed = close_batch(alloc, core, &mut told);
+    told.add_to(closed, text);
+    drop(told);
 }
 
 fn add_output(detail: Detail, output: &CoreOutput, text: &mut Text) {

@@ -7,10 +7,10 @@ use crate::requests::ask;
 use crate::runs::work;
 use crate::texts::{Detail, add_refused, add_shown, detail_of};
 use case_lines::{Cases, Text, long_number, number, octets, put};
-use gcks_core::{Core, CoreOpened, GroupName, MemberName, NewGroup, Opening, Parts};
+use gcks_core::{Core, CoreOpened, GroupName, MemberName, NewGroup, Opening, Parts, PushPair};
 use gd_disk::MemDisk;
 use gd_edges::{ChaChaDraws, TestSigner};
-use group_terms::List;
+use group_terms::{List, NoMemory};
 use std::alloc::Global;
 
 type TestParts = SeedParts<MemDisk>;
@@ -28,11 +28,22 @@ const GROUP: &[u8] = b"console";
 const FARTHEST: usize = 1 << 62;
 
 /// A case so far: the group, while it is open, and else what one is made of.
-#[derive(Drop)]
 pub struct Case {
     detail: Detail,
     parts: Option<TestParts>,
     core: Option<TestCore>,
+}
+
+impl Drop for Case {
+    fn drop(self) {
+        let Case {
+            detail: _,
+            parts,
+            core,
+        } = self;
+        drop(parts);
+        let_go(core);
+    }
 }
 
 impl Cases for Case {
@@ -126,15 +137,19 @@ impl Case {
 
     fn put_faults(&mut self, alloc: Global, words: &[&str], text: &mut Text) -> Option<()> {
         let mut calls = List::new(alloc);
-        for word in words {
-            calls.push(long_number(word)?).ok()?;
+        match add_calls(words, &mut calls) {
+            Some(()) => self.put_disk(MemDisk::planned(alloc, calls), text),
+            None => {
+                drop(calls);
+                None
+            }
         }
-        self.put_disk(MemDisk::planned(alloc, calls), text)
     }
 
     fn put_image(&mut self, alloc: Global, word: &str, text: &mut Text) -> Option<()> {
         let image = octets(alloc, word)?;
         if image.len() > FARTHEST {
+            drop(image);
             return None;
         }
         self.put_disk(MemDisk::holding(alloc, List::from_vec(image)), text)
@@ -147,7 +162,10 @@ impl Case {
                 put(&mut parts.disk, disk);
                 self.add_disk(text)
             }
-            None => None,
+            None => {
+                drop(disk);
+                None
+            }
         }
     }
 
@@ -158,18 +176,8 @@ impl Case {
     }
 
     fn crash(&mut self, choice: u64, text: &mut Text) -> Option<()> {
-        let Parts {
-            disk,
-            signer,
-            draws,
-        } = self.take_apart()?;
-        let disk = disk.crashed(choice).ok()?;
-        let parts = Parts {
-            disk,
-            signer,
-            draws,
-        };
-        put(&mut self.parts, Some(parts));
+        let parts = crashed(self.take_apart()?, choice);
+        put(&mut self.parts, parts);
         self.add_disk(text)
     }
 
@@ -214,7 +222,7 @@ impl Case {
     fn keep_made(&mut self, made: Result<TestCore, TestOpening>, depth: u8, text: &mut Text) {
         match made {
             Ok(core) => {
-                put(&mut self.core, Some(core));
+                let_go(self.core.replace(core));
                 text.add("new depth ");
                 text.add_number(u64::from(depth));
                 text.add("\n");
@@ -237,12 +245,50 @@ impl Case {
         match opened {
             Ok(opened) => {
                 add_opened(self.detail, &opened, text);
-                put(&mut self.core, Some(opened.core));
+                let CoreOpened { core, resent } = opened;
+                drop(resent);
+                let_go(self.core.replace(core));
             }
             Err(Opening { refusal, parts }) => {
                 put(&mut self.parts, Some(parts));
                 add_refused("open", refusal, text);
             }
+        }
+    }
+}
+
+/// Lets a group go, if there is one, by what it is made of.
+fn let_go(core: Option<TestCore>) {
+    match core {
+        Some(core) => drop(core.into_parts()),
+        None => {}
+    }
+}
+
+/// Appends the calls that these words count.
+fn add_calls(words: &[&str], calls: &mut List<u64>) -> Option<()> {
+    for word in words {
+        calls.push(long_number(word)?).ok()?;
+    }
+    Some(())
+}
+
+/// What a group is made of after a crash of this number. `None` where memory is short.
+fn crashed(parts: TestParts, choice: u64) -> Option<TestParts> {
+    let Parts {
+        disk,
+        signer,
+        draws,
+    } = parts;
+    match disk.crashed(choice) {
+        Ok(disk) => Some(Parts {
+            disk,
+            signer,
+            draws,
+        }),
+        Err(NoMemory) => {
+            drop(draws);
+            None
         }
     }
 }
@@ -285,13 +331,19 @@ fn open(alloc: Global, parts: TestParts) -> Result<TestOpened, TestOpening> {
 fn reopen(alloc: Global, detail: Detail, core: &mut TestCore, text: &mut Text) {
     match core.reopen(alloc) {
         Ok(resent) => {
-            text.add("reopened ");
-            add_counts(core, text);
-            text.add("\n");
-            add_pair(detail, &resent, text);
+            add_reopened(detail, core, &resent, text);
+            drop(resent);
         }
         Err(why) => add_refused("reopen", why, text),
     }
+}
+
+/// What is said of a group that was opened again, with the pair of its last batch.
+fn add_reopened(detail: Detail, core: &TestCore, resent: &Option<PushPair>, text: &mut Text) {
+    text.add("reopened ");
+    add_counts(core, text);
+    text.add("\n");
+    add_pair(detail, resent, text);
 }
 
 fn halt(core: &mut TestCore, text: &mut Text) {

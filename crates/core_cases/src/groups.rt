@@ -54,6 +54,7 @@ pub(crate) fn close_batch<D: Disk, T: Told>(
     add_replies(core.queued(), &prepared, told);
     let output = core.commit(prepared)?;
     told.add_output(&output);
+    drop(output);
     Ok(())
 }
 

@@ -20,11 +20,23 @@ pub fn add_keyed(
     text.add_number(u64::from(keyed.epoch));
     text.add(" ");
     let mut octets = Octets::new(alloc);
-    match write_keyed(keyed, &mut octets) {
+    let written = write_keyed(keyed, &mut octets);
+    add_written(detail, written, &octets, text);
+    drop(octets);
+    text.add("\n");
+}
+
+/// Octets that were written, unless memory was short.
+pub fn add_written(
+    detail: Detail,
+    written: Result<(), NoMemory>,
+    octets: &Octets,
+    text: &mut Text,
+) {
+    match written {
         Ok(()) => add_shown(detail, octets.as_slice(), text),
         Err(NoMemory) => text.lose(),
     }
-    text.add("\n");
 }
 
 fn write_keyed(keyed: &Keyed, octets: &mut Octets) -> Result<(), NoMemory> {

@@ -1,11 +1,11 @@
 //! What a core shows of its group.
 
 use crate::cases::TestCore;
-use crate::keyed::write_traffic;
-use crate::texts::{Detail, add_shown};
+use crate::keyed::{add_written, write_traffic};
+use crate::texts::Detail;
 use case_lines::Text;
 use gcks_core::{LkhId, MemberName, TrafficValue};
-use group_terms::{Change, NoMemory, Octets};
+use group_terms::{Change, Octets};
 use std::alloc::Global;
 
 /// The last leaf of the deepest tree.
@@ -97,10 +97,9 @@ fn add_traffic(alloc: Global, detail: Detail, value: Option<TrafficValue>, text:
         return text.add("-");
     };
     let mut octets = Octets::new(alloc);
-    match write_traffic(&value, &mut octets) {
-        Ok(()) => add_shown(detail, octets.as_slice(), text),
-        Err(NoMemory) => text.lose(),
-    }
+    let written = write_traffic(&value, &mut octets);
+    add_written(detail, written, &octets, text);
+    drop(octets);
 }
 
 fn add_change(change: &Change, text: &mut Text) {

@@ -49,7 +49,10 @@ fn tell(alloc: Global, detail: Detail, core: &TestCore, member: &MemberName, tex
         return add_answer(member, "stranger", text);
     }
     match core.reply(member) {
-        Ok(keyed) => add_keyed(alloc, detail, member, &keyed, text),
+        Ok(keyed) => {
+            add_keyed(alloc, detail, member, &keyed, text);
+            drop(keyed);
+        }
         Err(why) => add_why(member, why, text),
     }
 }

@@ -56,7 +56,7 @@ fn run<D: Disk + Drop>(alloc: Global, disk: D, work: &Work, count: u32) -> Optio
     let name = GroupName::read(b"console")?;
     let mut core = create(alloc, disk, work.depth, name)?;
     let tally = close_batches(alloc, &mut core, work, count);
-    drop(core);
+    drop(core.into_parts());
     tally
 }
 

@@ -116,5 +116,12 @@ fn member(alloc: Global, place: u32) -> Option<MemberName> {
     let mut text = Text::new(alloc);
     text.add("m");
     text.add_number(u64::from(place));
+    let name = name_in(&text);
+    drop(text);
+    name
+}
+
+/// The name that a text is.
+fn name_in(text: &Text) -> Option<MemberName> {
     MemberName::read(text.whole()?.as_bytes())
 }
