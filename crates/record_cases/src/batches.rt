@@ -75,7 +75,7 @@ fn lets_b_out(change: &Change) -> bool {
 }
 
 /// Another kind, 33 changes, a change of a third kind, a name in capitals, position 0, and a traffic SPI without its highest bit.
-const FAULTS: [Fault; 6] = [
+static FAULTS: [Fault; 6] = [
     (0, &[0], WireWhat::Value, 0),
     (10, &[33], WireWhat::Value, 10),
     (11, &[2], WireWhat::Kind { number: 2 }, 11),

@@ -17,7 +17,7 @@ type Case = (
     &'static [(u64, &'static [u8])],
 );
 
-const CASES: [Case; 4] = [
+static CASES: [Case; 4] = [
     // Two writes that were not synced.
     (
         b"abcdef",

@@ -23,22 +23,25 @@ const BOTH: Left = (&[5, 0], Ok(false));
 
 /// Where a call from the first number to the second fails: why no journal is made, or how it goes on, where one is; and what a crash leaves that
 /// loses what was not synced, and one that keeps it.
-type Case = (u64, u64, Result<Answers, JournalRefusal>, Left, Left);
+type Case = (u64, u64, Due, Left, Left);
+
+/// What calls are to answer.
+type Due = Result<&'static [Why], JournalRefusal>;
 
 /// The first append fails, the second one, the first read, the second one, and nothing.
-const AT_FIRST: Answers = [FAULT, CLOSED, CLOSED, CLOSED];
+const AT_FIRST: &[Why] = &[FAULT, CLOSED, CLOSED, CLOSED];
 
-const AT_SECOND: Answers = [None, FAULT, CLOSED, CLOSED];
+const AT_SECOND: &[Why] = &[None, FAULT, CLOSED, CLOSED];
 
-const AT_READ: Answers = [None, None, FAULT, CLOSED];
+const AT_READ: &[Why] = &[None, None, FAULT, CLOSED];
 
-const AT_LAST: Answers = [None, None, None, FAULT];
+const AT_LAST: &[Why] = &[None, None, None, FAULT];
 
-const ALL_GO: Answers = [None, None, None, None];
+const ALL_GO: &[Why] = &[None, None, None, None];
 
-const NOT_MADE: Result<Answers, JournalRefusal> = Err(JournalRefusal::DiskFault);
+const NOT_MADE: Due = Err(JournalRefusal::DiskFault);
 
-const CASES: [Case; 9] = [
+static CASES: [Case; 9] = [
     (1, 6, NOT_MADE, NOTHING, NOTHING),
     (7, 7, NOT_MADE, NOTHING, NO_RECORD),
     (8, 10, Ok(AT_FIRST), NO_RECORD, NO_RECORD),
@@ -81,15 +84,16 @@ fn is_case(alloc: Global, case: &Case) -> Result<bool, NoMemory> {
 }
 
 /// Whether calls answer this on a disk that fails at one, and a crash leaves this then.
-fn crashes(
-    alloc: Global,
-    call: u64,
-    answers: Result<Answers, JournalRefusal>,
-    choice: u64,
-    left: Left,
-) -> Result<bool, NoMemory> {
+fn crashes(alloc: Global, call: u64, due: Due, choice: u64, left: Left) -> Result<bool, NoMemory> {
     let (answered, disk) = used_on(alloc, disk_failing_at(alloc, &[call])?);
-    Ok((answered == answers) & leaves(alloc, disk.crashed(choice)?, left))
+    Ok(is_answered(answered, due) & leaves(alloc, disk.crashed(choice)?, left))
+}
+
+fn is_answered(answered: Result<Answers, JournalRefusal>, due: Due) -> bool {
+    match answered {
+        Ok(answers) => due.ok() == Some(answers.as_slice()),
+        Err(why) => due.err() == Some(why),
+    }
 }
 
 /// What calls answer of a journal that is made on a disk, and the disk after them.

@@ -13,14 +13,41 @@ const PATH: &str = "gd_disk_test/disk";
 fn a_file_has_what_was_written_when_it_is_opened_again(rt: HostRuntime) {
     let _ = fs::remove_dir_all(&rt, FOLDER);
     let is_made = fs::create_dir(&rt, FOLDER).is_ok();
-    let is_kept = is_kept(rt.alloc(), &rt) == Ok(true);
+    let is_kept = is_kept(rt.alloc(), &rt);
     let is_removed = fs::remove_dir_all(&rt, FOLDER).is_ok();
     assert!(rt; is_made & is_kept & is_removed);
 }
 
-fn is_kept<R: Files<File = File> + Clone>(alloc: Global, rt: &R) -> Result<bool, NoMemory> {
-    let is_written = is_written(&mut FileDisk::new(alloc, rt, PATH)?);
-    Ok(is_written & is_read(&mut FileDisk::new(alloc, rt, PATH)?))
+fn is_kept<R: Files<File = File> + Clone>(alloc: Global, rt: &R) -> bool {
+    holds(alloc, rt, PATH, Trial::Writes) & holds(alloc, rt, PATH, Trial::Reads)
+}
+
+/// What is tried of a disk.
+#[derive(Clone, Copy)]
+enum Trial {
+    Writes,
+    Reads,
+    FailsAfterSync,
+    NeverOpens,
+    TakesNothing,
+}
+
+/// Whether a disk in a file goes as is tried of it.
+fn holds<R: Files<File = File> + Clone>(alloc: Global, rt: &R, path: &str, trial: Trial) -> bool {
+    match FileDisk::new(alloc, rt, path) {
+        Ok(mut disk) => goes(&mut disk, trial),
+        Err(NoMemory) => false,
+    }
+}
+
+fn goes<R: Files<File = File>>(disk: &mut FileDisk<R>, trial: Trial) -> bool {
+    match trial {
+        Trial::Writes => is_written(disk),
+        Trial::Reads => is_read(disk),
+        Trial::FailsAfterSync => fails_after_a_sync(disk),
+        Trial::NeverOpens => never_opens(disk),
+        Trial::TakesNothing => disk.write_at(0, b"abc") == Err(Failed),
+    }
 }
 
 fn is_written<R: Files<File = File>>(disk: &mut FileDisk<R>) -> bool {
@@ -50,26 +77,22 @@ fn reads<R: Files<File = File>>(
 
 #[test]
 fn a_disk_that_fails_says_so(rt: HostRuntime) {
-    assert!(rt; all_fail(rt.alloc(), &rt) == Ok(true));
+    assert!(rt; all_fail(rt.alloc(), &rt));
 }
 
-fn all_fail<R: Files<File = File> + Clone>(alloc: Global, rt: &R) -> Result<bool, NoMemory> {
-    let after_a_sync = fails_after_a_sync(&mut FileDisk::new(alloc, rt, "/dev/null")?);
-    let unopened = never_opens(&mut FileDisk::new(alloc, rt, "no_such_folder/disk")?);
-    Ok(after_a_sync & unopened & take_nothing(alloc, rt)?)
+fn all_fail<R: Files<File = File> + Clone>(alloc: Global, rt: &R) -> bool {
+    holds(alloc, rt, "/dev/null", Trial::FailsAfterSync)
+        & holds(alloc, rt, "no_such_folder/disk", Trial::NeverOpens)
+        & take_nothing(alloc, rt)
 }
 
 /// A folder that is not there, a folder in place of a file, and a device that takes nothing.
-fn take_nothing<R: Files<File = File> + Clone>(alloc: Global, rt: &R) -> Result<bool, NoMemory> {
-    let mut holds = true;
+fn take_nothing<R: Files<File = File> + Clone>(alloc: Global, rt: &R) -> bool {
+    let mut take_nothing = true;
     for path in ["no_such_folder/disk", ".", "/dev/full"] {
-        holds &= takes_nothing(&mut FileDisk::new(alloc, rt, path)?);
+        take_nothing &= holds(alloc, rt, path, Trial::TakesNothing);
     }
-    Ok(holds)
-}
-
-fn takes_nothing<R: Files<File = File>>(disk: &mut FileDisk<R>) -> bool {
-    disk.write_at(0, b"abc") == Err(Failed)
+    take_nothing
 }
 
 /// What a sync could not bring to the device may be lost, and no later sync would tell: each call fails after one that failed.

@@ -17,8 +17,14 @@ fn is_read_and_written(alloc: Global) -> Option<bool> {
     let body = octets::<31>(HEAD)?;
     let head = read_head(whole(&body)).ok()?;
     head_fits(&head);
-    let again = write_head(alloc, &head).ok()?;
-    Some(has_its_fields(&head) & (again.as_slice() == body.as_slice()))
+    Some(has_its_fields(&head) & is_written_as(alloc, &head, &body))
+}
+
+fn is_written_as(alloc: Global, head: &Head, body: &[u8]) -> bool {
+    match write_head(alloc, head) {
+        Ok(written) => written.as_slice() == body,
+        Err(_) => false,
+    }
 }
 
 fn has_its_fields(head: &Head) -> bool {
@@ -29,7 +35,7 @@ fn has_its_fields(head: &Head) -> bool {
 }
 
 /// Another kind or version, a depth or a limit that no group has, and a name that is empty, too long, or shorter than the record.
-const FAULTS: [Fault; 9] = [
+static FAULTS: [Fault; 9] = [
     (0, &[1], WireWhat::Value, 0),
     (1, &[2], WireWhat::Version, 1),
     (2, &[0], WireWhat::Value, 2),

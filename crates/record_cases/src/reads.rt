@@ -21,7 +21,7 @@ type Answer = Result<bool, JournalRefusal>;
 /// The octets of a file, and what is read of it.
 type Case = (&'static [u8], Left);
 
-const READ: [Case; 13] = [
+static READ: [Case; 13] = [
     (b"", (&[], NO_NAME)),
     (b"\x01", (&[], NO_NAME)),
     (b"\0GDOIJRNL\0", (&[], NO_NAME)),
@@ -41,7 +41,7 @@ const READ: [Case; 13] = [
 ];
 
 /// The beginnings of files with the longest body, and with one that is longer. More octets come after them than a body and a gate have.
-const LENGTHS: [Case; 2] = [
+static LENGTHS: [Case; 2] = [
     (b"\x01GDOIJRNL\x01\0\x01\0\0", (&[65_536], Ok(false))),
     (b"\x01GDOIJRNL\x01\0\x01\0\x01", (&[], NO_GATE)),
 ];

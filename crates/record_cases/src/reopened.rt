@@ -6,7 +6,7 @@ use group_terms::{NoMemory, Octets};
 use std::alloc::Global;
 
 /// What is left after the append of a record met a fault, at this call. The gate is opened by the third call of an append, the tenth.
-const LEFT: [(u64, Left); 4] = [
+static LEFT: [(u64, Left); 4] = [
     (8, (&[], Ok(false))),
     (9, (&[], Ok(false))),
     (10, (&[], Ok(false))),

@@ -25,11 +25,16 @@ fn are_drawn_in_order(alloc: Global) -> Option<bool> {
         return None;
     }
     let mut draws = DrawList::new(blocks);
-    let are_drawn = match draw_values(alloc, &mut draws, &positions) {
+    Some(draws_in_order(alloc, &mut draws, &positions))
+}
+
+/// Whether the values of two positions are drawn in order, by eight draws.
+fn draws_in_order(alloc: Global, draws: &mut DrawList, positions: &[LkhId]) -> bool {
+    let are_drawn = match draw_values(alloc, draws, positions) {
         Ok(values) => are_in_order(&values),
         Err(_) => false,
     };
-    Some(are_drawn & (draws.place() == 8))
+    are_drawn & (draws.place() == 8)
 }
 
 fn are_in_order(values: &BatchValues) -> bool {
@@ -53,7 +58,7 @@ fn is_drawn((node, (number, iv, key)): (&Drawn, (u16, u8, u8))) -> bool {
 }
 
 /// The octet of each position's key after two batches: the first gave the octet 1 to the positions 1 and 2, the second the octet 2 to 1 and 3.
-const LAST: [(u16, u8); 3] = [(1, 2), (2, 1), (3, 2)];
+static LAST: [(u16, u8); 3] = [(1, 2), (2, 1), (3, 2)];
 
 #[test]
 fn the_last_value_is_kept(rt: HostRuntime) {
