@@ -4,7 +4,7 @@ use crate::known::octets;
 use crate::octets::decoded;
 use crate::reads::{Wrong, append_key, append_words, fault, read};
 use group_terms::{NoMemory, Octets};
-use kd_wire::{SealedKeys, UpdateSpan, WireWhat, write_update};
+use kd_wire::{SealedKey, SealedKeys, UpdateSpan, WireWhat, write_update};
 use std::alloc::Global;
 
 /// The body with two update arrays, of which openssl seals the keys so.
@@ -144,12 +144,25 @@ fn body_with(alloc: Global, keys: &[(u16, u16)]) -> Result<Octets, NoMemory> {
 
 fn are_sealed_in_turn(body: &[u8]) -> Option<bool> {
     let mut arrays = read(body).ok()?.updates?.arrays(body);
-    let mut keys = arrays.next()?.keys;
-    let mut holds = arrays.next().is_none();
-    for (by, by_made, gives, made) in SEALS {
-        let key = keys.next()?;
-        holds &= (key.by.number(), key.by_made) == (by, by_made);
-        holds &= (key.gives.id.number(), key.gives.made) == (gives, made);
+    let keys = arrays.next()?.keys;
+    Some(are_seals(keys) & arrays.next().is_none())
+}
+
+/// Whether these keys are the three.
+fn are_seals(mut keys: SealedKeys<'_>) -> bool {
+    let mut holds = true;
+    for seal in SEALS {
+        match keys.next() {
+            Some(key) => holds &= is_seal(&key, seal),
+            None => holds = false,
+        }
     }
-    Some(holds & keys.next().is_none())
+    holds & keys.next().is_none()
+}
+
+fn is_seal(key: &SealedKey, (by, by_made, gives, made): (u16, u32, u16, u32)) -> bool {
+    (key.by.number() == by)
+        & (key.by_made == by_made)
+        & (key.gives.id.number() == gives)
+        & (key.gives.made == made)
 }

@@ -1,9 +1,9 @@
 //! Bodies of the key download, for a traffic key and for a member that registers.
 use crate::keys::{add_keys, keyed, octets, traffic};
-use crate::octets::decoded;
+use crate::known;
 use crate::reads::read;
 use group_terms::Octets;
-use kd_wire::{Path, PathKey, SpiPlaces, write_reply_kd, write_traffic_kd};
+use kd_wire::{Keyed, Path, PathKey, SpiPlaces, write_reply_kd, write_traffic_kd};
 use std::alloc::Global;
 
 /// The body for a traffic key, as another implementation writes it.
@@ -23,30 +23,29 @@ const REPLY: &str = "00020000\
 /// The body for a traffic key alone.
 #[test]
 fn a_traffic_key_is_written_and_read(rt: HostRuntime) {
-    assert!(rt; traffic_holds(rt.alloc()) == Some(true));
+    let text = known::octets::<69>(TRAFFIC);
+    assert!(rt; is_traffic(rt.alloc(), &text) & is_read(&text, None, None, &[]));
 }
 
-fn traffic_holds(alloc: Global) -> Option<bool> {
-    let text: [u8; 69] = decoded(TRAFFIC)?;
+fn is_traffic(alloc: Global, text: &[u8]) -> bool {
     let mut body = Octets::new(alloc);
-    write_traffic_kd(&traffic(), &mut body).ok()?;
-    let written = body.as_slice() == text.as_slice();
-    Some(written & is_read(&text, None, None, &[]))
+    let is_written = write_traffic_kd(&traffic(), &mut body).is_ok();
+    is_written & (body.as_slice() == text)
 }
 
 /// The body for a member that registers.
 #[test]
 fn a_reply_is_written_and_read(rt: HostRuntime) {
-    assert!(rt; reply_holds(rt.alloc()) == Some(true));
+    let text = known::octets::<242>(REPLY);
+    let keyed = keyed(2, 3, path());
+    let read = is_read(&text, Some(octets(9)), Some(74), keyed.path.keys());
+    assert!(rt; read & is_reply(rt.alloc(), &keyed, &text));
 }
 
-fn reply_holds(alloc: Global) -> Option<bool> {
-    let text: [u8; 242] = decoded(REPLY)?;
-    let keyed = keyed(2, 3, path());
+fn is_reply(alloc: Global, keyed: &Keyed, text: &[u8]) -> bool {
     let mut body = Octets::new(alloc);
-    write_reply_kd(&keyed, &mut body).ok()?;
-    let written = body.as_slice() == text.as_slice();
-    Some(written & is_read(&text, Some(octets(9)), Some(74), keyed.path.keys()))
+    let is_written = write_reply_kd(keyed, &mut body).is_ok();
+    is_written & (body.as_slice() == text)
 }
 
 fn path() -> Path {

@@ -64,15 +64,30 @@ fn refusals_are_in_order(room: &mut Room) -> bool {
         return false;
     };
     let verifier = TestVerifier::new();
-    let kept = [0; 16];
-    let cut = open_push(cut, &kept, &kek(), 2, &verifier, room);
-    let other = open_push(&datagram, &kept, &kek(), 2, &verifier, room);
+    let malformed = PushRefusal::Malformed { at: 24 };
+    let cut = is_refused(cut, &[0; 16], &verifier, room, malformed);
+    let other = is_refused(&datagram, &[0; 16], &verifier, room, other_spi());
     let refuses = Refuses {
         kind: verifier.kind(),
     };
-    let unsigned = open_push(&datagram, &spi(), &kek(), 2, &refuses, room);
-    (cut == Err(PushRefusal::Malformed { at: 24 }))
-        & (other == Err(PushRefusal::OtherSpi { got: spi(), kept }))
-        & (unsigned == Err(PushRefusal::BadSignature))
-        & room.text().is_empty()
+    let unsigned = is_refused(&datagram, &spi(), &refuses, room, PushRefusal::BadSignature);
+    cut & other & unsigned & room.text().is_empty()
+}
+
+fn other_spi() -> PushRefusal {
+    PushRefusal::OtherSpi {
+        got: spi(),
+        kept: [0; 16],
+    }
+}
+
+/// Whether a push is refused so after the number 2.
+fn is_refused<V: Verifier>(
+    push: &[u8],
+    kept: &[u8; 16],
+    verifier: &V,
+    room: &mut Room,
+    why: PushRefusal,
+) -> bool {
+    open_push(push, kept, &kek(), 2, verifier, room) == Err(why)
 }

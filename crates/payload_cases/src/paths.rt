@@ -1,6 +1,6 @@
 //! Paths, from a leaf to the root.
 use crate::keys::{add_keys, keyed};
-use crate::octets::decoded;
+use crate::known::octets;
 use crate::reads::{Wrong, append_key, fault};
 use group_terms::{NoMemory, Octets};
 use kd_wire::{Path, WireWhat, write_reply_kd};
@@ -46,15 +46,19 @@ const SEVENTEEN: &str = "00020000\
 /// Seventeen keys are one more than a path has, though the lengths fit them; their number stands at place 95.
 #[test]
 fn paths_have_16_keys_at_most(rt: HostRuntime) {
-    assert!(rt; seventeen_are_refused(rt.alloc()) == Some(true));
+    assert!(rt; seventeen_are_refused(rt.alloc()));
 }
 
-fn seventeen_are_refused(alloc: Global) -> Option<bool> {
-    let head: [u8; 98] = decoded(SEVENTEEN)?;
-    let mut body = Octets::copy_of(alloc, &head).ok()?;
+fn seventeen_are_refused(alloc: Global) -> bool {
+    let mut body = Octets::new(alloc);
+    let is_whole = append_seventeen(&mut body).is_ok() & (body.len() == 98 + 17 * 48);
+    is_whole & (fault(body.as_slice()) == Some((WireWhat::Value, 95)))
+}
+
+fn append_seventeen(body: &mut Octets) -> Result<(), NoMemory> {
+    body.extend(&octets::<98>(SEVENTEEN))?;
     for _ in 0..17 {
-        append_key((1, 1), &mut body).ok()?;
+        append_key((1, 1), body)?;
     }
-    let whole = body.len() == 98 + 17 * 48;
-    Some(whole & (fault(body.as_slice()) == Some((WireWhat::Value, 95))))
+    Ok(())
 }

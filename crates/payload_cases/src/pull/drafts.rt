@@ -60,11 +60,19 @@ pub(crate) fn first(alloc: Global, nonce: &[u8], id: &[u8]) -> Result<Octets, No
     requires id { length id.now ≤ 400 }
 {
     let mut payloads = Octets::new(alloc);
-    write_payload(IDENTIFICATION, nonce, &mut payloads)?;
-    write_payload_head(0, 4 + id.len(), &mut payloads)?;
-    write_identification(4, id, &mut payloads)?;
+    append_both(nonce, id, &mut payloads)?;
     let iv = phase2_iv(&phase().last, &MESSAGE);
     message(alloc, &iv, NONCE, payloads.as_slice(), &[])
+}
+
+/// Appends the payload of a nonce, and that of an identification.
+fn append_both(nonce: &[u8], id: &[u8], payloads: &mut Octets) -> Result<(), NoMemory>
+    requires nonce { length nonce.now ≤ 200 }
+    requires id { length id.now ≤ 400 }
+{
+    write_payload(IDENTIFICATION, nonce, payloads)?;
+    write_payload_head(0, 4 + id.len(), payloads)?;
+    write_identification(4, id, payloads)
 }
 
 /// A message with these payloads after the HASH, the first of which is of this kind.
@@ -75,14 +83,24 @@ pub(crate) fn message(
     payloads: &[u8],
     nonces: &[u8],
 ) -> Result<Octets, NoMemory> {
-    let zeros = zeros_after(payloads.len());
     let mut out = Octets::new(alloc);
-    out.extend(&write_header(&header(payloads.len(), zeros)))?;
-    write_payload(kind, &hash_of(nonces, payloads), &mut out)?;
-    out.extend(payloads)?;
-    out.extend(&[0; 15][..zeros])?;
+    append_message(kind, payloads, nonces, &mut out)?;
     seal(&mut out, iv);
     Ok(out)
+}
+
+/// Appends the message, not sealed.
+fn append_message(
+    kind: u8,
+    payloads: &[u8],
+    nonces: &[u8],
+    out: &mut Octets,
+) -> Result<(), NoMemory> {
+    let zeros = zeros_after(payloads.len());
+    out.extend(&write_header(&header(payloads.len(), zeros)))?;
+    write_payload(kind, &hash_of(nonces, payloads), out)?;
+    out.extend(payloads)?;
+    out.extend(&[0; 15][..zeros])
 }
 
 /// How many zeros fill a block after the 36 octets of a HASH payload and so many of others.
