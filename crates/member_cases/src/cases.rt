@@ -95,6 +95,7 @@ impl Case {
         };
         let datagram = octets(alloc, datagram)?;
         self.members.give(datagram.as_slice(), &mut self.room, text);
+        drop(datagram);
         Some(())
     }
 
@@ -104,6 +105,14 @@ impl Case {
         };
         let last = number(last)?;
         let datagram = octets(alloc, datagram)?;
-        self.members.give_once(&self.tree, last, datagram.as_slice(), &mut self.room, text)
+        let given = self.members.give_once(
+            &self.tree,
+            last,
+            datagram.as_slice(),
+            &mut self.room,
+            text,
+        );
+        drop(datagram);
+        given
     }
 }

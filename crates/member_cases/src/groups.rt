@@ -39,7 +39,7 @@ fn write_group<W: Write>(alloc: Global, churn: &Churn, count: u32, out: &mut W) 
     let name = GroupName::read(b"console")?;
     let mut core = create(alloc, churn.depth, name)?;
     let written = write_batches(alloc, &mut core, churn, count, out);
-    drop(core);
+    drop(core.into_parts());
     written?;
     write_record(ALL, &[], out)?;
     out.flush().ok()
@@ -106,13 +106,11 @@ fn close_batch<W: Write>(
     out: &mut W,
 ) -> Option<()> {
     let prepared = core.prepare(alloc).ok()?;
-    if write_replies(alloc, &prepared, churn, number, out).is_none() {
-        drop(prepared);
-        return None;
-    }
+    let told = write_replies(alloc, &prepared, churn, number, out);
     let output = core.commit(prepared).ok()?;
     let written = write_pushes(&output, out);
     drop(output);
+    told?;
     written
 }
 
@@ -174,5 +172,12 @@ fn name(alloc: Global, member: u32) -> Option<MemberName> {
     let mut text = Text::new(alloc);
     text.add("m");
     text.add_number(u64::from(member));
+    let name = name_in(&text);
+    drop(text);
+    name
+}
+
+/// The name that a text is.
+fn name_in(text: &Text) -> Option<MemberName> {
     MemberName::read(text.whole()?.as_bytes())
 }

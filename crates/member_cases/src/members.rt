@@ -53,6 +53,7 @@ impl Member {
             store: MemberStore::new(keyed),
         };
         member.give(datagram, room, text);
+        drop(member);
         Some(())
     }
 }

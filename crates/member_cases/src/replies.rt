@@ -54,10 +54,12 @@ fn keyed_of(epoch: u32, sequence: u32, view: KdView) -> Option<Keyed>
     ensures { IfSome result IsReply }
 {
     let (Some(traffic), Some(spi)) = (view.tek, view.lkh_spi) else {
+        drop(view);
         return None;
     };
     let keyed = keyed(Group { spi, traffic }, view.download, sequence);
     if keyed.epoch != epoch {
+        drop(keyed);
         return None;
     }
     Some(keyed)

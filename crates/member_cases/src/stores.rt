@@ -34,7 +34,10 @@ impl Stores {
         requires { IsReply keyed }
     {
         self.tally.add_reply();
-        let place = usize::from(store).checked_sub(1)?;
+        let Some(place) = usize::from(store).checked_sub(1) else {
+            drop(keyed);
+            return None;
+        };
         match self.stores.get_mut(place) {
             Some(store) => {
                 self.tally.add_renewal(&store.renew(keyed));
@@ -49,6 +52,7 @@ impl Stores {
         requires { IsReply keyed }
     {
         if place != self.stores.len() {
+            drop(keyed);
             return None;
         }
         self.stores.push(MemberStore::new(keyed)).ok()

@@ -53,17 +53,13 @@ impl Tally {
 
     /// How often a store was given a push.
     pub(crate) fn given(&self) -> u64 {
-        let taken = self.roots.saturating_add(self.traffics);
-        let refused = [
-            self.other_spi,
-            self.malformed,
-            self.bad_signature,
-            self.stale,
-            self.no_path,
-        ];
-        refused
-            .iter()
-            .fold(taken, |sum, more| sum.saturating_add(*more))
+        self.roots
+            .saturating_add(self.traffics)
+            .saturating_add(self.other_spi)
+            .saturating_add(self.malformed)
+            .saturating_add(self.bad_signature)
+            .saturating_add(self.stale)
+            .saturating_add(self.no_path)
     }
 
     pub(crate) fn add_reply(&mut self) {
@@ -108,14 +104,10 @@ impl Tally {
     /// Adds what a store has at the end.
     pub(crate) fn add_store(&mut self, store: &MemberStore) {
         self.add_traffic(&store.traffic_key());
-        for number in [
-            store.traffic_epoch(),
-            store.root_epoch(),
-            store.last_sequence(),
-            u32::from(store.leaf().number()),
-        ] {
-            self.add_number(u64::from(number));
-        }
+        self.add_number(u64::from(store.traffic_epoch()));
+        self.add_number(u64::from(store.root_epoch()));
+        self.add_number(u64::from(store.last_sequence()));
+        self.add_number(u64::from(store.leaf().number()));
     }
 
     fn add_traffic(&mut self, traffic: &TrafficValue) {

@@ -64,12 +64,17 @@ impl Tree {
         let mut path = Path::new();
         let mut at = leaf;
         for _ in 0..LONGEST_PATH {
-            path.push(self.key(at)?);
+            let Some(key) = self.key(at) else {
+                drop(path);
+                return None;
+            };
+            path.push(key);
             let Some(above) = at.parent() else {
                 return whole(path);
             };
             at = above;
         }
+        drop(path);
         None
     }
 
@@ -95,6 +100,7 @@ fn whole(path: Path) -> Option<Path>
     ensures { IfSome result IsPath }
 {
     if path.keys().len() < 2 {
+        drop(path);
         return None;
     }
     Some(path)
