@@ -1,5 +1,5 @@
 -- What the octets at a gate say of the records from there on.
-use Rattle.std.proofs.Common.{◌≡◌, ◌≢◌, ◌∙◌, inl, inr, ℕ, zero, suc, ◌+◌, ◌-◌, ◌≤◌, List, [], ◌∷◌, ◌++◌, length, min, take, drop, Option, Some, None, Result, Ok, Err, Bool, true, false, refl, sym, ap, subst, arith, length-take, length-drop}
+use Rattle.std.proofs.Common.{◌≡◌, ◌≢◌, ◌∙◌, inl, inr, ℕ, zero, suc, ◌+◌, ◌-◌, ◌≤◌, ◌<◌, List, [], ◌∷◌, ◌++◌, length, min, take, drop, Option, Some, None, Result, Ok, Err, Bool, true, false, refl, sym, ap, subst, arith, length-take, length-drop}
 use Rattle.std.proofs.lemmas.Bool.{le-leb, lt-leb, eq-eqb, eqb-true, false≢true, cases_lt}
 use Rattle.std.proofs.lemmas.List.{append-nil, drop-drop, drop-take, drop_all, take-take, take_all, take_min}
 use Rattle.std.proofs.Math.Dec.{leb}
@@ -165,6 +165,21 @@ module _ (file octets : List ℕ) (at : ℕ) (is : octets ≡ take near_octets (
       let cut : drop 5 octets ≡ take 2043 (drop (at + 5) file) = ap (drop 5) is ∙ drop-take 5 2043 (drop at file) ∙ ap (take 2043) (drop-drop 5 at file) in
       ap Some ((λ i. take (alone i) (cut i)) ∙ take-take size 2043 (drop (at + 5) file) long)
       ∙ sym (ap (λ there. if there then Some (take size (drop (at + 5) file)) else None) (near_there size whole))
+
+-- As many octets of a body as are there are all of it, or the record is cut.
+module _ (file octets : List ℕ) (at size : ℕ) (is : octets ≡ take size (drop (at + 5) file)) where
+  pub begun_cut : length octets < size → None ≡ body_at file at size
+  begun_cut fewer =
+      let missing = lt-leb size (length file - (at + 5)) (omega (arith, fewer, ap length is, length-take size (drop (at + 5) file), length-drop (at + 5) file)) in
+      sym (ap (λ there. if there then Some (take size (drop (at + 5) file)) else None) missing)
+
+  pub begun_there : size ≤ length octets → leb size (length file - (at + 5)) ≡ true
+  begun_there whole = le-leb size (length file - (at + 5)) (omega (arith, whole, ap length is, length-take size (drop (at + 5) file), length-drop (at + 5) file))
+
+  pub begun_body : size ≤ length octets → Some (take size octets) ≡ body_at file at size
+  begun_body whole =
+      ap Some (ap (take size) is ∙ take-take size size (drop (at + 5) file) (omega arith))
+      ∙ sym (ap (λ there. if there then Some (take size (drop (at + 5) file)) else None) (begun_there whole))
 
 -- what holds anyway holds where a call fails
 pub on_error : {A E : Type 0} (answer : Result A E) (P : Type 0) → P → OnErr answer P

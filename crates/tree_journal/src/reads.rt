@@ -3,7 +3,7 @@ ghost use Rattle.std.specs.Prelude.{◌≡◌, ◌<◌, ◌≤◌, ◌^◌, ◌+
 ghost use Rattle.gd_disk.specs.Disks.{Knows};
 ghost use Rattle.group_terms.specs.Faults.{Rose};
 ghost use Rattle.gd_disk.specs.Moments.{shown, Keeps, LeavesOnly};
-ghost use Rattle.tree_journal.specs.Private.Found.{IsFound, IsNear, IsShort, near_octets};
+ghost use Rattle.tree_journal.specs.Private.Found.{IsFound, IsNear, IsShort, IsShortRecord, near_octets};
 ghost use Rattle.journal_gates.specs.Heads.{head_in};
 ghost use Rattle.tree_journal.specs.Records.{IsRecordAt, bodies_from, with_front};
 ghost use Rattle.tree_journal.specs.declared.reads.Found.TheVariants.{Record, Nothing};
@@ -153,70 +153,109 @@ impl<D: Disk> Journal<D> {
         ensures cause { result ≡ Err DiskFault → Rose (D.faults self.old.disk) (D.faults self.new.disk) }
         ensures keeps { Keeps D.Disk self.old.disk self.new.disk }
     {
-        let size = match self.near(alloc)? {
-            Near::Whole { found } => return Ok(found),
-            Near::Begun { size } => size,
-        };
-        match self.body(alloc, size)? {
-            Some(body) => Ok(Found::Record { body }),
-            None => Ok(Found::Nothing),
+        let found = found_at(alloc, &mut self.disk, self.at, self.piece.as_mut_slice());
+        if matches!(found, Err(JournalRefusal::DiskFault)) {
+            self.closed = true;
         }
+        found
     }
+}
 
-    /// What the first octets there tell.
-    fn near(&mut self, alloc: Global) -> Result<Near, JournalRefusal>
-        requires { self.old.closed ≡ false }
-        ensures near { IfOk result (λ near. Knows (shown D.Disk self.old.disk) (λ file. IsNear file self.old.at near)) }
-        ensures memory { result ≡ Err OutOfMemory → Knows (shown D.Disk self.old.disk)
-            (λ file. (body : List ℕ) × IsRecordAt file self.old.at body) }
-        ensures short { IfOk result IsShort }
-        ensures far { 2 ^ 62 ≤ self.old.at → IfOk result (λ near. near ≡ Whole Nothing) }
-        ensures same { shown D.Disk self.new.disk ≡ shown D.Disk self.old.disk }
-        ensures any_moment { Knows (shown D.Disk self.old.disk) (λ file. LeavesOnly D.Disk self.old.disk self.new.disk (λ c. c ≡ file)) }
-        ensures ok { (result ≡ Err DiskFault → ⊥) → self.new ≡ record self.old { disk = self.new.disk } }
-        ensures closes { result ≡ Err DiskFault → self.new ≡ record self.old { disk = self.new.disk; closed = true } }
-        ensures no_other { IfErr result (λ why. (why ≡ DiskFault) ⊎ (why ≡ OutOfMemory)) }
-        ensures stands { (result ≡ Err DiskFault → ⊥) → D.faults self.new.disk ≡ D.faults self.old.disk }
-        ensures cause { result ≡ Err DiskFault → Rose (D.faults self.old.disk) (D.faults self.new.disk) }
-        ensures keeps { Keeps D.Disk self.old.disk self.new.disk }
-    {
-        match read_front(&mut self.disk, self.at, self.piece.as_mut_slice(), NEAR) {
-            Ok(count) => Ok(near_in(alloc, &self.piece.as_slice()[..count])?),
-            Err(Failed) => {
-                self.closed = true;
-                Err(JournalRefusal::DiskFault)
-            }
-        }
+/// What stands at a place of a file, by the octets that are read into a room: `DiskFault`, and `NoMemory` for a body.
+fn found_at<D: Disk>(
+    alloc: Global,
+    disk: &mut D,
+    at: u64,
+    room: &mut [u8],
+) -> Result<Found, JournalRefusal>
+    requires near { at ≤ 2 ^ 62 + 65541 }
+    requires room { length room.old ≡ 65541 }
+    ensures found { IfOk result (λ found. Knows (shown D.Disk disk.old) (λ file. IsFound file at found)) }
+    ensures memory { result ≡ Err OutOfMemory → Knows (shown D.Disk disk.old) (λ file. (body : List ℕ) × IsRecordAt file at body) }
+    ensures short { IfOk result IsShortRecord }
+    ensures far { 2 ^ 62 ≤ at → IfOk result (λ found. found ≡ Nothing) }
+    ensures same { shown D.Disk disk.new ≡ shown D.Disk disk.old }
+    ensures any_moment { Knows (shown D.Disk disk.old) (λ _. LeavesOnly D.Disk disk.old disk.new (D.may_leave disk.old)) }
+    ensures crash { Knows (shown D.Disk disk.old) (λ _. (c : List ℕ) → D.may_leave disk.new c → D.may_leave disk.old c) }
+    ensures no_other { IfErr result (λ why. (why ≡ DiskFault) ⊎ (why ≡ OutOfMemory)) }
+    ensures stands { (result ≡ Err DiskFault → ⊥) → D.faults disk.new ≡ D.faults disk.old }
+    ensures cause { result ≡ Err DiskFault → Rose (D.faults disk.old) (D.faults disk.new) }
+    ensures keeps { Keeps D.Disk disk.old disk.new }
+    ensures size { length room.new ≡ length room.old }
+{
+    match near_at(alloc, disk, at, room)? {
+        Near::Whole { found } => Ok(found),
+        Near::Begun { size } => begun_at(alloc, disk, at, room, size),
     }
+}
 
-    /// The body of so many octets after the gate and the length at the place where reading goes on; `None` where the file ends before its end.
-    fn body(&mut self, alloc: Global, size: usize) -> Result<Option<Octets>, JournalRefusal>
-        requires open { self.old.closed ≡ false }
-        requires short { size ≤ 65536 }
-        ensures body { IfOk result (λ found. Knows (shown D.Disk self.old.disk) (λ file. found ≡
-            (if nat_le size (length file - (self.old.at + 5)) then Some (take size (drop (self.old.at + 5) file)) else None))) }
-        ensures memory { result ≡ Err OutOfMemory → Knows (shown D.Disk self.old.disk)
-            (λ file. IsTrue (nat_le size (length file - (self.old.at + 5)))) }
-        ensures size { IfOk result (λ found. IfSome found (λ body. length body ≡ size)) }
-        ensures same { shown D.Disk self.new.disk ≡ shown D.Disk self.old.disk }
-        ensures any_moment { Knows (shown D.Disk self.old.disk) (λ file. LeavesOnly D.Disk self.old.disk self.new.disk (λ c. c ≡ file)) }
-        ensures ok { (result ≡ Err DiskFault → ⊥) → self.new ≡ record self.old { disk = self.new.disk } }
-        ensures closes { result ≡ Err DiskFault → self.new ≡ record self.old { disk = self.new.disk; closed = true } }
-        ensures no_other { IfErr result (λ why. (why ≡ DiskFault) ⊎ (why ≡ OutOfMemory)) }
-        ensures stands { (result ≡ Err DiskFault → ⊥) → D.faults self.new.disk ≡ D.faults self.old.disk }
-        ensures cause { result ≡ Err DiskFault → Rose (D.faults self.old.disk) (D.faults self.new.disk) }
-        ensures keeps { Keeps D.Disk self.old.disk self.new.disk }
-    {
-        let at = self.at + HEAD as u64;
-        match read_front(&mut self.disk, at, self.piece.as_mut_slice(), size) {
-            Ok(count) if count < size => Ok(None),
-            Ok(_) => Ok(Some(Octets::copy_of(alloc, &self.piece.as_slice()[..size])?)),
-            Err(Failed) => {
-                self.closed = true;
-                Err(JournalRefusal::DiskFault)
-            }
-        }
+/// What the first octets there tell.
+fn near_at<D: Disk>(
+    alloc: Global,
+    disk: &mut D,
+    at: u64,
+    room: &mut [u8],
+) -> Result<Near, JournalRefusal>
+    requires { length room.old ≡ 65541 }
+    ensures near { IfOk result (λ near. Knows (shown D.Disk disk.old) (λ file. IsNear file at near)) }
+    ensures memory { result ≡ Err OutOfMemory → Knows (shown D.Disk disk.old) (λ file. (body : List ℕ) × IsRecordAt file at body) }
+    ensures short { IfOk result IsShort }
+    ensures far { 2 ^ 62 ≤ at → IfOk result (λ near. near ≡ Whole Nothing) }
+    ensures same { shown D.Disk disk.new ≡ shown D.Disk disk.old }
+    ensures any_moment { Knows (shown D.Disk disk.old) (λ _. LeavesOnly D.Disk disk.old disk.new (D.may_leave disk.old)) }
+    ensures crash { Knows (shown D.Disk disk.old) (λ _. (c : List ℕ) → D.may_leave disk.new c → D.may_leave disk.old c) }
+    ensures no_other { IfErr result (λ why. (why ≡ DiskFault) ⊎ (why ≡ OutOfMemory)) }
+    ensures stands { (result ≡ Err DiskFault → ⊥) → D.faults disk.new ≡ D.faults disk.old }
+    ensures cause { result ≡ Err DiskFault → Rose (D.faults disk.old) (D.faults disk.new) }
+    ensures keeps { Keeps D.Disk disk.old disk.new }
+    ensures size { length room.new ≡ length room.old }
+{
+    let count = read_front(disk, at, room, NEAR)?;
+    Ok(near_in(alloc, &room[..count])?)
+}
+
+/// What stands at an open gate that says so many octets, of which some may be missing.
+fn begun_at<D: Disk>(
+    alloc: Global,
+    disk: &mut D,
+    at: u64,
+    room: &mut [u8],
+    size: usize,
+) -> Result<Found, JournalRefusal>
+    requires near { at ≤ 2 ^ 62 + 65541 }
+    requires room { length room.old ≡ 65541 }
+    requires short { size ≤ 65536 }
+    requires begun { Knows (shown D.Disk disk.old) (λ file. head_in (take 5 (drop at file)) ≡ Open size) }
+    ensures found { IfOk result (λ found. Knows (shown D.Disk disk.old) (λ file. IsFound file at found)) }
+    ensures memory { result ≡ Err OutOfMemory → Knows (shown D.Disk disk.old) (λ file. (body : List ℕ) × IsRecordAt file at body) }
+    ensures short { IfOk result IsShortRecord }
+    ensures same { shown D.Disk disk.new ≡ shown D.Disk disk.old }
+    ensures any_moment { Knows (shown D.Disk disk.old) (λ _. LeavesOnly D.Disk disk.old disk.new (D.may_leave disk.old)) }
+    ensures crash { Knows (shown D.Disk disk.old) (λ _. (c : List ℕ) → D.may_leave disk.new c → D.may_leave disk.old c) }
+    ensures no_other { IfErr result (λ why. (why ≡ DiskFault) ⊎ (why ≡ OutOfMemory)) }
+    ensures stands { (result ≡ Err DiskFault → ⊥) → D.faults disk.new ≡ D.faults disk.old }
+    ensures cause { result ≡ Err DiskFault → Rose (D.faults disk.old) (D.faults disk.new) }
+    ensures keeps { Keeps D.Disk disk.old disk.new }
+    ensures size { length room.new ≡ length room.old }
+{
+    let count = read_front(disk, at + HEAD as u64, room, size)?;
+    Ok(begun_in(alloc, &room[..count], size)?)
+}
+
+/// What so many octets of a body make of a record; `NoMemory` where there is none for all of them.
+fn begun_in(alloc: Global, octets: &[u8], size: usize) -> Result<Found, NoMemory>
+    requires { size ≤ 65536 }
+    ensures found { (file : List ℕ) (at : ℕ) → head_in (take 5 (drop at file)) ≡ Open size → octets.now ≡ take size (drop (at + 5) file) →
+        IfOk result (IsFound file at) }
+    ensures memory { (file : List ℕ) (at : ℕ) → head_in (take 5 (drop at file)) ≡ Open size → octets.now ≡ take size (drop (at + 5) file) →
+        OnErr result ((body : List ℕ) × IsRecordAt file at body) }
+    ensures short { IfOk result IsShortRecord }
+{
+    if octets.len() < size {
+        return Ok(Found::Nothing);
     }
+    let body = Octets::copy_of(alloc, &octets[..size])?;
+    Ok(Found::Record { body })
 }
 
 /// What the first octets at a gate tell of what stands there; `NoMemory` where there is none for a record.
