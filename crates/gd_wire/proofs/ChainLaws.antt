@@ -13,10 +13,10 @@ use Rattle.group_terms.specs.declared.wires.WireFault.{WireFault}
 use Rattle.gd_wire.specs.declared.chains.ChainFault.{ChainFault}
 use Rattle.gd_wire.specs.declared.chains.Part.{Part}
 use Rattle.gd_wire.specs.declared.chains.Named.{Named}
-use Rattle.gd_wire.specs.Readings.{Cursor, value_of, number, octet, octets, part, due_octet}
+use Rattle.gd_wire.specs.Readings.{Cursor, value_of, number, octet, octets, part, due_octet, no_other}
 use Rattle.gd_wire.specs.Chains
 use Rattle.gd_wire.specs.Chains.{GoesThrough, Payload, PayloadFits, PayloadsFit, padded, payload_text, payloads_text, payloads_at, first_kind, kinds_of, body_of}
-use Rattle.gd_wire.specs.Chains.{after_parts, payload_then, no_payload, no_other, payload, chain_end, chain_from}
+use Rattle.gd_wire.specs.Chains.{after_parts, payload_then, no_payload, payload, chain_end, chain_from}
 use Rattle.gd_wire.proofs.ReadingLemmas.{check_ok}
 use Rattle.gd_wire.proofs.PartLemmas.{IsPayload, payload_read}
 use Rattle.gd_wire.proofs.ChainReadings.{reads_on, body_is}

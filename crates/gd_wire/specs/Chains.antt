@@ -1,17 +1,16 @@
 -- Payloads one after the other (RFC 2408 section 3.2): each begins with a header of four octets, the kind of the next one or 0, a reserved
 -- octet, and the length of all of it in 2. After the last one zeros fill the last block of 16 octets (RFC 2409 appendix B).
-use Rattle.std.specs.Prelude.{◌≡◌, ℕ, ◌+◌, ◌-◌, ◌%◌, ◌<◌, ◌≤◌, ◌==◌, nat_le, nat_lt, not, List, [], ◌∷◌, ◌++◌, length, map, take, drop}
-use Rattle.std.specs.Prelude.{replicate, All, Option, None, Some, Result, Ok, Err}
-use Rattle.std.specs.List.{position}
+use Rattle.std.specs.Prelude.{◌≡◌, ℕ, ◌+◌, ◌-◌, ◌%◌, ◌<◌, ◌≤◌, ◌==◌, nat_le, nat_lt, List, [], ◌∷◌, ◌++◌, length, map, take, drop}
+use Rattle.std.specs.Prelude.{replicate, All, Result, Ok, Err}
 use Rattle.byteorder.specs.Endian.{big_bytes}
 use Rattle.group_terms.specs.Octets.{AreOctets}
 use Rattle.group_terms.specs.declared.wires.WireFault.{WireFault}
-use Rattle.group_terms.specs.declared.wires.WireWhat.TheVariants.{Short, Length, Reserved, Padding, Kind}
+use Rattle.group_terms.specs.declared.wires.WireWhat.TheVariants.{Short, Length, Reserved, Kind}
 use Rattle.gd_wire.specs.declared.chains.ChainFault.{ChainFault}
 use Rattle.gd_wire.specs.declared.chains.Named.{Named}
 use Rattle.gd_wire.specs.declared.chains.Part.{Part}
-use Rattle.gd_wire.specs.Readings.{Cursor, Reading, ◌>>=◌, ◌>>◌, value_of, told, give, place, here, fail, check, octets_left, rest}
-use Rattle.gd_wire.specs.Readings.{part, octet, number, due_octet}
+use Rattle.gd_wire.specs.Readings.{Cursor, Reading, ◌>>=◌, ◌>>◌, value_of, told, give, place, here, check, octets_left}
+use Rattle.gd_wire.specs.Readings.{part, octet, number, due_octet, padding_end}
 
 -- ---- texts
 
@@ -72,18 +71,6 @@ payload kind named = do
   start ← place
   body ← part (size - 4) Length length_at
   give (record { kind = kind; at = at; start = start; length = size - 4 }, record { kind = next; at = at })
-
--- the first octet that is no zero is wrong, where there is one
-abbrev pub no_other : ℕ → Option ℕ → Reading (Unit {0})
-no_other at None = give tt
-no_other at (Some other) = fail Padding (at + other)
-
--- padding has zeros alone
-abbrev pub padding_end : Reading (Unit {0})
-padding_end = do
-  at ← here
-  padding ← rest
-  no_other at (position (λ octet. not (octet == 0)) padding)
 
 -- after the last payload: none was named, and zeros fill a block
 unfoldable pub chain_end : Named → Reading (Unit {0})

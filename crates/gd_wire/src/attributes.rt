@@ -5,10 +5,9 @@ ghost use Rattle.gd_wire.specs.Attributes.{other_attribute, no_more_attributes};
 ghost use Rattle.gd_wire.specs.Readings.{Gives, value_of, from_place};
 ghost use Rattle.gd_wire.specs.Attributes.{short_text, long_text};
 
-use crate::faults::fault;
-use crate::readers::Reader;
 use byteorder::{BigEndian, ByteOrder};
 use group_terms::{NoMemory, Octets, WireFault, WireWhat};
+use wire_reader::{Reader, fault};
 
 /// The bit of the short form.
 const SHORT_FORM: u16 = 0x8000;
@@ -40,95 +39,93 @@ pub struct AttributeType {
     pub is_short: bool,
 }
 
-impl<'a> Reader<'a> {
-    /// The type of the next attribute; else `Short`.
-    #[tactic(auto, unfolding(crate::specs::Attributes::attribute_type))]
-    pub fn attribute_type(&mut self) -> Result<AttributeType, WireFault>
-        ensures { Gives result self.new (attribute_type self.old) }
-    {
-        let number = self.number()?;
-        Ok(AttributeType {
-            kind: number % SHORT_FORM,
-            is_short: number >= SHORT_FORM,
-        })
-    }
+/// The type of the next attribute; else `Short`.
+#[tactic(auto, unfolding(crate::specs::Attributes::attribute_type))]
+pub fn attribute_type(reader: &mut Reader) -> Result<AttributeType, WireFault>
+    ensures { Gives result reader.new (attribute_type reader.old) }
+{
+    let number = reader.number()?;
+    Ok(AttributeType {
+        kind: number % SHORT_FORM,
+        is_short: number >= SHORT_FORM,
+    })
+}
 
-    /// The value of an attribute in the long form, as a text of its own; else `Short`.
-    #[tactic(auto, unfolding(crate::specs::Attributes::long_value))]
-    pub fn long_value(&mut self) -> Result<Reader<'a>, WireFault>
-        ensures { Gives result self.new (long_value self.old) }
-    {
-        let size = usize::from(self.number()?);
-        let at = self.here();
-        let value = self.part(size, WireWhat::Short, at)?;
-        Ok(value)
-    }
+/// The value of an attribute in the long form, as a text of its own; else `Short`.
+#[tactic(auto, unfolding(crate::specs::Attributes::long_value))]
+pub fn long_value<'a>(reader: &mut Reader<'a>) -> Result<Reader<'a>, WireFault>
+    ensures { Gives result reader.new (long_value reader.old) }
+{
+    let size = usize::from(reader.number()?);
+    let at = reader.here();
+    let value = reader.part(size, WireWhat::Short, at)?;
+    Ok(value)
+}
 
-    #[tactic(auto, unfolding(crate::specs::Attributes::short_value))]
-    fn short_value(&mut self) -> Result<AttrValue, WireFault>
-        ensures { Gives result self.new (short_value self.old) }
-    {
-        let number = self.number()?;
-        Ok(AttrValue::Short { number })
-    }
+#[tactic(auto, unfolding(crate::specs::Attributes::short_value))]
+fn short_value(reader: &mut Reader) -> Result<AttrValue, WireFault>
+    ensures { Gives result reader.new (short_value reader.old) }
+{
+    let number = reader.number()?;
+    Ok(AttrValue::Short { number })
+}
 
-    #[tactic(auto, unfolding(crate::specs::Attributes::long_place))]
-    fn long_place(&mut self) -> Result<AttrValue, WireFault>
-        ensures { Gives result self.new (long_place self.old) }
-    {
-        let value = self.long_value()?;
-        Ok(AttrValue::Long {
-            start: value.place(),
-            length: value.left().len(),
-        })
-    }
+#[tactic(auto, unfolding(crate::specs::Attributes::long_place))]
+fn long_place(reader: &mut Reader) -> Result<AttrValue, WireFault>
+    ensures { Gives result reader.new (long_place reader.old) }
+{
+    let value = long_value(reader)?;
+    Ok(AttrValue::Long {
+        start: value.place(),
+        length: value.left().len(),
+    })
+}
 
-    /// The next attribute; else `Short`, where the first field that is missing would begin.
-    #[tactic(auto, unfolding(crate::specs::Attributes::attribute))]
-    pub fn attribute(&mut self) -> Result<Attribute, WireFault>
-        ensures { Gives result self.new (attribute self.old) }
-    {
-        let attribute_type = self.attribute_type()?;
-        let value = if attribute_type.is_short {
-            self.short_value()?
-        } else {
-            self.long_place()?
-        };
-        Ok(Attribute {
-            kind: attribute_type.kind,
-            value,
-            next: self.place(),
-        })
-    }
+/// The next attribute; else `Short`, where the first field that is missing would begin.
+#[tactic(auto, unfolding(crate::specs::Attributes::attribute))]
+pub fn next_attribute(reader: &mut Reader) -> Result<Attribute, WireFault>
+    ensures { Gives result reader.new (attribute reader.old) }
+{
+    let attribute_type = attribute_type(reader)?;
+    let value = if attribute_type.is_short {
+        short_value(reader)?
+    } else {
+        long_place(reader)?
+    };
+    Ok(Attribute {
+        kind: attribute_type.kind,
+        value,
+        next: reader.place(),
+    })
+}
 
-    /// Whether the next two octets are the type of an attribute of this kind.
-    pub fn next_has_kind(&self, kind: u16) -> bool
-        ensures { next_has_kind kind self.now ≡ Ok (result, self.now) }
-    {
-        let left = self.left();
-        left.len() >= 2 && BigEndian::read_u16(left) % SHORT_FORM == kind
-    }
+/// Whether the next two octets are the type of an attribute of this kind.
+pub fn next_has_kind(reader: &Reader, kind: u16) -> bool
+    ensures { next_has_kind kind reader.now ≡ Ok (result, reader.now) }
+{
+    let left = reader.left();
+    left.len() >= 2 && BigEndian::read_u16(left) % SHORT_FORM == kind
+}
 
-    /// An attribute that is not awaited.
-    #[tactic(auto, unfolding(crate::specs::Attributes::other_attribute))]
-    fn other_attribute(&mut self) -> Result<(), WireFault>
-        ensures { Gives result self.new (other_attribute self.old) }
-    {
-        let at = self.here();
-        let number = self.attribute_type()?.kind;
-        Err(fault(WireWhat::Kind { number }, at))
-    }
+/// An attribute that is not awaited.
+#[tactic(auto, unfolding(crate::specs::Attributes::other_attribute))]
+fn other_attribute(reader: &mut Reader) -> Result<(), WireFault>
+    ensures { Gives result reader.new (other_attribute reader.old) }
+{
+    let at = reader.here();
+    let number = attribute_type(reader)?.kind;
+    Err(fault(WireWhat::Kind { number }, at))
+}
 
-    /// Finds that no attribute is left; else `Short` where only a part of a type is left, and `Kind` at a type.
-    #[tactic(auto, unfolding(crate::specs::Attributes::no_more_attributes))]
-    pub fn no_more_attributes(&mut self) -> Result<(), WireFault>
-        ensures { Gives result self.new (no_more_attributes self.old) }
-    {
-        if self.is_at_end() {
-            return Ok(());
-        }
-        self.other_attribute()
+/// Finds that no attribute is left; else `Short` where only a part of a type is left, and `Kind` at a type.
+#[tactic(auto, unfolding(crate::specs::Attributes::no_more_attributes))]
+pub fn no_more_attributes(reader: &mut Reader) -> Result<(), WireFault>
+    ensures { Gives result reader.new (no_more_attributes reader.old) }
+{
+    if reader.is_at_end() {
+        return Ok(());
     }
+    other_attribute(reader)
 }
 
 /// Reads the attribute at a place of a text whose first octet has the place `base` in its datagram; else `Short`, where the first field
@@ -139,8 +136,7 @@ pub fn read_attribute(text: &[u8], at: usize, base: u32) -> Result<Attribute, Wi
     ensures answer { result ≡ value_of (attribute (from_place base at text.now)) }
     ensures within { IfOk result (λ attribute. (at + 4 ≤ attribute.next) × (attribute.next ≤ length text.now)) }
 {
-    let mut reader = Reader::at_place(text, at, base);
-    reader.attribute()
+    next_attribute(&mut Reader::at_place(text, at, base))
 }
 
 /// Appends an attribute in the short form.

@@ -7,10 +7,9 @@ ghost use Rattle.gd_wire.specs.Bodies.{sequence_text, identification, identifica
 
 use crate::attributes::append;
 use crate::chains::Part;
-use crate::faults::fault;
-use crate::readers::Reader;
 use byteorder::{BigEndian, ByteOrder};
 use group_terms::{NoMemory, Octets, WireFault, WireWhat};
+use wire_reader::{Reader, fault};
 
 /// The octets of a hash.
 pub const HASH_OCTETS: usize = 32;
@@ -39,7 +38,7 @@ impl Part {
         requires small { self.now.at + 4 + self.now.length ≤ 4294967295 }
         ensures { result ≡ value_of (hash (length_place self.now) (body_cursor text.now self.now)) }
     {
-        self.reader(text).hash(self.at + 2)
+        hash(&mut self.reader(text), self.at + 2)
     }
 
     /// The octets of a nonce (RFC 2408 section 3.13): 8 to 128 of them; else `Length`, at the payload's length.
@@ -49,7 +48,7 @@ impl Part {
         ensures answer { Answers (λ octets. octets.now) result (nonce (length_place self.now) (body_cursor text.now self.now)) }
         ensures size { IfOk result (λ octets. (8 ≤ length octets.now) × (length octets.now ≤ 128)) }
     {
-        self.reader(text).nonce(self.at + 2)
+        nonce(&mut self.reader(text), self.at + 2)
     }
 
     /// The octets of a signature (RFC 2408 section 3.12): 1 to 512 of them; else `Length`, at the payload's length.
@@ -58,7 +57,7 @@ impl Part {
         requires small { self.now.at + 4 + self.now.length ≤ 4294967295 }
         ensures { Answers (λ octets. octets.now) result (signature (length_place self.now) (body_cursor text.now self.now)) }
     {
-        self.reader(text).signature(self.at + 2)
+        signature(&mut self.reader(text), self.at + 2)
     }
 
     /// The number in a SEQ payload (RFC 6407 section 5.7), of 4 octets; else `Length`, at the payload's length.
@@ -67,7 +66,7 @@ impl Part {
         requires small { self.now.at + 4 + self.now.length ≤ 4294967295 }
         ensures { result ≡ value_of (sequence (length_place self.now) (body_cursor text.now self.now)) }
     {
-        self.reader(text).sequence(self.at + 2)
+        sequence(&mut self.reader(text), self.at + 2)
     }
 
     /// What an ID payload names (RFC 2408 section 3.8); else `Short`, where a field that is missing would begin. The protocol and the port
@@ -77,78 +76,81 @@ impl Part {
         requires small { self.now.at + 4 + self.now.length ≤ 4294967295 }
         ensures { Answers (λ found. (found.id_type, found.octets.now)) result (identification (body_cursor text.now self.now)) }
     {
-        self.reader(text).identification()
+        identification_of(&mut self.reader(text))
     }
 }
 
-impl<'a> Reader<'a> {
-    /// Finds that just so many octets are left; else `Length`, at a place.
-    #[tactic(auto, unfolding(crate::specs::Bodies::due_size))]
-    fn due_size(&self, size: usize, at: u32) -> Result<(), WireFault>
-        ensures { Gives result self.now (due_size size at self.now) }
-    {
-        if self.left().len() != size {
-            return Err(fault(WireWhat::Length, at));
-        }
-        Ok(())
+/// Finds that just so many octets are left; else `Length`, at a place.
+#[tactic(auto, unfolding(crate::specs::Bodies::due_size))]
+fn due_size(reader: &Reader, size: usize, at: u32) -> Result<(), WireFault>
+    ensures { Gives result reader.now (due_size size at reader.now) }
+{
+    if reader.left().len() != size {
+        return Err(fault(WireWhat::Length, at));
     }
+    Ok(())
+}
 
-    /// All octets, at least and at most so many; else `Length`, at a place.
-    #[tactic(auto, unfolding(crate::specs::Bodies::sized))]
-    fn sized(&mut self, least: usize, most: usize, at: u32) -> Result<&'a [u8], WireFault>
-        ensures shows { Shows (λ octets. octets.now) result self.new (sized least most at self.old) }
-        ensures size { IfOk result (λ octets. (least ≤ length octets.now) × (length octets.now ≤ most)) }
-    {
-        let left = self.left().len();
-        if left < least || left > most {
-            return Err(fault(WireWhat::Length, at));
-        }
-        Ok(self.rest())
+/// All octets, at least and at most so many; else `Length`, at a place.
+#[tactic(auto, unfolding(crate::specs::Bodies::sized))]
+fn sized<'a>(
+    reader: &mut Reader<'a>,
+    least: usize,
+    most: usize,
+    at: u32,
+) -> Result<&'a [u8], WireFault>
+    ensures shows { Shows (λ octets. octets.now) result reader.new (sized least most at reader.old) }
+    ensures size { IfOk result (λ octets. (least ≤ length octets.now) × (length octets.now ≤ most)) }
+{
+    let left = reader.left().len();
+    if left < least || left > most {
+        return Err(fault(WireWhat::Length, at));
     }
+    Ok(reader.rest())
+}
 
-    #[tactic(auto, unfolding(crate::specs::Bodies::hash))]
-    fn hash(&mut self, at: u32) -> Result<[u8; HASH_OCTETS], WireFault>
-        ensures { Gives result self.new (hash at self.old) }
-    {
-        self.due_size(HASH_OCTETS, at)?;
-        self.array()
-    }
+#[tactic(auto, unfolding(crate::specs::Bodies::hash))]
+fn hash(reader: &mut Reader, at: u32) -> Result<[u8; HASH_OCTETS], WireFault>
+    ensures { Gives result reader.new (hash at reader.old) }
+{
+    due_size(reader, HASH_OCTETS, at)?;
+    reader.array()
+}
 
-    #[tactic(auto, unfolding(crate::specs::Bodies::nonce))]
-    fn nonce(&mut self, at: u32) -> Result<&'a [u8], WireFault>
-        ensures shows { Shows (λ octets. octets.now) result self.new (nonce at self.old) }
-        ensures size { IfOk result (λ octets. (8 ≤ length octets.now) × (length octets.now ≤ 128)) }
-    {
-        self.sized(8, 128, at)
-    }
+#[tactic(auto, unfolding(crate::specs::Bodies::nonce))]
+fn nonce<'a>(reader: &mut Reader<'a>, at: u32) -> Result<&'a [u8], WireFault>
+    ensures shows { Shows (λ octets. octets.now) result reader.new (nonce at reader.old) }
+    ensures size { IfOk result (λ octets. (8 ≤ length octets.now) × (length octets.now ≤ 128)) }
+{
+    sized(reader, 8, 128, at)
+}
 
-    #[tactic(auto, unfolding(crate::specs::Bodies::signature))]
-    fn signature(&mut self, at: u32) -> Result<&'a [u8], WireFault>
-        ensures { Shows (λ octets. octets.now) result self.new (signature at self.old) }
-    {
-        self.sized(1, 512, at)
-    }
+#[tactic(auto, unfolding(crate::specs::Bodies::signature))]
+fn signature<'a>(reader: &mut Reader<'a>, at: u32) -> Result<&'a [u8], WireFault>
+    ensures { Shows (λ octets. octets.now) result reader.new (signature at reader.old) }
+{
+    sized(reader, 1, 512, at)
+}
 
-    #[tactic(auto, unfolding(crate::specs::Bodies::sequence))]
-    fn sequence(&mut self, at: u32) -> Result<u32, WireFault>
-        ensures { Gives result self.new (sequence at self.old) }
-    {
-        self.due_size(4, at)?;
-        self.long_number()
-    }
+#[tactic(auto, unfolding(crate::specs::Bodies::sequence))]
+fn sequence(reader: &mut Reader, at: u32) -> Result<u32, WireFault>
+    ensures { Gives result reader.new (sequence at reader.old) }
+{
+    due_size(reader, 4, at)?;
+    reader.long_number()
+}
 
-    #[tactic(auto, unfolding(crate::specs::Bodies::identification))]
-    fn identification(&mut self) -> Result<Identification<'a>, WireFault>
-        ensures { Shows (λ found. (found.id_type, found.octets.now)) result self.new (identification self.old) }
-    {
-        let id_type = self.octet()?;
-        self.octet()?;
-        self.number()?;
-        Ok(Identification {
-            id_type,
-            octets: self.rest(),
-        })
-    }
+#[tactic(auto, unfolding(crate::specs::Bodies::identification))]
+fn identification_of<'a>(reader: &mut Reader<'a>) -> Result<Identification<'a>, WireFault>
+    ensures { Shows (λ found. (found.id_type, found.octets.now)) result reader.new (identification reader.old) }
+{
+    let id_type = reader.octet()?;
+    reader.octet()?;
+    reader.number()?;
+    Ok(Identification {
+        id_type,
+        octets: reader.rest(),
+    })
 }
 
 /// Appends the body of a SEQ payload (RFC 6407 section 5.7).

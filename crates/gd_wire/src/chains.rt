@@ -1,17 +1,15 @@
 //! Payloads one after the other.
-ghost use Rattle.std.specs.Prelude.{◌≡◌, ℕ, List, ◌+◌, ◌≤◌, ◌<◌, ◌==◌, ◌++◌, [], ◌∷◌, length, not, OnOk, OnErr, IfOk, IfErr, IfSome, All};
-ghost use Rattle.std.specs.List.{position};
+ghost use Rattle.std.specs.Prelude.{◌≡◌, ℕ, List, ◌+◌, ◌≤◌, ◌<◌, ◌++◌, [], ◌∷◌, length, OnOk, OnErr, IfOk, IfErr, All};
 ghost use Rattle.gd_wire.specs.Readings.{Cursor, Gives, value_of, from_start};
-ghost use Rattle.gd_wire.specs.Chains.{due_named, named_first, payload, padding_end, chain_end, chain, payload_text};
+ghost use Rattle.gd_wire.specs.Chains.{due_named, named_first, payload, chain_end, chain, payload_text};
 ghost use Rattle.gd_wire.specs.Chains.{PartFits, GoesThrough, body_of};
 
 use crate::attributes::append;
-use crate::faults::fault;
-use crate::readers::Reader;
 use arrayvec::ArrayVec;
 use byteorder::{BigEndian, ByteOrder};
 use group_terms::{NoMemory, Octets, WireFault, WireWhat};
 use std::marker::Model;
+use wire_reader::{Reader, fault};
 
 /// How many payloads a chain has at the most.
 pub const MOST_PAYLOADS: usize = 8;
@@ -104,8 +102,7 @@ pub fn read_chain(first: u8, due: &[u8], text: &[u8], base: u32) -> Result<Chain
     ensures within { IfOk result (λ parts. All (PartFits text.now base) parts) }
     ensures before { IfErr result (λ error. All (PartFits text.now base) error.before) }
 {
-    let mut reader = Reader::new(text, base);
-    reader.chain(first, due)
+    chain_of(&mut Reader::new(text, base), first, due)
 }
 
 /// The kind that was named for the next payload, 0 for none, and the place in the datagram of the octet that names it.
@@ -135,99 +132,79 @@ impl Named {
     }
 }
 
-impl<'a> Reader<'a> {
-    /// A chain of just these kinds.
-    fn chain(&mut self, first: u8, due: &[u8]) -> Result<Chain, ChainFault>
-        requires { length due.now ≤ MOST_PAYLOADS }
-        ensures { result ≡ chain first due.now self.old }
-    {
-        let mut named = Named::first(first);
-        let mut before = Chain::new();
-        for kind in due {
-            match self.next_payload(*kind, named) {
-                Ok((part, next)) => {
-                    before.push(part);
-                    named = next;
-                }
-                Err(fault) => return Err(ChainFault { fault, before }),
+/// A chain of just these kinds.
+fn chain_of(reader: &mut Reader, first: u8, due: &[u8]) -> Result<Chain, ChainFault>
+    requires { length due.now ≤ MOST_PAYLOADS }
+    ensures { result ≡ chain first due.now reader.old }
+{
+    let mut named = Named::first(first);
+    let mut before = Chain::new();
+    for kind in due {
+        match next_payload(reader, *kind, named) {
+            Ok((part, next)) => {
+                before.push(part);
+                named = next;
             }
-        }
-        match self.chain_end(named) {
-            Ok(()) => Ok(before),
-            Err(fault) => Err(ChainFault { fault, before }),
+            Err(fault) => return Err(ChainFault { fault, before }),
         }
     }
-
-    /// A payload of this kind, whose kind was named before (RFC 2408 section 3.2): where it is, and what it names; goes on after its body.
-    /// Else its first fault: `Kind` where another kind was named, `Short` where its header is not whole, `Reserved`, and `Length` where its
-    /// length is less than its header or leads out of the text.
-    pub fn payload(&mut self, kind: u8, named: Named) -> Result<(Part, Named), WireFault>
-        ensures gives { Gives result self.new (payload kind named self.old) }
-        ensures lies { (text : List ℕ) (base : ℕ) → GoesThrough text base self.old →
-            IfOk result (λ read. PartFits text base read.0 × GoesThrough text base self.new) }
-        ensures rises { IfOk result (λ read. self.old.at ≤ self.new.at) }
-    {
-        self.next_payload(kind, named)
-    }
-
-    #[tactic(auto, unfolding(crate::specs::Chains::payload))]
-    fn next_payload(&mut self, kind: u8, named: Named) -> Result<(Part, Named), WireFault>
-        ensures { Gives result self.new (payload kind named self.old) }
-    {
-        named.due(kind)?;
-        let at = self.here();
-        if self.left().len() < HEADER {
-            return Err(fault(WireWhat::Short, at));
-        }
-        let next = self.octet()?;
-        self.due_octet(0, WireWhat::Reserved)?;
-        let length_at = self.here();
-        let size = usize::from(self.number()?);
-        if size < HEADER {
-            return Err(fault(WireWhat::Length, length_at));
-        }
-        let start = self.place();
-        let length = size - HEADER;
-        self.part(length, WireWhat::Length, length_at)?;
-        let part = Part {
-            kind,
-            at,
-            start,
-            length,
-        };
-        Ok((part, Named { kind: next, at }))
-    }
-
-    /// Finds that no payload was named, and that zeros alone fill a block (RFC 2409 appendix B). Else the first fault: `Kind` where one was
-    /// named, `Length` where 16 octets or more are left, and `Padding` at the first octet that is not zero.
-    #[tactic(auto, unfolding(crate::specs::Chains::chain_end))]
-    pub fn chain_end(&self, named: Named) -> Result<(), WireFault>
-        ensures { result ≡ value_of (chain_end named self.now) }
-    {
-        named.due(0)?;
-        if self.left().len() >= BLOCK {
-            return Err(fault(WireWhat::Length, self.here()));
-        }
-        self.padding_end()
-    }
-
-    /// Zeros alone are left.
-    fn padding_end(&self) -> Result<(), WireFault>
-        ensures { result ≡ value_of (padding_end self.now) }
-    {
-        match first_other(self.left()) {
-            Some(other) => Err(fault(WireWhat::Padding, self.here_after(other))),
-            None => Ok(()),
-        }
+    match chain_end(reader, named) {
+        Ok(()) => Ok(before),
+        Err(fault) => Err(ChainFault { fault, before }),
     }
 }
 
-/// Where the first octet stands that is not zero.
-fn first_other(octets: &[u8]) -> Option<usize>
-    ensures place { result ≡ position (λ octet. not (octet == 0)) octets.now }
-    ensures within { IfSome result (λ place. place < length octets.now) }
+/// A payload of this kind, whose kind was named before (RFC 2408 section 3.2): where it is, and what it names; goes on after its body.
+/// Else its first fault: `Kind` where another kind was named, `Short` where its header is not whole, `Reserved`, and `Length` where its
+/// length is less than its header or leads out of the text.
+pub fn payload(reader: &mut Reader, kind: u8, named: Named) -> Result<(Part, Named), WireFault>
+    ensures gives { Gives result reader.new (payload kind named reader.old) }
+    ensures lies { (text : List ℕ) (base : ℕ) → GoesThrough text base reader.old →
+        IfOk result (λ read. PartFits text base read.0 × GoesThrough text base reader.new) }
+    ensures rises { IfOk result (λ read. reader.old.at ≤ reader.new.at) }
 {
-    octets.iter().position(|octet| *octet != 0)
+    next_payload(reader, kind, named)
+}
+
+#[tactic(auto, unfolding(crate::specs::Chains::payload))]
+fn next_payload(reader: &mut Reader, kind: u8, named: Named) -> Result<(Part, Named), WireFault>
+    ensures { Gives result reader.new (payload kind named reader.old) }
+{
+    named.due(kind)?;
+    let at = reader.here();
+    if reader.left().len() < HEADER {
+        return Err(fault(WireWhat::Short, at));
+    }
+    let next = reader.octet()?;
+    reader.due_octet(0, WireWhat::Reserved)?;
+    let length_at = reader.here();
+    let size = usize::from(reader.number()?);
+    if size < HEADER {
+        return Err(fault(WireWhat::Length, length_at));
+    }
+    let start = reader.place();
+    let length = size - HEADER;
+    reader.part(length, WireWhat::Length, length_at)?;
+    let part = Part {
+        kind,
+        at,
+        start,
+        length,
+    };
+    Ok((part, Named { kind: next, at }))
+}
+
+/// Finds that no payload was named, and that zeros alone fill a block (RFC 2409 appendix B). Else the first fault: `Kind` where one was
+/// named, `Length` where 16 octets or more are left, and `Padding` at the first octet that is not zero.
+#[tactic(auto, unfolding(crate::specs::Chains::chain_end))]
+pub fn chain_end(reader: &Reader, named: Named) -> Result<(), WireFault>
+    ensures { result ≡ value_of (chain_end named reader.now) }
+{
+    named.due(0)?;
+    if reader.left().len() >= BLOCK {
+        return Err(fault(WireWhat::Length, reader.here()));
+    }
+    reader.padding_end()
 }
 
 /// Appends a payload: the kind of the next one or 0, and a body (RFC 2408 section 3.2).

@@ -4,11 +4,10 @@ ghost use Rattle.gd_wire.specs.Readings.{Gives, value_of, from_start};
 ghost use Rattle.gd_wire.specs.Headers.{header_text, header, header_fields, message_id, told_length};
 ghost use Rattle.gd_wire.specs.Headers.{suits_exchange, is_due_length, HasPayloads};
 
-use crate::faults::fault;
-use crate::readers::Reader;
 use arrayvec::ArrayVec;
 use byteorder::{BigEndian, ByteOrder};
 use group_terms::{WireFault, WireWhat};
+use wire_reader::{Reader, fault};
 
 /// The size of a header.
 const HEADER: usize = 28;
@@ -57,56 +56,54 @@ fn header_of(datagram: &[u8], exchange: u8) -> Result<Header, WireFault>
     if size > MOST {
         return Err(fault(WireWhat::Length, MOST as u32));
     }
-    Reader::new(datagram, 0).header_fields(exchange, size)
+    header_fields(&mut Reader::new(datagram, 0), exchange, size)
 }
 
-impl<'a> Reader<'a> {
-    /// The fields of a header of a datagram of so many octets.
-    #[tactic(auto, unfolding(crate::specs::Headers::header_fields))]
-    fn header_fields(&mut self, exchange: u8, size: usize) -> Result<Header, WireFault>
-        ensures { Gives result self.new (header_fields exchange size self.old) }
-    {
-        let cookies = self.array()?;
-        let next = self.octet()?;
-        self.due_octet(0x10, WireWhat::Version)?;
-        let kind = self.due_kind(&[exchange])?;
-        self.due_octet(0x01, WireWhat::Value)?;
-        let message = self.message_id(exchange)?;
-        let length = self.told_length(size)?;
-        Ok(Header {
-            cookies,
-            next,
-            exchange: kind,
-            message,
-            length,
-        })
-    }
+/// The fields of a header of a datagram of so many octets.
+#[tactic(auto, unfolding(crate::specs::Headers::header_fields))]
+fn header_fields(reader: &mut Reader, exchange: u8, size: usize) -> Result<Header, WireFault>
+    ensures { Gives result reader.new (header_fields exchange size reader.old) }
+{
+    let cookies = reader.array()?;
+    let next = reader.octet()?;
+    reader.due_octet(0x10, WireWhat::Version)?;
+    let kind = reader.due_kind(&[exchange])?;
+    reader.due_octet(0x01, WireWhat::Value)?;
+    let message = message_id(reader, exchange)?;
+    let length = told_length(reader, size)?;
+    Ok(Header {
+        cookies,
+        next,
+        exchange: kind,
+        message,
+        length,
+    })
+}
 
-    /// The message id, which has to suit the exchange; else `Value`.
-    #[tactic(auto, unfolding(crate::specs::Headers::message_id))]
-    fn message_id(&mut self, exchange: u8) -> Result<[u8; 4], WireFault>
-        ensures { Gives result self.new (message_id exchange self.old) }
-    {
-        let at = self.here();
-        let message = self.array()?;
-        if !suits_exchange(exchange, BigEndian::read_u32(&message)) {
-            return Err(fault(WireWhat::Value, at));
-        }
-        Ok(message)
+/// The message id, which has to suit the exchange; else `Value`.
+#[tactic(auto, unfolding(crate::specs::Headers::message_id))]
+fn message_id(reader: &mut Reader, exchange: u8) -> Result<[u8; 4], WireFault>
+    ensures { Gives result reader.new (message_id exchange reader.old) }
+{
+    let at = reader.here();
+    let message = reader.array()?;
+    if !suits_exchange(exchange, BigEndian::read_u32(&message)) {
+        return Err(fault(WireWhat::Value, at));
     }
+    Ok(message)
+}
 
-    /// The length, which has to be that of a datagram of so many octets; else `Length`.
-    #[tactic(auto, unfolding(crate::specs::Headers::told_length))]
-    fn told_length(&mut self, size: usize) -> Result<u32, WireFault>
-        ensures { Gives result self.new (told_length size self.old) }
-    {
-        let at = self.here();
-        let told = self.long_number()?;
-        if !is_due_length(told, size) {
-            return Err(fault(WireWhat::Length, at));
-        }
-        Ok(told)
+/// The length, which has to be that of a datagram of so many octets; else `Length`.
+#[tactic(auto, unfolding(crate::specs::Headers::told_length))]
+fn told_length(reader: &mut Reader, size: usize) -> Result<u32, WireFault>
+    ensures { Gives result reader.new (told_length size reader.old) }
+{
+    let at = reader.here();
+    let told = reader.long_number()?;
+    if !is_due_length(told, size) {
+        return Err(fault(WireWhat::Length, at));
     }
+    Ok(told)
 }
 
 /// Whether a message id suits an exchange: that of a pull is not zero, that of a push is; of others nothing is asked.

@@ -2,11 +2,13 @@
 #![tactic(auto)]
 
 pub use attributes::{
-    AttrValue, Attribute, AttributeType, read_attribute, write_long, write_short,
+    AttrValue, Attribute, AttributeType, attribute_type, long_value, next_attribute, next_has_kind,
+    no_more_attributes, read_attribute, write_long, write_short,
 };
 pub use bodies::{HASH_OCTETS, Identification, write_identification, write_sequence};
-pub use chains::{Chain, ChainFault, MOST_PAYLOADS, Named, Part, read_chain, write_payload};
-pub use faults::fault;
+pub use chains::{
+    Chain, ChainFault, MOST_PAYLOADS, Named, Part, chain_end, payload, read_chain, write_payload,
+};
 pub use group_terms::{WireFault, WireWhat};
 pub use headers::{Header, read_header, write_header};
 pub use laws::{
@@ -16,17 +18,15 @@ pub use laws::{
     what_is_read_can_be_written, written_payloads_are_read,
 };
 pub use payloads::{write_padding, write_payload_head};
-pub use readers::Reader;
 pub use rooms::Room;
 pub use text_laws::{a_payload_is_its_head_and_its_body, written_framing_is_octets};
+pub use wire_reader::{Reader, fault};
 
 mod attributes;
 mod bodies;
 mod chains;
-mod faults;
 mod headers;
 mod laws;
 mod payloads;
-mod readers;
 mod rooms;
 mod text_laws;

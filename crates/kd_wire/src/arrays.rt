@@ -9,7 +9,7 @@ ghost use Rattle.kd_wire.specs.Private.Seen.{seen_after, with_seen, found_after,
 use crate::keys::{KEY_SIZE, given_key};
 use crate::spans::UpdateSpan;
 use crate::updates::{SealedKeys, UpdateArray, UpdateKey};
-use gd_wire::{Reader, fault};
+use gd_wire::{Reader, attribute_type, fault, long_value, next_attribute, next_has_kind};
 use group_terms::{LkhId, WireFault, WireWhat};
 
 /// The kinds of attributes: arrays, and one that is passed over.
@@ -57,7 +57,7 @@ pub(crate) fn long_type(kinds: &[u16], text: &mut Reader<'_>) -> Result<u16, Wir
     ensures { Gives result text.new (long_type kinds.now text.old) }
 {
     let at = text.here();
-    let attribute = text.attribute_type()?;
+    let attribute = attribute_type(text)?;
     let number = attribute.kind;
     if !kinds.contains(&number) || attribute.is_short {
         return Err(fault(WireWhat::Kind { number }, at));
@@ -71,10 +71,10 @@ pub(crate) fn signature_keys(text: &mut Reader<'_>) -> Result<(), WireFault>
     ensures { Gives result text.new (signature_keys text.old) }
 {
     for _ in 0..text.octets_left() {
-        if !text.next_has_kind(SIGNATURE_KEY) {
+        if !next_has_kind(text, SIGNATURE_KEY) {
             return Ok(());
         }
-        text.attribute()?;
+        next_attribute(text)?;
     }
     Ok(())
 }
@@ -185,7 +185,7 @@ fn update_attribute<'a>(
 {
     long_type(&[UPDATE_ARRAY], text)?;
     let length_at = text.here();
-    let mut value = text.long_value()?;
+    let mut value = long_value(text)?;
     update_array(handle, length_at, &mut value)
 }
 

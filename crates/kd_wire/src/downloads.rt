@@ -4,7 +4,7 @@ ghost use Rattle.kd_wire.specs.Arrays.{download_array, download};
 
 use crate::arrays::{ArrayKind, DOWNLOAD_ARRAY, array_head, long_type, signature_keys};
 use crate::keys::path_keys;
-use gd_wire::Reader;
+use gd_wire::{Reader, long_value, no_more_attributes};
 use group_terms::{Path, WireFault};
 
 /// Reads a download array whose length stands at this place.
@@ -24,9 +24,9 @@ pub(crate) fn download(text: &mut Reader<'_>) -> Result<Path, WireFault>
     signature_keys(text)?;
     long_type(&[DOWNLOAD_ARRAY], text)?;
     let length_at = text.here();
-    let mut value = text.long_value()?;
+    let mut value = long_value(text)?;
     let path = download_array(length_at, &mut value)?;
     signature_keys(text)?;
-    text.no_more_attributes()?;
+    no_more_attributes(text)?;
     Ok(path)
 }

@@ -5,7 +5,7 @@ ghost use Rattle.kd_wire.specs.Traffic.{key_size, key_kind, cipher_key_first, in
 
 use crate::arrays::long_type;
 use crate::spis::spi_place;
-use gd_wire::{Reader, fault};
+use gd_wire::{Reader, fault, no_more_attributes};
 use group_terms::{KEY_OCTETS, TrafficValue, WireFault, WireWhat};
 
 /// The kinds of the attributes: the cipher's key and that for integrity.
@@ -31,7 +31,7 @@ pub(crate) fn traffic(text: &mut Reader<'_>) -> Result<(u32, TrafficValue), Wire
     let at = spi_place(SPI_SIZE, text)?;
     let spi = text.array()?;
     let (cipher_key, integrity_key) = traffic_keys(text)?;
-    text.no_more_attributes()?;
+    no_more_attributes(text)?;
     let value = TrafficValue {
         cipher_key,
         integrity_key,

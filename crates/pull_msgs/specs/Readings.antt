@@ -25,12 +25,12 @@ pub record PullRead (A : Type 0) : Type 0 where
   pub said : A
 
 -- the payload of the HASH in a text: the HASH, the place after the payload, and what it names
-unfoldable pub hash_payload : List ℕ → ℕ → Reading (List ℕ × (ℕ × Named))
+unfoldable pub hash_payload : List ℕ → ℕ → Reading (List ℕ × ℕ × Named)
 hash_payload text first = do
   part ← payload hash_kind (named_first first)
   hash ← told (value_of (bodies.hash (length_place part.0) (body_cursor text part.0)))
   after ← place
-  give (hash, (after, part.1))
+  give (hash, after, part.1)
 
 -- the end of the payloads; gives what the HASH covers, which begins at a place
 unfoldable pub covered : List ℕ → ℕ → Named → Reading (List ℕ)
@@ -54,10 +54,10 @@ pub record FirstSaid : Type 0 where
 unfoldable pub first : List ℕ → ℕ → Reading (PullRead FirstSaid)
 first text kind = do
   hash ← hash_payload text kind
-  ni ← nonce_payload text hash.1.1
+  ni ← nonce_payload text hash.2
   id ← payload identification_kind ni.1
   group ← told (value_of (bodies.identification (body_cursor text id.0)))
-  payloads ← covered text hash.1.0 id.1
+  payloads ← covered text hash.1 id.1
   give (record { hash = hash.0; covered = payloads; said = record { ni = ni.0; id_type = group.0; id = group.1 } })
 
 -- both policies; another shape is told at the first octet of the body
@@ -78,10 +78,10 @@ pub record SecondSaid : Type 0 where
 unfoldable pub second : List ℕ → ℕ → Reading (PullRead SecondSaid)
 second text kind = do
   hash ← hash_payload text kind
-  nr ← nonce_payload text hash.1.1
+  nr ← nonce_payload text hash.2
   sa ← payload sa_kind nr.1
   policy ← policies (sa.0.at + 4) (body_of text sa.0)
-  payloads ← covered text hash.1.0 sa.1
+  payloads ← covered text hash.1 sa.1
   give (record { hash = hash.0; covered = payloads; said = record { nr = nr.0; policy = policy } })
 
 -- a GAP (RFC 6407 section 5.4) or none; of what it says nothing is asked
@@ -92,8 +92,8 @@ maybe_gap named =
 unfoldable pub third : List ℕ → ℕ → Reading (PullRead (Unit {0}))
 third text kind = do
   hash ← hash_payload text kind
-  last ← maybe_gap hash.1.1
-  payloads ← covered text hash.1.0 last
+  last ← maybe_gap hash.2
+  payloads ← covered text hash.1 last
   give (record { hash = hash.0; covered = payloads; said = tt })
 
 -- the number of the last push, the traffic key, the SPI of the Rekey SA, and the keys of a path
@@ -120,12 +120,12 @@ root_made path = epoch_of_key (slice_get path (length path - 1))
 unfoldable pub fourth : List ℕ → List ℕ → ℕ → Reading (PullRead FourthSaid)
 fourth spi text kind = do
   hash ← hash_payload text kind
-  number ← payload sequence_kind hash.1.1
+  number ← payload sequence_kind hash.2
   sequence ← told (value_of (bodies.sequence (length_place number.0) (body_cursor text number.0)))
   kd ← payload kd_kind number.1
   view ← told (kd_view (kd.0.at + 4) (body_of text kd.0))
   reply ← reply_of (kd.0.at + 4) view.tek view.lkh_spi view.spis.lkh
-  payloads ← covered text hash.1.0 kd.1
+  payloads ← covered text hash.1 kd.1
   check (bytes_eq reply.1 spi) Value reply.2
   give (record {
     hash = hash.0;

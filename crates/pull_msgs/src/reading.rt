@@ -9,7 +9,7 @@ ghost use Rattle.pull_msgs.specs.Readings as readings;
 
 use crate::kinds::{GAP, HASH, HEADER, IDENTIFICATION, KD, NONCE, SA, SEQUENCE};
 use crate::nonces::Nonce;
-use gd_wire::{Identification, Named, Reader, fault};
+use gd_wire::{Identification, Named, Reader, chain_end, fault, payload};
 use group_terms::{Path, TrafficValue, WireFault, WireWhat};
 use kd_wire::{KdView, read_kd};
 use sa_wire::{SaPolicy, read_placed_sa};
@@ -43,18 +43,15 @@ pub(crate) struct FourthSaid {
 }
 
 /// Reads the payloads of the member's first message.
-#[tactic(auto, unfolding(crate::specs::Readings::first, crate::specs::Readings::hash_payload, crate::specs::Readings::nonce_payload, crate::specs::Readings::covered))]
+#[tactic(auto, unfolding(crate::specs::Readings::first, crate::specs::Readings::covered))]
 pub(crate) fn read_first(text: &[u8], first: u8) -> Result<PullRead<'_, FirstSaid<'_>>, WireFault>
     requires small { 28 + length text.now ≤ 65507 }
     ensures { Answers seen_first result (readings.first text.now first (from_start 28 text.now)) }
 {
     let mut payloads = Reader::new(text, HEADER as u32);
-    let (part, named) = payloads.payload(HASH, Named::first(first))?;
-    let hash = part.hash(text)?;
-    let start = payloads.place();
-    let (part, named) = payloads.payload(NONCE, named)?;
-    let ni = Nonce::of(part.nonce(text)?);
-    let (part, named) = payloads.payload(IDENTIFICATION, named)?;
+    let (hash, start, named) = hash_payload(&mut payloads, text, first)?;
+    let (ni, named) = nonce_payload(&mut payloads, text, named)?;
+    let (part, named) = payload(&mut payloads, IDENTIFICATION, named)?;
     let id = part.identification(text)?;
     let covered = covered(&payloads, text, start, named)?;
     let said = FirstSaid { ni, id };
@@ -66,19 +63,16 @@ pub(crate) fn read_first(text: &[u8], first: u8) -> Result<PullRead<'_, FirstSai
 }
 
 /// Reads the payloads of the server's answer.
-#[tactic(auto, unfolding(crate::specs::Readings::second, crate::specs::Readings::hash_payload, crate::specs::Readings::nonce_payload, crate::specs::Readings::covered))]
+#[tactic(auto, unfolding(crate::specs::Readings::second, crate::specs::Readings::covered))]
 pub(crate) fn read_second(text: &[u8], first: u8) -> Result<PullRead<'_, SecondSaid>, WireFault>
     requires small { 28 + length text.now ≤ 65507 }
     ensures answer { Answers seen_second result (readings.second text.now first (from_start 28 text.now)) }
     ensures policies { IfOk result (λ read. IsSome read.said.policy.kek × IsSome read.said.policy.tek) }
 {
     let mut payloads = Reader::new(text, HEADER as u32);
-    let (part, named) = payloads.payload(HASH, Named::first(first))?;
-    let hash = part.hash(text)?;
-    let start = payloads.place();
-    let (part, named) = payloads.payload(NONCE, named)?;
-    let nr = Nonce::of(part.nonce(text)?);
-    let (part, named) = payloads.payload(SA, named)?;
+    let (hash, start, named) = hash_payload(&mut payloads, text, first)?;
+    let (nr, named) = nonce_payload(&mut payloads, text, named)?;
+    let (part, named) = payload(&mut payloads, SA, named)?;
     let policy = policies(part.at + 4, part.body(text))?;
     let covered = covered(&payloads, text, start, named)?;
     let said = SecondSaid { nr, policy };
@@ -90,15 +84,13 @@ pub(crate) fn read_second(text: &[u8], first: u8) -> Result<PullRead<'_, SecondS
 }
 
 /// Reads the payloads of the member's agreement.
-#[tactic(auto, unfolding(crate::specs::Readings::third, crate::specs::Readings::hash_payload, crate::specs::Readings::covered))]
+#[tactic(auto, unfolding(crate::specs::Readings::third, crate::specs::Readings::covered))]
 pub(crate) fn read_third(text: &[u8], first: u8) -> Result<PullRead<'_, ()>, WireFault>
     requires small { 28 + length text.now ≤ 65507 }
     ensures { Answers seen_third result (readings.third text.now first (from_start 28 text.now)) }
 {
     let mut payloads = Reader::new(text, HEADER as u32);
-    let (part, named) = payloads.payload(HASH, Named::first(first))?;
-    let hash = part.hash(text)?;
-    let start = payloads.place();
+    let (hash, start, named) = hash_payload(&mut payloads, text, first)?;
     let last = maybe_gap(&mut payloads, named)?;
     let covered = covered(&payloads, text, start, last)?;
     Ok(PullRead {
@@ -109,7 +101,7 @@ pub(crate) fn read_third(text: &[u8], first: u8) -> Result<PullRead<'_, ()>, Wir
 }
 
 /// Reads the payloads of the server's keys, for the Rekey SA with this SPI.
-#[tactic(auto, unfolding(crate::specs::Readings::fourth, crate::specs::Readings::hash_payload, crate::specs::Readings::covered))]
+#[tactic(auto, unfolding(crate::specs::Readings::fourth, crate::specs::Readings::covered))]
 pub(crate) fn read_fourth<'a>(
     spi: &[u8; 16],
     text: &'a [u8],
@@ -119,12 +111,10 @@ pub(crate) fn read_fourth<'a>(
     ensures { Answers seen_fourth result (readings.fourth spi.now text.now first (from_start 28 text.now)) }
 {
     let mut payloads = Reader::new(text, HEADER as u32);
-    let (part, named) = payloads.payload(HASH, Named::first(first))?;
-    let hash = part.hash(text)?;
-    let start = payloads.place();
-    let (part, named) = payloads.payload(SEQUENCE, named)?;
+    let (hash, start, named) = hash_payload(&mut payloads, text, first)?;
+    let (part, named) = payload(&mut payloads, SEQUENCE, named)?;
     let sequence = part.sequence(text)?;
-    let (part, named) = payloads.payload(KD, named)?;
+    let (part, named) = payload(&mut payloads, KD, named)?;
     let base = part.at + 4;
     let view = read_kd(part.body(text), base)?;
     let (traffic, got, at) = reply_of(base, &view)?;
@@ -145,6 +135,42 @@ pub(crate) fn read_fourth<'a>(
     })
 }
 
+/// The HASH of the first payload, the place after that, and what it names.
+#[tactic(auto, unfolding(crate::specs::Readings::hash_payload))]
+fn hash_payload(
+    payloads: &mut Reader<'_>,
+    text: &[u8],
+    first: u8,
+) -> Result<([u8; 32], usize, Named), WireFault>
+    requires small { 28 + length text.now ≤ 65507 }
+    requires through { GoesThrough text.now 28 payloads.old }
+    ensures gives { Gives result payloads.new (readings.hash_payload text.now first payloads.old) }
+    ensures through { IfOk result (λ read. GoesThrough text.now 28 payloads.new) }
+    ensures after { IfOk result (λ read. read.1 ≡ payloads.new.at) }
+{
+    let (part, named) = payload(payloads, HASH, Named::first(first))?;
+    let hash = part.hash(text)?;
+    Ok((hash, payloads.place(), named))
+}
+
+/// The nonce of a payload, and what that names.
+#[tactic(auto, unfolding(crate::specs::Readings::nonce_payload))]
+fn nonce_payload(
+    payloads: &mut Reader<'_>,
+    text: &[u8],
+    named: Named,
+) -> Result<(Nonce, Named), WireFault>
+    requires small { 28 + length text.now ≤ 65507 }
+    requires through { GoesThrough text.now 28 payloads.old }
+    ensures gives { Gives result payloads.new (readings.nonce_payload text.now named payloads.old) }
+    ensures through { IfOk result (λ read. GoesThrough text.now 28 payloads.new) }
+    ensures rises { IfOk result (λ read. payloads.old.at ≤ payloads.new.at) }
+{
+    let (part, named) = payload(payloads, NONCE, named)?;
+    let nonce = part.nonce(text)?;
+    Ok((Nonce::of(nonce), named))
+}
+
 /// A GAP or none.
 #[tactic(auto, unfolding(crate::specs::Readings::maybe_gap))]
 fn maybe_gap(payloads: &mut Reader<'_>, named: Named) -> Result<Named, WireFault>
@@ -156,7 +182,7 @@ fn maybe_gap(payloads: &mut Reader<'_>, named: Named) -> Result<Named, WireFault
     if named.kind != GAP {
         return Ok(named);
     }
-    let (_, last) = payloads.payload(GAP, named)?;
+    let (_, last) = payload(payloads, GAP, named)?;
     Ok(last)
 }
 
@@ -172,7 +198,7 @@ fn covered<'a>(
     requires end { payloads.now.at ≤ length text.now }
     ensures { Shows (λ octets. octets.now) result payloads.now (readings.covered text.now start named payloads.now) }
 {
-    payloads.chain_end(named)?;
+    chain_end(payloads, named)?;
     Ok(&text[start..payloads.place()])
 }
 

@@ -10,7 +10,7 @@ ghost use Rattle.push_msg.specs.Readings.{there, membership_body, traffic_body, 
 use crate::bodies::OpenBody;
 use crate::kinds::{HEADER, KD, SA, SEQUENCE, SIGNATURE};
 use crate::rows::{Row, read_row};
-use gd_wire::{Named, Part, Reader, fault};
+use gd_wire::{Named, Part, Reader, chain_end, fault, payload};
 use group_terms::{SignKind, WireFault, WireWhat};
 use kd_wire::{KdView, Updates, read_kd};
 
@@ -41,16 +41,16 @@ pub(crate) fn read_push<'a>(
     ensures signed { IfOk result (λ read. read.signed ≤ length text.now) }
 {
     let mut payloads = Reader::new(text, HEADER as u32);
-    let (part, named) = payloads.payload(SEQUENCE, Named::first(first))?;
+    let (part, named) = payload(&mut payloads, SEQUENCE, Named::first(first))?;
     let sequence = part.sequence(text)?;
-    let (part, named) = payloads.payload(SA, named)?;
+    let (part, named) = payload(&mut payloads, SA, named)?;
     let row = read_row(spi, sign, part.at + 4, part.body(text))?;
-    let (keys, named) = payloads.payload(KD, named)?;
+    let (keys, named) = payload(&mut payloads, KD, named)?;
     let body = read_keys(row, keys.at + 4, keys.body(text))?;
     let signed = payloads.place();
-    let (part, named) = payloads.payload(SIGNATURE, named)?;
+    let (part, named) = payload(&mut payloads, SIGNATURE, named)?;
     let signature = part.signature(text)?;
-    payloads.chain_end(named)?;
+    chain_end(&payloads, named)?;
     Ok(PushRead {
         sequence,
         body,

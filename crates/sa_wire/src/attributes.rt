@@ -8,7 +8,7 @@ ghost use Rattle.sa_wire.specs.Attributes.{taken_number, taken_octets, due_attri
 
 use crate::rules::{MOST_RULES, Rule};
 use arrayvec::ArrayVec;
-use gd_wire::{Reader, fault};
+use gd_wire::{Reader, attribute_type, fault, no_more_attributes};
 use group_terms::{WireFault, WireWhat};
 
 /// An attribute that was found: its kind, its number in the short form, else 0, and the place in the datagram of what comes after its type,
@@ -36,7 +36,7 @@ pub(crate) fn read_attributes(
         let attribute = read_due_attribute(&mut due, text)?;
         found.push(attribute);
     }
-    text.no_more_attributes()?;
+    no_more_attributes(text)?;
     Ok(found)
 }
 
@@ -50,7 +50,7 @@ fn read_due_attribute(
     ensures due { IfOk result (λ found. due.new.items ≡ without found.kind due.old.items) }
 {
     let at = text.here();
-    let attribute_type = text.attribute_type()?;
+    let attribute_type = attribute_type(text)?;
     let number = attribute_type.kind;
     let Some(rule) = take_rule(due, number) else {
         return Err(fault(WireWhat::Kind { number }, at));

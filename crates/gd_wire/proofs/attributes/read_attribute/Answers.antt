@@ -7,6 +7,6 @@ use Rattle.gd_wire.proofs.attributes.read_attribute.Goals as goal
 
 pub returns-clause-within : goal.returns-clause-within
 returns-clause-within c =
-    attribute_within c.args.text.now c.args.at c.args.base c.requires.within c.attribute.result
-    (gives_value c.attribute.result c.attribute.new.self _ c.attribute.ensures ∙ ap (λ reader. value_of (attribute reader))
-    c.at_place-reader.ensures)
+    attribute_within c.args.text.now c.args.at c.args.base c.requires.within c.next_attribute.result
+    (gives_value c.next_attribute.result c.next_attribute.new.reader _ c.next_attribute.ensures ∙ ap (λ reader. value_of (attribute reader))
+    c.at_place.ensures)

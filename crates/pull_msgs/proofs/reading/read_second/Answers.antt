@@ -2,10 +2,11 @@
 use Rattle.pull_msgs.proofs.PartLemmas.{at_start, body_small}
 use Rattle.pull_msgs.proofs.reading.read_second.Goals as goal
 
+pub hash_payload-requires-clause-through : goal.hash_payload-requires-clause-through
+hash_payload-requires-clause-through c = at_start c.args.text.now 28 c.new-payloads.result c.new-payloads.ensures
+
 pub policies-requires : goal.policies-requires
 policies-requires c =
     let text = c.args.text.now in
-    let one = c.in_ok-part.ensures.lies text 28 (at_start text 28 c.new-payloads.result c.new-payloads.ensures) in
-    let two = c.in_ok-part-2.ensures.lies text 28 one.1 in
-    let three = c.in_ok-part-3.ensures.lies text 28 two.1 in
-    record { small = body_small text c.body.result.now c.in_ok-part-3.part c.requires.small three.0 c.body.ensures }
+    let there = c.in_ok-part.ensures.lies text 28 c.in_ok-nr.ensures.through in
+    record { small = body_small text c.body.result.now c.in_ok-part.part c.requires.small there.0 c.body.ensures }

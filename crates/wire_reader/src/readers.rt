@@ -1,7 +1,8 @@
 //! A cursor over the octets of a text: its fields are read one after the other.
-ghost use Rattle.std.specs.Prelude.{◌≡◌, ◌+◌, ◌≤◌, ◌↔◌, [], length, IsTrue, IfOk, Ok};
-ghost use Rattle.gd_wire.specs.Readings.{Gives, Shows, from_start, from_place, octets_left, part, octets, rest, octet, number, long_number};
-ghost use Rattle.gd_wire.specs.Readings.{due_octet, due_number, due_long_number, due_kind, due_long_kind, end, section};
+ghost use Rattle.std.specs.Prelude.{◌≡◌, ◌+◌, ◌≤◌, ◌<◌, ◌==◌, ◌↔◌, [], length, not, IsTrue, IfOk, IfSome, Ok};
+ghost use Rattle.std.specs.List.{position};
+ghost use Rattle.wire_reader.specs.Readings.{Gives, Shows, value_of, from_start, from_place, octets_left, part, octets, rest, octet, number, long_number};
+ghost use Rattle.wire_reader.specs.Readings.{due_octet, due_number, due_long_number, due_kind, due_long_kind, end, padding_end, section};
 
 use crate::faults::fault;
 use byteorder::{BigEndian, ByteOrder};
@@ -24,7 +25,7 @@ pub struct Reader<'a> {
 
 impl<'a> Model for Reader<'a> {
     ghost use Rattle.std.specs.Prelude.{◌+◌, ◌≤◌, length};
-    ghost use Rattle.gd_wire.specs.Readings.{Cursor};
+    ghost use Rattle.wire_reader.specs.Readings.{Cursor};
 
     ghost Value = { Cursor };
 
@@ -239,6 +240,16 @@ impl<'a> Reader<'a> {
         Ok(())
     }
 
+    /// Finds that zeros alone are left; else `Padding`, at the first octet that is none.
+    pub fn padding_end(&self) -> Result<(), WireFault>
+        ensures { result ≡ value_of (padding_end self.now) }
+    {
+        match first_other(self.left) {
+            Some(other) => Err(fault(WireWhat::Padding, self.here_after(other))),
+            None => Ok(()),
+        }
+    }
+
     /// A section, whose kind has to be one of these, its own or that of the next one: the kind and the body. Else its first fault: `Short`
     /// where a field is not whole, `Kind`, `Reserved` where the reserved octet is not zero, and `Length` where the length is less than the
     /// header or leads out of the text.
@@ -274,4 +285,12 @@ impl<'a> Reader<'a> {
     {
         self.base + (self.at + size) as u32
     }
+}
+
+/// Where the first octet stands that is not zero.
+fn first_other(octets: &[u8]) -> Option<usize>
+    ensures place { result ≡ position (λ octet. not (octet == 0)) octets.now }
+    ensures within { IfSome result (λ place. place < length octets.now) }
+{
+    octets.iter().position(|octet| *octet != 0)
 }

@@ -1,13 +1,13 @@
 -- How the octets of a text are read: one field after the other. Each reading gives a value and the place where the next one goes on, or the
 -- first fault. A grammar is a list of readings, each line of which goes on where the line before it ended.
-use Rattle.std.specs.Prelude.{◌≡◌, ℕ, ◌+◌, ◌-◌, ◌==◌, nat_le, Bool, List, length, take, drop, slice_index_or, Result, Ok, Err}
+use Rattle.std.specs.Prelude.{◌≡◌, ℕ, ◌+◌, ◌-◌, ◌==◌, nat_le, not, Bool, List, length, take, drop, slice_index_or, Option, None, Some, Result, Ok, Err}
 use Rattle.std.specs.Prelude.{if◌then◌else◌}
-use Rattle.std.specs.List.{list_any}
+use Rattle.std.specs.List.{list_any, position}
 use Rattle.byteorder.specs.Endian.{big_from}
 use Rattle.group_terms.specs.declared.wires.WireFault.{WireFault}
 use Rattle.group_terms.specs.declared.wires.WireWhat.{WireWhat}
-use Rattle.group_terms.specs.declared.wires.WireWhat.TheVariants.{Short, Length, Reserved, Kind}
-use Rattle.gd_wire.specs.Faults.{fault_at}
+use Rattle.group_terms.specs.declared.wires.WireWhat.TheVariants.{Short, Length, Reserved, Padding, Kind}
+use Rattle.wire_reader.specs.Faults.{fault_at}
 
 -- What is left of a text: its place in the text, whose first octet has the place `base` in the datagram, and the octets from there on.
 pub record Cursor : Type 0 where
@@ -110,6 +110,18 @@ octets size = do
 -- all octets that are left
 abbrev pub rest : Reading (List ℕ)
 rest cursor = Ok (cursor.left, after (length cursor.left) cursor)
+
+-- the first octet that is no zero is wrong, where there is one
+abbrev pub no_other : ℕ → Option ℕ → Reading (Unit {0})
+no_other at None = give tt
+no_other at (Some other) = fail Padding (at + other)
+
+-- padding has zeros alone (RFC 2409 appendix B)
+abbrev pub padding_end : Reading (Unit {0})
+padding_end = do
+  at ← here
+  padding ← rest
+  no_other at (position (λ octet. not (octet == 0)) padding)
 
 -- an octet of a list, by its place
 abbrev pub octet_at : List ℕ → ℕ → ℕ

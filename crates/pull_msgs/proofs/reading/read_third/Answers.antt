@@ -1,0 +1,5 @@
+use Rattle.pull_msgs.proofs.PartLemmas.{at_start}
+use Rattle.pull_msgs.proofs.reading.read_third.Goals as goal
+
+pub hash_payload-requires-clause-through : goal.hash_payload-requires-clause-through
+hash_payload-requires-clause-through c = at_start c.args.text.now 28 c.new-payloads.result c.new-payloads.ensures
