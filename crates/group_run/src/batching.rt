@@ -64,6 +64,7 @@ fn close_batch<D: Disk, G: Signer, R: Draws>(alloc: Global, core: &mut Core<D, G
     let replies = match replies(alloc, core.queued(), &prepared) {
         Ok(replies) => replies,
         Err(NoMemory) => {
+            drop(prepared);
             let why = Refusal::NoMemory;
             return Answer::Refused { why };
         }
@@ -72,7 +73,10 @@ fn close_batch<D: Disk, G: Signer, R: Draws>(alloc: Global, core: &mut Core<D, G
         Ok(output) => Answer::Batched {
             output: with_replies(output, replies),
         },
-        Err(why) => Answer::Refused { why },
+        Err(why) => {
+            drop(replies);
+            Answer::Refused { why }
+        }
     }
 }
 
