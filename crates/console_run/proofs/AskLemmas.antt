@@ -20,17 +20,17 @@ use Rattle.script_text.specs.Lines.{line_of}
 use Rattle.script_text.specs.Report.{entry_text, entries_text}
 use Rattle.script_text.specs.declared.lines.Line.{Line as ScriptLine}
 use Rattle.script_text.specs.declared.lines.Line.TheVariants as lines
-use Rattle.console_run.specs.declared.stops.Stop.{Stop}
-use Rattle.console_run.specs.declared.stops.Stop.TheVariants.{Line, Source, Sink, Memory, Unreported}
-use Rattle.console_run.specs.declared.endings.Ending.{Ending}
-use Rattle.console_run.specs.declared.endings.Ending.TheVariants.{Sink as SinkEnding, Memory as MemoryEnding}
+use Rattle.run_report.specs.declared.stops.Stop.{Stop}
+use Rattle.run_report.specs.declared.stops.Stop.TheVariants.{Line, Source, Sink, Memory, Unreported}
+use Rattle.run_report.specs.declared.endings.Ending.{Ending}
+use Rattle.run_report.specs.declared.endings.Ending.TheVariants.{Sink as SinkEnding, Memory as MemoryEnding}
 use Rattle.console_run.specs.Devices.{Devices, Keying, Steps}
 use Rattle.console_run.specs.Lines.{AsksNext, BeginsToGive, GoesThrough, once}
-use Rattle.console_run.specs.Reports.{BreaksOff, Puts, ReportBreaksOff}
+use Rattle.run_report.specs.Reports.{BreaksOff, Puts, ReportBreaksOff}
 use Rattle.console_run.specs.Private.Asks.{Answers, StopsIn}
 use Rattle.console_run.specs.Private.Reports.{EntryStops}
 use Rattle.console_run.specs.Private.Runs.{ReportsUntil, Runs, Stands, Stops, begun_by_text, by_line, by_text}
-use Rattle.console_run.proofs.KnownLemmas.{Puts-entries, Puts-entry, Puts-none, ReportBreaksOff-last}
+use Rattle.run_report.proofs.KnownLemmas.{Puts-entries, Puts-entry, Puts-none, ReportBreaksOff-last}
 
 -- ---- what a request of the engine answers
 

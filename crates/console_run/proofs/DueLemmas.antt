@@ -26,8 +26,8 @@ use Rattle.group_steps.specs.Runs.{Run, with_peers}
 use Rattle.group_steps.specs.Sent.{last_push}
 use Rattle.group_steps.specs.Steps.{IsAnswered}
 use Rattle.script_text.specs.declared.lines.Line.TheVariants as lines
-use Rattle.console_run.specs.declared.stops.Stop.{Stop}
-use Rattle.console_run.specs.declared.stops.Stop.TheVariants.{Memory}
+use Rattle.run_report.specs.declared.stops.Stop.{Stop}
+use Rattle.run_report.specs.declared.stops.Stop.TheVariants.{Memory}
 use Rattle.console_run.specs.Devices.{Devices, Keying, Steps}
 use Rattle.console_run.specs.Lines.{AsksNext, GivesWhatIsDue, WasGivenLast, once}
 use Rattle.console_run.specs.Private.Asks.{Answers, StopsIn}

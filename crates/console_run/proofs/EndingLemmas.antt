@@ -1,5 +1,6 @@
 -- How a run ends.
 use Rattle.std.proofs.Common.{◌≡◌, ◌⊎◌, ℕ, ◌+◌, false, List, [], sym, refl, ap, ◌∙◌, subst, inl, inr}
+use Rattle.std.specs.Prelude.{Result, Ok, Err, IfErr, OnOk}
 use Rattle.std.proofs.KnownBytes.{Consumes-nil}
 use Rattle.std.proofs.lemmas.Bool.{false≢true}
 use Rattle.gd_edges.specs.Shown.{Shown}
@@ -9,25 +10,27 @@ use Rattle.group_model.specs.declared.entries.Asked.{Asked}
 use Rattle.group_model.specs.declared.entries.Entry.{Entry}
 use Rattle.group_model.specs.declared.entries.Refusal.{Refusal}
 use Rattle.group_model.specs.declared.entries.Refusal.TheVariants.{NoMemory}
+use Rattle.group_run.specs.Views.{View}
 use Rattle.group_steps.specs.Runs.{Run}
 use Rattle.script_text.specs.Report.{entries_text, entry_text}
-use Rattle.console_run.specs.declared.stops.Stop.TheVariants.{Line, Source as SourceStop, Sink as SinkStop, Memory as MemoryStop, Unreported}
-use Rattle.console_run.specs.declared.endings.Ending.{Ending}
-use Rattle.console_run.specs.declared.endings.Ending.TheVariants.{BadLine, Source, Sink, Memory, NotOpened}
+use Rattle.run_report.specs.declared.stops.Stop.{Stop}
+use Rattle.run_report.specs.declared.stops.Stop.TheVariants.{Line, Source as SourceStop, Sink as SinkStop, Memory as MemoryStop, Unreported}
+use Rattle.run_report.specs.declared.endings.Ending.{Ending}
+use Rattle.run_report.specs.declared.endings.Ending.TheVariants.{Whole, BadLine, Source, Sink, Memory, NotOpened}
 use Rattle.console_run.specs.Causes.{CannotOpen, CauseOf, Given, IsInParts, SourceAt}
 use Rattle.console_run.specs.Devices.{Devices, Keying}
 use Rattle.console_run.specs.Lines.{IsOpeningEntry}
 use Rattle.console_run.specs.Promises.{IsBroken, IsEnded, Streams, streams_of}
-use Rattle.console_run.specs.Reports.{LastLineEnds, Puts, ReportBreaksOff}
-use Rattle.console_run.specs.Private.Follows.{IsRunTo, IsRunUntil, RunsScript}
-use Rattle.console_run.specs.Private.Openings.{RefusalEnds, due_after}
+use Rattle.run_report.specs.Reports.{LastLineEnds, Puts, ReportBreaksOff}
+use Rattle.console_run.specs.Private.Follows.{IsOpened, IsRunTo, IsRunUntil, RunsScript}
+use Rattle.run_report.specs.Ends.{RefusalEnds, ScriptEnds, due_after}
 use Rattle.console_run.specs.Private.Runs.{IsBrokenOff, Moment, Start}
-use Rattle.console_run.proofs.KnownLemmas.{Puts-entry, Puts-none, ReportBreaksOff-one}
+use Rattle.run_report.proofs.KnownLemmas.{Puts-entry, Puts-none, ReportBreaksOff-one}
 
 module _ {D G V R : Type 0} (on : Devices D G V) (draws : DrawGhosts R) (start : Start D G) (had left : Shown) (at : Moment D G R) (entries : List Entry)
     (same : entries ≡ at.held.entries) (disk : D) (kept : disk ≡ at.held.core.disk) where
   -- the ending that was due, and its last line
-  pub ran_to : (due ending : Ending) (now : Shown) → IsRunTo on draws due start had left at → LastLineEnds due ending at.out now
+  ran_to : (due ending : Ending) (now : Shown) → IsRunTo on draws due start had left at → LastLineEnds due ending at.out now
       → RunsScript on start.by start.request start.run had left start.was now ending entries disk
   ran_to due ending now h last = record {
     given = h.given;
@@ -55,7 +58,7 @@ module _ {D G V R : Type 0} (on : Devices D G V) (draws : DrawGhosts R) (start :
     breaks = h.breaks;
   }
 
-  pub ran_into_sink : IsRunUntil on draws SinkStop start had left at
+  ran_into_sink : IsRunUntil on draws SinkStop start had left at
       → RunsScript on start.by start.request start.run had left start.was at.out Sink entries disk
   ran_into_sink h = record {
     given = h.given;
@@ -65,7 +68,7 @@ module _ {D G V R : Type 0} (on : Devices D G V) (draws : DrawGhosts R) (start :
     run = inr (broken Sink h.given h.stopped h.source);
   }
 
-  pub ran_unreported : IsRunUntil on draws Unreported start had left at
+  ran_unreported : IsRunUntil on draws Unreported start had left at
       → RunsScript on start.by start.request start.run had left start.was at.out Memory entries disk
   ran_unreported h = record {
     given = h.given;
@@ -77,15 +80,57 @@ module _ {D G V R : Type 0} (on : Devices D G V) (draws : DrawGhosts R) (start :
 
 module _ {D G V R : Type 0} (on : Devices D G V) (draws : DrawGhosts R) (start : Start D G) (had left : Shown) (at : Moment D G R) where
   -- stops after which a last line is due
-  pub due_at_line : (line : ℕ) → line ≡ at.count + 1 → IsRunUntil on draws Line start had left at → IsRunTo on draws (BadLine line) start had left at
+  due_at_line : (line : ℕ) → line ≡ at.count + 1 → IsRunUntil on draws Line start had left at → IsRunTo on draws (BadLine line) start had left at
   due_at_line line counted h = subst (λ number. IsRunTo on draws (BadLine number) start had left at) (sym counted)
       (record { given = h.given; came = h.came; source = h.source; reported = h.stopped })
 
-  pub due_at_source : IsRunUntil on draws SourceStop start had left at → IsRunTo on draws Source start had left at
+  due_at_source : IsRunUntil on draws SourceStop start had left at → IsRunTo on draws Source start had left at
   due_at_source h = record { given = h.given; came = h.came; source = h.source; reported = h.stopped }
 
-  pub due_at_memory : IsRunUntil on draws MemoryStop start had left at → IsRunTo on draws Memory start had left at
+  due_at_memory : IsRunUntil on draws MemoryStop start had left at → IsRunTo on draws Memory start had left at
   due_at_memory h = record { given = h.given; came = h.came; source = h.source; reported = h.stopped }
+
+-- ---- the ending of a script
+
+module _ {D G V R : Type 0} (on : Devices D G V) (draws : DrawGhosts R) (held : View D G R) (had left was : Shown) (at : Moment D G R) where
+  -- what following a script from this group says of its start
+  abbrev pub Follows : (Start D G → Type 0) → Type 0
+  Follows P = (start : Start D G) → start.was ≡ was → IsOpened on draws start held → P start
+
+  -- a script was followed to its end, or stopped, and then its last line came
+  module _ (start : Start D G) (same : start.was ≡ was) (opened : IsOpened on draws start held) (entries : List Entry) (kept_entries : entries ≡ at.held.entries)
+      (disk : D) (kept_disk : disk ≡ at.held.core.disk) (line : ℕ) (counted : line ≡ at.count + 1) (ending : Ending) (now : Shown) where
+    unchanged : (stopped : Ending) → (ending ≡ stopped) × (now ≡ at.out)
+        → RunsScript on start.by start.request start.run had left start.was at.out stopped entries disk
+        → RunsScript on start.by start.request start.run had left start.was now ending entries disk
+    unchanged stopped ends h =
+        subst (λ now. RunsScript on start.by start.request start.run had left start.was now ending entries disk) (sym ends.1)
+        (subst (λ ending. RunsScript on start.by start.request start.run had left start.was at.out ending entries disk) (sym ends.0) h)
+
+    ran_from_start : (followed : Result Unit Stop) → OnOk followed (Follows (λ start. IsRunTo on draws Whole start had left at))
+        → IfErr followed (λ stop. Follows (λ start. IsRunUntil on draws stop start had left at)) → ScriptEnds followed line ending at.out now
+        → RunsScript on start.by start.request start.run had left start.was now ending entries disk
+    ran_from_start (Ok u) whole until ends =
+        ran_to on draws start had left at entries kept_entries disk kept_disk Whole ending now (whole start same opened) ends
+    ran_from_start (Err Line) whole until ends =
+        ran_to on draws start had left at entries kept_entries disk kept_disk (BadLine line) ending now
+        (due_at_line on draws start had left at line counted (until start same opened)) ends
+    ran_from_start (Err SourceStop) whole until ends =
+        ran_to on draws start had left at entries kept_entries disk kept_disk Source ending now
+        (due_at_source on draws start had left at (until start same opened)) ends
+    ran_from_start (Err SinkStop) whole until ends = unchanged Sink ends
+        (ran_into_sink on draws start had left at entries kept_entries disk kept_disk (until start same opened))
+    ran_from_start (Err MemoryStop) whole until ends =
+        ran_to on draws start had left at entries kept_entries disk kept_disk Memory ending now
+        (due_at_memory on draws start had left at (until start same opened)) ends
+    ran_from_start (Err Unreported) whole until ends = unchanged Memory ends
+        (ran_unreported on draws start had left at entries kept_entries disk kept_disk (until start same opened))
+
+    pub ran_script : (followed : Result Unit Stop) → OnOk followed (Follows (λ start. IsRunTo on draws Whole start had left at))
+        → IfErr followed (λ stop. Follows (λ start. IsRunUntil on draws stop start had left at)) → ScriptEnds followed line ending at.out now
+        → RunsScript on start.by start.request start.run had left was now ending entries disk
+    ran_script followed whole until ends =
+        subst (λ was. RunsScript on start.by start.request start.run had left was now ending entries disk) same (ran_from_start followed whole until ends)
 
 -- ---- where no group was opened
 

@@ -8,12 +8,12 @@ use Rattle.group_model.specs.Legal.{ran_out}
 use Rattle.group_model.specs.declared.entries.Entry.{Entry}
 use Rattle.group_run.specs.Views.{View}
 use Rattle.script_text.specs.Report.{entry_text, entries_text}
-use Rattle.console_run.specs.declared.stops.Stop.{Stop}
-use Rattle.console_run.specs.declared.stops.Stop.TheVariants.{Line, Source as SourceStop, Sink as SinkStop, Memory as MemoryStop, Unreported}
-use Rattle.console_run.specs.declared.endings.Ending.TheVariants.{Whole}
+use Rattle.run_report.specs.declared.stops.Stop.{Stop}
+use Rattle.run_report.specs.declared.stops.Stop.TheVariants.{Line, Source as SourceStop, Sink as SinkStop, Memory as MemoryStop, Unreported}
+use Rattle.run_report.specs.declared.endings.Ending.TheVariants.{Whole}
 use Rattle.console_run.specs.Causes.{CameFrom}
 use Rattle.console_run.specs.Devices.{Devices}
-use Rattle.console_run.specs.Reports.{Puts}
+use Rattle.run_report.specs.Reports.{Puts}
 use Rattle.console_run.specs.Private.Follows.{moment, IsOpened, TakesAndGoesOn, TakesAndStops, IsRunTo, IsRunUntil}
 use Rattle.console_run.specs.Private.Reports.{EntryStops}
 use Rattle.console_run.specs.Private.Runs.{Start, Moment, IsSoFar, IsStoppedAt, Ends, StopsAtEnd, SourceFails, given_of}

@@ -11,8 +11,8 @@ use Rattle.group_model.specs.declared.entries.Entry.{Entry}
 use Rattle.group_steps.specs.Runs.{Run}
 use Rattle.group_steps.specs.Steps.{EndsWithoutMemory}
 use Rattle.script_text.specs.declared.lines.Line.{Line}
-use Rattle.console_run.specs.declared.endings.Ending.{Ending}
-use Rattle.console_run.specs.declared.endings.Ending.TheVariants.{Whole, NoGroup, BadLine, Source, Sink, Memory, NotOpened}
+use Rattle.run_report.specs.declared.endings.Ending.{Ending}
+use Rattle.run_report.specs.declared.endings.Ending.TheVariants.{Whole, NoGroup, BadLine, Source, Sink, Memory, NotOpened}
 use Rattle.console_run.specs.Devices.{Devices, Keying, MakesHistory, StepsAlong}
 use Rattle.console_run.specs.Lines.{GoesThrough, IsOpeningEntry, IsRunOf, LineBegins, LinesGive, Opens}
 use Rattle.console_run.specs.Causes.{CauseOf, Given, IsInParts, IsUpTo}

@@ -2,11 +2,9 @@ mod AskLemmas
 mod CutLemmas
 mod DueLemmas
 mod EndingLemmas
-mod ErrorLemmas
 mod FaultyLineLemmas
 mod FollowLemmas
 mod HistoryLemmas
-mod KnownLemmas
 mod LineLemmas
 mod OpenedLemmas
 mod PromiseLemmas

@@ -17,12 +17,13 @@ use Rattle.group_run.specs.Openings.{FailsToOpen, Opens as OpensAs}
 use Rattle.group_run.specs.Views.{View}
 use Rattle.group_steps.specs.Runs.{Run}
 use Rattle.group_steps.specs.Steps.{IsAnswered, IsStepBy}
-use Rattle.console_run.specs.declared.endings.Ending.{Ending}
+use Rattle.run_report.specs.declared.endings.Ending.{Ending}
 use Rattle.console_run.specs.Causes.{CannotOpen}
 use Rattle.console_run.specs.Devices.{Devices, Keying, Steps}
 use Rattle.console_run.specs.Promises.{request_of}
 use Rattle.console_run.specs.Private.Follows.{IsOpened, RunsScript}
-use Rattle.console_run.specs.Private.Openings.{UnopenedEnds, step_of}
+use Rattle.console_run.specs.Private.Openings.{step_of}
+use Rattle.run_report.specs.Ends.{UnopenedEnds}
 use Rattle.console_run.proofs.EndingLemmas.{ran_out_at_once, refused}
 
 -- an opening is alike for every name and every limit, as it fails too

@@ -23,11 +23,11 @@ use Rattle.group_steps.specs.Openings.{IsBeginning, IsCreation}
 use Rattle.group_steps.specs.Outsides.{beside_refusal}
 use Rattle.group_steps.specs.Runs.{Run}
 use Rattle.group_steps.specs.Steps.{IsAnswered}
-use Rattle.console_run.specs.declared.endings.Ending.{Ending}
-use Rattle.console_run.specs.declared.endings.Ending.TheVariants.{Whole, NoGroup, BadLine, Source, Sink, Memory, NotOpened}
+use Rattle.run_report.specs.declared.endings.Ending.{Ending}
+use Rattle.run_report.specs.declared.endings.Ending.TheVariants.{Whole, NoGroup, BadLine, Source, Sink, Memory, NotOpened}
 use Rattle.console_run.specs.Devices.{Devices, Keying, MakesHistory}
 use Rattle.console_run.specs.Causes.{CameFrom, CannotOpen, CauseOf, EndsUnopened, SourceAt}
-use Rattle.console_run.specs.Reports.{BreaksOff}
+use Rattle.run_report.specs.Reports.{BreaksOff}
 use Rattle.console_run.specs.Promises.{CanOpen, CanRun, IsBroken, IsEnded, LeavesMomentsAfterOpening, Streams, request_of, start_of}
 use Rattle.console_run.proofs.FaultyLineLemmas.{no_faulty_line}
 use Rattle.console_run.proofs.HistoryLemmas.{cause_history, parts_history}

@@ -14,8 +14,8 @@ use Rattle.group_run.specs.Views.{View}
 use Rattle.group_steps.specs.Members.{not_told, not_told_by}
 use Rattle.group_steps.specs.Runs.{Run}
 use Rattle.script_text.specs.declared.lines.Line.TheVariants as lines
-use Rattle.console_run.specs.declared.stops.Stop.{Stop}
-use Rattle.console_run.specs.declared.stops.Stop.TheVariants.{Memory}
+use Rattle.run_report.specs.declared.stops.Stop.{Stop}
+use Rattle.run_report.specs.declared.stops.Stop.TheVariants.{Memory}
 use Rattle.console_run.specs.Devices.{Devices}
 use Rattle.console_run.specs.Lines.{AsksNext}
 use Rattle.console_run.specs.Private.Asks.{Answers, StopsIn}

@@ -12,11 +12,11 @@ use Rattle.console_run.specs.Devices.{Devices}
 use Rattle.console_run.specs.Scripts.{are_octets, ends_line, unfinished, script_lines}
 use Rattle.console_run.specs.Lines.{IsRunOf}
 use Rattle.console_run.specs.Causes.{IsCut}
-use Rattle.console_run.specs.Reports.{Puts}
+use Rattle.run_report.specs.Reports.{Puts}
 use Rattle.console_run.specs.Private.Cuts.{Cut, cut_of}
 use Rattle.console_run.specs.Private.Follows.{moment, IsOpened}
 use Rattle.console_run.specs.Private.Runs.{Runs, by_text, Start, Moment, IsSoFar, GoesOn}
-use Rattle.console_run.proofs.KnownLemmas.{Puts-entries}
+use Rattle.run_report.proofs.KnownLemmas.{Puts-entries}
 use Rattle.console_run.proofs.CutLemmas.{cut_of-more, lines_cut, unfinished-some}
 use Rattle.console_run.proofs.LineLemmas.{IsRunOf-more}
 

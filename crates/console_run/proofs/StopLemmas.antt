@@ -12,20 +12,20 @@ use Rattle.group_model.specs.declared.entries.Entry.{Entry}
 use Rattle.group_run.specs.Views.{View}
 use Rattle.group_steps.specs.Runs.{Run}
 use Rattle.script_text.specs.Report.{entry_text, entries_text}
-use Rattle.console_run.specs.declared.stops.Stop.{Stop}
-use Rattle.console_run.specs.declared.stops.Stop.TheVariants.{Line, Source as SourceStop, Sink as SinkStop, Memory as MemoryStop, Unreported}
-use Rattle.console_run.specs.declared.endings.Ending.{Ending}
-use Rattle.console_run.specs.declared.endings.Ending.TheVariants.{Whole, BadLine, Source, Sink, Memory}
+use Rattle.run_report.specs.declared.stops.Stop.{Stop}
+use Rattle.run_report.specs.declared.stops.Stop.TheVariants.{Line, Source as SourceStop, Sink as SinkStop, Memory as MemoryStop, Unreported}
+use Rattle.run_report.specs.declared.endings.Ending.{Ending}
+use Rattle.run_report.specs.declared.endings.Ending.TheVariants.{Whole, BadLine, Source, Sink, Memory}
 use Rattle.console_run.specs.Devices.{Devices, Keying}
 use Rattle.console_run.specs.Scripts.{are_octets, is_line}
 use Rattle.console_run.specs.Lines.{GoesThrough, LineBegins}
 use Rattle.console_run.specs.Causes.{EndsAtLine, Given, IsCut, IsFaulty, IsInParts, IsOver, IsUpToLine}
-use Rattle.console_run.specs.Reports.{Puts, BreaksOff, ReportBreaksOff}
+use Rattle.run_report.specs.Reports.{Puts, BreaksOff, ReportBreaksOff}
 use Rattle.console_run.specs.Private.Follows.{moment, IsOpened}
 use Rattle.console_run.specs.Private.Reports.{EntryStops}
 use Rattle.console_run.specs.Private.Runs.{Runs, Stops, by_text, begun_by_text, Start, Moment, IsSoFar, IsBrokenOff, IsReported, IsStoppedAt, Stands}
 use Rattle.console_run.specs.Private.Runs.{StopsWithin, GoesOn, StopsAt, SourceFails, given_of}
-use Rattle.console_run.proofs.KnownLemmas.{Puts-none, Puts-entries, Puts-entry, ReportBreaksOff-one}
+use Rattle.run_report.proofs.KnownLemmas.{Puts-none, Puts-entries, Puts-entry, ReportBreaksOff-one}
 use Rattle.console_run.proofs.SoFarLemmas.{IsCut-from, count_before, run_before, whole_lines, whole_with_line}
 
 -- a stop that is not the source's leaves its count

@@ -3,5 +3,4 @@ pub mod Devices
 pub mod Lines
 pub mod Private
 pub mod Promises
-pub mod Reports
 pub mod Scripts

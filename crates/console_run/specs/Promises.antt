@@ -36,12 +36,12 @@ use Rattle.store_steps.specs.Stores.{AreForOneRoot, AreStores}
 use Rattle.sym_closure.specs.Secrecy.{MembersDerive, NoOthersDerive, NoOthersDeriveFrom, NobodyDerivesYet, RepliedMembersDerive}
 use Rattle.sym_closure.specs.Secrecy.{IsPartOfWorld, SendsItsWraps, YesIsOfMembers}
 use Rattle.script_text.specs.Report.{entries_text}
-use Rattle.console_run.specs.declared.endings.Ending.{Ending}
-use Rattle.console_run.specs.declared.endings.Ending.TheVariants.{Whole, NoGroup, Memory}
+use Rattle.run_report.specs.declared.endings.Ending.{Ending}
+use Rattle.run_report.specs.declared.endings.Ending.TheVariants.{Whole, NoGroup, Memory}
 use Rattle.console_run.specs.Devices.{Devices, Keying, MakesHistory, Steps, StepsAlong}
 use Rattle.console_run.specs.Scripts.{are_lines, script_lines}
 use Rattle.console_run.specs.Causes.{CameFrom, CauseOf, Given, IsInParts, SourceAt}
-use Rattle.console_run.specs.Reports.{Puts, ReportBreaksOff, LastLineEnds}
+use Rattle.run_report.specs.Reports.{Puts, ReportBreaksOff, LastLineEnds}
 
 -- the name of the console's group
 abbrev pub console_name : Name

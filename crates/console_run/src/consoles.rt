@@ -5,27 +5,22 @@ ghost use Rattle.group_run.specs.Openings.{FailsToOpen, Opens};
 ghost use Rattle.console_run.specs.Devices.{devices, keying};
 ghost use Rattle.console_run.specs.Causes.{Given};
 ghost use Rattle.console_run.specs.Promises.{Promises, console_name, request_of, start_of, streams_of};
-ghost use Rattle.console_run.specs.Reports.{LastLineEnds};
 ghost use Rattle.console_run.specs.Private.Follows.{IsOpened, RunsScript};
-ghost use Rattle.console_run.specs.Private.Openings.{RefusalEnds, UnopenedEnds, due_after, step_of};
+ghost use Rattle.console_run.specs.Private.Openings.{step_of};
 ghost use Rattle.console_run.specs.Private.Runs.{Start};
 
-use crate::endings::Ending;
-use crate::line_run::ran_out;
-use crate::report_sink::{put_lines, report};
 use crate::script_run::ScriptRun;
-use crate::stops::Stop;
 use command_words::{Command, Opening, read_words};
 use gd_disk::Disk;
-use gd_edges::{Draws, Failed, Signer, Sink, Source, Verifier};
-use group_model::{Entry, List, NoMemory};
+use gd_edges::{Draws, Signer, Sink, Source, Verifier};
+use group_model::{Entry, List};
 use group_run::{GroupRun, NewGroup, Parts, Unopened};
 use group_steps::{
     a_crash_leaves_a_moment_of_the_history, a_history_is_legal_by_names, faults_are_counted,
 };
 use group_terms::GroupName;
 use own_questions::questions_of_members_are_answered_yes;
-use script_text::end_line;
+use run_report::{Finished, end_script, end_unopened, end_without_group};
 use std::alloc::Global;
 use store_steps::{
     a_due_push_is_taken_in_a_history, each_moment_is_of_a_keyed_history,
@@ -36,14 +31,6 @@ use sym_closure::{
     no_others_derive,
 };
 use tree_store::a_file_has_one_group;
-
-/// What is left of a run: how it ended, the history of its group, and the disk.
-#[derive(Drop)]
-pub struct Finished<D> {
-    pub ending: Ending,
-    pub history: List<Entry>,
-    pub disk: D,
-}
 
 /// Runs a group (GDOI, RFC 6407) from a script, in its journal on the disk, and reports each entry of its history and then how the run ended.
 ///
@@ -96,7 +83,7 @@ pub fn console<S: Source, K: Sink, D: Disk, G: Signer + Drop, V: Verifier, R: Dr
             };
             run_command(alloc, command, script, out, parts, verifier)
         }
-        None => end(alloc, Ending::NoGroup, List::new(alloc), disk, out),
+        None => end_without_group(alloc, disk, out),
     }
 }
 
@@ -166,126 +153,19 @@ fn run_script<S: Source, K: Sink, D: Disk, G: Signer + Drop, V: Verifier, R: Dra
         (S.shows script.old) (S.shows script.new) (K.shows out.old) (K.shows out.new) result.ending result.history result.disk }
 {
     let mut run = ScriptRun::begin(group);
-    match run.follow(alloc, script, verifier, out) {
-        Ok(()) => end_run(alloc, Ending::Whole, run, out),
-        Err(Stop::Line) => {
-            let line = run.line_number();
-            end_run(alloc, Ending::BadLine { line }, run, out)
-        }
-        Err(Stop::Source) => end_run(alloc, Ending::Source, run, out),
-        Err(Stop::Memory) => end_run(alloc, Ending::Memory, run, out),
-        Err(Stop::Sink) => finish(Ending::Sink, run),
-        Err(Stop::Unreported) => finish(Ending::Memory, run),
-    }
+    let followed = run.follow(alloc, script, verifier, out);
+    let line = run.line_number();
+    let (history, disk) = take_apart(run);
+    end_script(alloc, followed, line, history, disk, out)
 }
 
-/// Puts the last line of the ending that is due of a run.
-fn end_run<D: Disk, G: Signer + Drop, R: Draws + Drop, K: Sink>(
-    alloc: Global,
-    due: Ending,
+/// Takes a run apart into its history and its disk.
+fn take_apart<D: Disk, G: Signer + Drop, R: Draws + Drop>(
     run: ScriptRun<D, G, R>,
-    out: &mut K,
-) -> Finished<D>
-    ensures history { result.history ≡ run.group.entries }
-    ensures disk { result.disk ≡ run.group.core.disk }
-    ensures ends { LastLineEnds due result.ending (K.shows out.old) (K.shows out.new) }
-{
-    let ending = put_last_line(alloc, due, out);
-    finish(ending, run)
-}
-
-/// What is left of a run.
-fn finish<D: Disk, G: Signer + Drop, R: Draws + Drop>(
-    ending: Ending,
-    run: ScriptRun<D, G, R>,
-) -> Finished<D>
-    ensures ending { result.ending ≡ ending }
-    ensures history { result.history ≡ run.group.entries }
-    ensures disk { result.disk ≡ run.group.core.disk }
+) -> (List<Entry>, D)
+    ensures history { result.0 ≡ run.group.entries }
+    ensures disk { result.1 ≡ run.group.core.disk }
 {
     let (history, parts) = run.into_group().into_parts();
-    Finished {
-        ending,
-        history,
-        disk: parts.disk,
-    }
-}
-
-/// Reports that no group was opened.
-fn end_unopened<D, K: Sink>(
-    alloc: Global,
-    history: List<Entry>,
-    disk: D,
-    out: &mut K,
-) -> Finished<D>
-    ensures history { result.history ≡ history }
-    ensures disk { result.disk ≡ disk }
-    ensures ends { UnopenedEnds history result.ending (K.shows out.old) (K.shows out.new) }
-{
-    let ending = match history.as_slice().first() {
-        Some(entry) => report_refusal(alloc, entry, out),
-        None => put_last_line(alloc, Ending::Memory, out),
-    };
-    Finished {
-        ending,
-        history,
-        disk,
-    }
-}
-
-/// Reports the refusal of an opening, and puts the last line that is due.
-fn report_refusal<K: Sink>(alloc: Global, entry: &Entry, out: &mut K) -> Ending
-    ensures { RefusalEnds entry.now result (K.shows out.old) (K.shows out.new) }
-{
-    match report(alloc, entry, out) {
-        Ok(()) => put_last_line(alloc, due_after(entry), out),
-        Err(Stop::Sink) => Ending::Sink,
-        Err(Stop::Line | Stop::Source | Stop::Memory | Stop::Unreported) => Ending::Memory,
-    }
-}
-
-/// The ending that is due where an opening was refused.
-fn due_after(entry: &Entry) -> Ending
-    ensures { result ≡ due_after entry.now.answer }
-{
-    if ran_out(entry) {
-        Ending::Memory
-    } else {
-        Ending::NotOpened
-    }
-}
-
-/// Ends a run that has no group.
-fn end<D, K: Sink>(
-    alloc: Global,
-    due: Ending,
-    history: List<Entry>,
-    disk: D,
-    out: &mut K,
-) -> Finished<D>
-    ensures history { result.history ≡ history }
-    ensures disk { result.disk ≡ disk }
-    ensures ends { LastLineEnds due result.ending (K.shows out.old) (K.shows out.new) }
-{
-    let ending = put_last_line(alloc, due, out);
-    Finished {
-        ending,
-        history,
-        disk,
-    }
-}
-
-/// Puts the last line of the ending that is due; how the run ended then.
-fn put_last_line<K: Sink>(alloc: Global, due: Ending, out: &mut K) -> Ending
-    ensures { LastLineEnds due result (K.shows out.old) (K.shows out.new) }
-{
-    let mut text = List::new(alloc);
-    match end_line(alloc, due.status(), due.line(), &mut text) {
-        Ok(()) => {}
-        Err(NoMemory) => return Ending::Memory,
-    }
-    match put_lines(text.as_slice(), out) {
-        Ok(()) => due,
-        Err(Failed) => Ending::Sink,
-    }
+    (history, parts.disk)
 }

@@ -2,11 +2,8 @@
 #![tactic(auto)]
 
 mod consoles;
-mod endings;
 mod line_run;
-mod report_sink;
 mod script_run;
-mod stops;
 
-pub use consoles::{Finished, console};
-pub use endings::Ending;
+pub use consoles::console;
+pub use run_report::{Ending, Finished};

@@ -5,18 +5,16 @@ ghost use Rattle.group_model.specs.declared.entries.Entry.{Entry};
 ghost use Rattle.script_text.specs.Report.{entry_text};
 ghost use Rattle.script_text.specs.declared.lines.Line.TheVariants as lines;
 ghost use Rattle.console_run.specs.Scripts.{is_line};
-ghost use Rattle.console_run.specs.Reports.{Puts};
+ghost use Rattle.run_report.specs.Reports.{Puts};
 ghost use Rattle.console_run.specs.Private.Asks.{StopsIn};
 ghost use Rattle.console_run.specs.Private.Reports.{EntryStops};
 ghost use Rattle.console_run.specs.Devices.{devices};
 ghost use Rattle.console_run.specs.Private.Runs.{Runs, Stops, begun_by_text, by_line, by_text};
 
-use crate::report_sink::report;
-use crate::stops::Stop;
 use gd_disk::Disk;
 use gd_edges::{Draws, Signer, Sink, Verifier};
-use group_model::{Answer, Entry, Refusal};
 use group_run::GroupRun;
+use run_report::{Stop, ran_out, report};
 use script_text::{Line, read_line};
 use std::alloc::Global;
 
@@ -135,26 +133,4 @@ pub(crate) fn report_last<D: Disk, G: Signer, R: Draws, K: Sink>(
         return Err(Stop::Memory);
     }
     Ok(())
-}
-
-/// Whether memory ran out for what was asked.
-pub(crate) fn ran_out(entry: &Entry) -> bool
-    ensures { result ≡ ran_out entry.now.answer }
-{
-    match &entry.answer {
-        Answer::Refused { why } => matches!(why, Refusal::NoMemory),
-        Answer::Done
-        | Answer::Queued
-        | Answer::Batched { .. }
-        | Answer::Opened { .. }
-        | Answer::Shown { .. }
-        | Answer::Kept { .. }
-        | Answer::Older { .. }
-        | Answer::TookRoot { .. }
-        | Answer::TookTraffic { .. }
-        | Answer::PushRefused { .. }
-        | Answer::KeyIs { .. }
-        | Answer::Nothing
-        | Answer::Derived { .. } => false,
-    }
 }

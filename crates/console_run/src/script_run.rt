@@ -1,18 +1,18 @@
 //! Running a script, octet by octet.
 ghost use Rattle.std.specs.Prelude.{◌≡◌, ◌+◌, ◌<◌, ◌≤◌, [], ◌∷◌, length, true, Err, IfErr, OnOk};
-ghost use Rattle.console_run.specs.declared.endings.Ending.TheVariants.{Whole};
+ghost use Rattle.run_report.specs.declared.endings.Ending.TheVariants.{Whole};
 ghost use Rattle.console_run.specs.Scripts.{are_octets, longest_piece, most_lines};
 ghost use Rattle.console_run.specs.Private.Follows.{IsOpened, IsRunTo, IsRunUntil, TakesAndGoesOn, TakesAndStops, at};
 ghost use Rattle.console_run.specs.Devices.{devices};
 ghost use Rattle.console_run.specs.Private.Runs.{Ends, GoesOn, IsReady, Start, StopsAt, StopsAtEnd, StopsWithin, room_left};
 
 use crate::line_run::{report_last, run_line};
-use crate::stops::Stop;
 use arrayvec::ArrayVec;
 use gd_disk::Disk;
 use gd_edges::{Draws, Failed, Signer, Sink, Source, Verifier};
 use group_model::NoMemory;
 use group_run::GroupRun;
+use run_report::Stop;
 use script_text::MOST_LINE_OCTETS;
 use std::alloc::Global;
 

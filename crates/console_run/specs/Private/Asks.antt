@@ -7,8 +7,8 @@ use Rattle.group_model.specs.declared.entries.Entry.{Entry}
 use Rattle.group_run.specs.Views.{View}
 use Rattle.group_steps.specs.Runs.{Run}
 use Rattle.script_text.specs.declared.lines.Line.{Line as ScriptLine}
-use Rattle.console_run.specs.declared.stops.Stop.{Stop}
-use Rattle.console_run.specs.declared.stops.Stop.TheVariants.{Line}
+use Rattle.run_report.specs.declared.stops.Stop.{Stop}
+use Rattle.run_report.specs.declared.stops.Stop.TheVariants.{Line}
 use Rattle.console_run.specs.Devices.{Devices, Keying, Steps}
 use Rattle.console_run.specs.Private.Runs.{Stands, Stops, begun_by_line}
 

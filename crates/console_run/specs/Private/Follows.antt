@@ -8,8 +8,8 @@ use Rattle.group_model.specs.declared.entries.Entry.{Entry}
 use Rattle.group_run.specs.Views.{View}
 use Rattle.group_steps.specs.Runs.{Run}
 use Rattle.console_run.specs.declared.script_run.ScriptRun.{ScriptRun}
-use Rattle.console_run.specs.declared.stops.Stop.{Stop}
-use Rattle.console_run.specs.declared.endings.Ending.{Ending}
+use Rattle.run_report.specs.declared.stops.Stop.{Stop}
+use Rattle.run_report.specs.declared.endings.Ending.{Ending}
 use Rattle.console_run.specs.Devices.{Devices, Keying}
 use Rattle.console_run.specs.Scripts.{are_octets}
 use Rattle.console_run.specs.Causes.{CameFrom, Given, SourceAt, TakesAll}

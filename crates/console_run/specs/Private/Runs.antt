@@ -12,15 +12,15 @@ use Rattle.group_run.specs.Views.{View}
 use Rattle.group_steps.specs.Runs.{Run}
 use Rattle.script_text.specs.Report.{entries_text}
 use Rattle.script_text.specs.declared.lines.Line.{Line as ScriptLine}
-use Rattle.console_run.specs.declared.stops.Stop.{Stop}
-use Rattle.console_run.specs.declared.stops.Stop.TheVariants.{Line, Source as SourceStop, Sink as SinkStop, Memory as MemoryStop, Unreported}
-use Rattle.console_run.specs.declared.endings.Ending.{Ending}
-use Rattle.console_run.specs.declared.endings.Ending.TheVariants.{Whole, BadLine, Source, Sink, Memory}
+use Rattle.run_report.specs.declared.stops.Stop.{Stop}
+use Rattle.run_report.specs.declared.stops.Stop.TheVariants.{Line, Source as SourceStop, Sink as SinkStop, Memory as MemoryStop, Unreported}
+use Rattle.run_report.specs.declared.endings.Ending.{Ending}
+use Rattle.run_report.specs.declared.endings.Ending.TheVariants.{Whole, BadLine, Source, Sink, Memory}
 use Rattle.console_run.specs.Devices.{Devices, Keying}
 use Rattle.console_run.specs.Scripts.{EndsLine, are_octets, ends_line, longest_line, longest_piece, most_lines}
 use Rattle.console_run.specs.Lines.{BeginsToGive, Gives, IsRunOf, LineBegins, LineGives}
 use Rattle.console_run.specs.Causes.{CauseOf, Given, IsInParts}
-use Rattle.console_run.specs.Reports.{Puts, ReportBreaksOff}
+use Rattle.run_report.specs.Reports.{Puts, ReportBreaksOff}
 use Rattle.console_run.specs.Private.Cuts.{cut_of}
 
 -- a group is that of a run, with this server

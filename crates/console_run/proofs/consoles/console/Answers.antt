@@ -1,4 +1,4 @@
-use Rattle.std.proofs.Common.{false, [], ◌∙◌, refl, subst}
+use Rattle.std.proofs.Common.{false, [], refl, subst}
 use Rattle.std.proofs.KnownBytes.{Consumes-nil}
 use Rattle.std.proofs.lemmas.Bool.{false≢true}
 use Rattle.group_values.specs.Values.{batches_made}
@@ -81,19 +81,20 @@ returns-in-None-clause-run g c =
     let by = keying c.args.signer (g.R.Draws.block_at c.args.draws) in
     let had = g.S.Source.shows c.args.script.now in
     let was = g.K.Sink.shows c.args.out.now in
-    let now = g.K.Sink.shows c.end.new.out in
+    let now = g.K.Sink.shows c.end_without_group.new.out in
     let place = g.R.Draws.place_of c.args.draws in
+    let end = c.end_without_group in
     let streams = streams_of nothing had had was now in (
       nothing,
-      subst (λ asked. Promises on by asked streams place c.end.result.ending c.end.result.history c.args.disk c.end.result.disk) c.in-None.ensures.command
+      subst (λ asked. Promises on by asked streams place end.result.ending end.result.history c.args.disk end.result.disk) c.in-None.ensures.command
           (record {
             came = record { consumed = Consumes-nil had.octets; octets = refl; whole = λ ended. absurd (false≢true ended) };
             promised = record {
               none_taken = refl;
               source = refl;
-              disk = c.end.ensures.disk;
-              nothing = c.end.ensures.history ∙ c.new.ensures;
-              last = c.end.ensures.ends;
+              disk = end.ensures.disk;
+              nothing = end.ensures.history;
+              last = end.ensures.ends;
             };
           }),
     )

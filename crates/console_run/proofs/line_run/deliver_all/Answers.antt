@@ -1,10 +1,10 @@
 use Rattle.std.proofs.Common.{◌<◌, sym, ◌∙◌, rules}
 use Rattle.script_text.specs.declared.lines.Line.TheVariants as lines
-use Rattle.console_run.specs.declared.stops.Stop.TheVariants.{Memory}
+use Rattle.run_report.specs.declared.stops.Stop.TheVariants.{Memory}
 use Rattle.console_run.specs.Devices.{devices}
 use Rattle.console_run.proofs.AskLemmas.{Stops-unbegun}
 use Rattle.console_run.proofs.DueLemmas.{Ends-refused, all_given, fewer_due, given_next, giving_begins, stopped_at_delivery, ungiven}
-use Rattle.console_run.proofs.ErrorLemmas.{match_error}
+use Rattle.run_report.proofs.ErrorLemmas.{match_error}
 use Rattle.console_run.proofs.line_run.deliver_all.Goals as goal
 
 pub returns-in_err-refuse_deliveries : goal.returns-in_err-refuse_deliveries

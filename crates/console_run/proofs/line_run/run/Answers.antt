@@ -3,11 +3,11 @@ use Rattle.std.specs.Prelude.{OnErr}
 use Rattle.std.proofs.lemmas.Result.{IfErr-at_err}
 use Rattle.group_model.specs.declared.entries.Asked.TheVariants as requests
 use Rattle.script_text.specs.declared.lines.Line.TheVariants as lines
-use Rattle.console_run.specs.declared.stops.Stop.TheVariants.{Memory}
+use Rattle.run_report.specs.declared.stops.Stop.TheVariants.{Memory}
 use Rattle.console_run.specs.Devices.{devices}
 use Rattle.console_run.specs.Private.Runs.{Runs, by_line}
 use Rattle.console_run.proofs.AskLemmas.{AsksOnce, Ends-once, Runs-nothing, Stops-unbegun, asked_once}
-use Rattle.console_run.proofs.ErrorLemmas.{match_error}
+use Rattle.run_report.proofs.ErrorLemmas.{match_error}
 use Rattle.console_run.proofs.line_run.run.Goals as goal
 use Rattle.console_run.proofs.line_run.run.Goals.{in-Join, in-Leave, in-Deliver, in-Key, in-Derive, in-Halt, in-Reopen, in-Show}
 

@@ -1,9 +1,9 @@
 use Rattle.std.proofs.lemmas.Bool.{MatchBool-at_false, MatchBool-at_true}
 use Rattle.script_text.specs.declared.lines.Line.TheVariants as lines
-use Rattle.console_run.specs.declared.stops.Stop.TheVariants.{Memory}
+use Rattle.run_report.specs.declared.stops.Stop.TheVariants.{Memory}
 use Rattle.console_run.specs.Devices.{devices}
 use Rattle.console_run.proofs.AskLemmas.{Stops-unbegun}
-use Rattle.console_run.proofs.ErrorLemmas.{match_error}
+use Rattle.run_report.proofs.ErrorLemmas.{match_error}
 use Rattle.console_run.proofs.ReplyLemmas.{all_told, batched, fewer_left, stopped_at_batch, stopped_at_reply, told_next, untold}
 use Rattle.console_run.proofs.line_run.run_batch.Goals as goal
 

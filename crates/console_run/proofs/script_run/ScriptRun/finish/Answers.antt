@@ -5,7 +5,7 @@ use Rattle.console_run.specs.Scripts.{is_line}
 use Rattle.console_run.specs.Private.Follows.{at}
 use Rattle.console_run.specs.Devices.{devices}
 use Rattle.console_run.specs.Private.Runs.{Runs, Stops, by_text, begun_by_text}
-use Rattle.console_run.proofs.ErrorLemmas.{if_error}
+use Rattle.run_report.proofs.ErrorLemmas.{if_error}
 use Rattle.console_run.proofs.StopLemmas.{whole_script, whole_with_last, stopped_at_end}
 use Rattle.console_run.proofs.script_run.ScriptRun.finish.Goals as goal
 

@@ -1,9 +1,9 @@
 use Rattle.std.proofs.Common.{Err, ap, ◌∙◌}
 use Rattle.std.proofs.lemmas.Result.{on_ok_weaker}
-use Rattle.console_run.specs.declared.stops.Stop.TheVariants.{Memory}
+use Rattle.run_report.specs.declared.stops.Stop.TheVariants.{Memory}
 use Rattle.console_run.specs.Private.Follows.{at}
 use Rattle.console_run.specs.Devices.{devices}
-use Rattle.console_run.proofs.ErrorLemmas.{at_error, if_error}
+use Rattle.run_report.proofs.ErrorLemmas.{at_error, if_error}
 use Rattle.console_run.proofs.FollowLemmas.{run_whole, run_stopped_at_opening, run_out_of_memory, run_stopped, run_stopped_at_end}
 use Rattle.console_run.proofs.StopLemmas.{SourceFails-other}
 use Rattle.console_run.proofs.script_run.ScriptRun.follow.Goals as goal

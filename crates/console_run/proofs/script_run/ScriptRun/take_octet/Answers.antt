@@ -2,7 +2,7 @@ use Rattle.std.proofs.Common.{◌≡◌, ◌<◌, ◌∷◌, Err, length, inl, i
 use Rattle.console_run.specs.Devices.{devices}
 use Rattle.console_run.specs.Private.Runs.{Stops, begun_by_text}
 use Rattle.console_run.specs.Scripts.{is_line}
-use Rattle.console_run.proofs.ErrorLemmas.{if_error}
+use Rattle.run_report.proofs.ErrorLemmas.{if_error}
 use Rattle.console_run.proofs.SoFarLemmas.{GoesOn-ended, GoesOn-kept}
 use Rattle.console_run.proofs.StopLemmas.{stopped_at_line, stopped_in_line}
 use Rattle.console_run.proofs.script_run.ScriptRun.take_octet.Goals as goal

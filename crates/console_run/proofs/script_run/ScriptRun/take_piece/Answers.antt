@@ -4,7 +4,7 @@ use Rattle.console_run.specs.Private.Follows.{at}
 use Rattle.console_run.specs.Devices.{devices}
 use Rattle.console_run.specs.Private.Runs.{GoesOn}
 use Rattle.console_run.proofs.CutLemmas.{small_octets}
-use Rattle.console_run.proofs.ErrorLemmas.{if_error}
+use Rattle.run_report.proofs.ErrorLemmas.{if_error}
 use Rattle.console_run.proofs.SoFarLemmas.{GoesOn-none, GoesOn-then}
 use Rattle.console_run.proofs.StopLemmas.{StopsWithin-piece}
 use Rattle.console_run.proofs.script_run.ScriptRun.take_piece.Goals as goal

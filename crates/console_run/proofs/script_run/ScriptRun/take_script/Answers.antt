@@ -8,7 +8,7 @@ use Rattle.group_terms.specs.Faults.{Rose}
 use Rattle.console_run.specs.Scripts.{are_octets}
 use Rattle.console_run.specs.Private.Follows.{at}
 use Rattle.console_run.specs.Devices.{devices}
-use Rattle.console_run.proofs.ErrorLemmas.{if_error}
+use Rattle.run_report.proofs.ErrorLemmas.{if_error}
 use Rattle.console_run.proofs.SoFarLemmas.{GoesOn-none, GoesOn-then}
 use Rattle.console_run.proofs.StopLemmas.{StopsWithin-lost, StopsWithin-then, SourceFails-other}
 use Rattle.console_run.proofs.script_run.ScriptRun.take_script.Goals as goal

@@ -1,9 +1,9 @@
 //! Putting the report into a sink.
 ghost use Rattle.std.specs.Prelude.{◌<◌, ◌≤◌, ◌≡◌, [], length, IfErr, OnOk, OnErr, Err};
 ghost use Rattle.script_text.specs.Report.{entry_text};
-ghost use Rattle.console_run.specs.declared.endings.Ending.TheVariants.{Sink as SinkEnding};
-ghost use Rattle.console_run.specs.Reports.{Puts, BreaksOff};
-ghost use Rattle.console_run.specs.Private.Reports.{TextBreaksOff};
+ghost use Rattle.run_report.specs.declared.endings.Ending.TheVariants.{Sink as SinkEnding};
+ghost use Rattle.run_report.specs.Reports.{Puts, BreaksOff};
+ghost use Rattle.run_report.specs.Ends.{TextBreaksOff};
 
 use crate::stops::Stop;
 use gd_edges::{Failed, Sink};
@@ -12,7 +12,7 @@ use script_text::report_entry;
 use std::alloc::Global;
 
 /// Puts the report of an entry, line by line.
-pub(crate) fn report<K: Sink>(alloc: Global, entry: &Entry, out: &mut K) -> Result<(), Stop>
+pub fn report<K: Sink>(alloc: Global, entry: &Entry, out: &mut K) -> Result<(), Stop>
     ensures ok { OnOk result (Puts (K.shows out.old) (K.shows out.new) (entry_text entry.now)) }
     ensures breaks { IfErr result (λ stop. TextBreaksOff stop (K.shows out.old) (K.shows out.new) (entry_text entry.now)) }
 {

@@ -1,8 +1,8 @@
 use Rattle.std.proofs.Common.{◌++◌, ap, sym, ◌∙◌}
 use Rattle.std.proofs.lemmas.List.{append_assoc}
-use Rattle.console_run.proofs.KnownLemmas.{Puts-then, BreaksOff-after}
-use Rattle.console_run.proofs.ErrorLemmas.{if_error}
-use Rattle.console_run.proofs.report_sink.put_lines.Goals as goal
+use Rattle.run_report.proofs.KnownLemmas.{Puts-then, BreaksOff-after}
+use Rattle.run_report.proofs.ErrorLemmas.{if_error}
+use Rattle.run_report.proofs.report_sink.put_lines.Goals as goal
 
 pub loop-rest-preserved : goal.loop-rest-preserved
 loop-rest-preserved g c =

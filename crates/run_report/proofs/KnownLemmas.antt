@@ -8,9 +8,9 @@ use Rattle.group_terms.specs.Faults.{Rose}
 use Rattle.gd_edges.specs.Shown.{Shown}
 use Rattle.group_model.specs.declared.entries.Entry.{Entry}
 use Rattle.script_text.specs.Report.{entry_text, entries_text}
-use Rattle.console_run.specs.declared.endings.Ending.{Ending}
-use Rattle.console_run.specs.declared.endings.Ending.TheVariants.{Sink}
-use Rattle.console_run.specs.Reports.{Puts, AppendsPart, BreaksOff, ReportBreaksOff}
+use Rattle.run_report.specs.declared.endings.Ending.{Ending}
+use Rattle.run_report.specs.declared.endings.Ending.TheVariants.{Sink}
+use Rattle.run_report.specs.Reports.{Puts, AppendsPart, BreaksOff, ReportBreaksOff}
 
 pub Puts-none : (known : Shown) → Puts known known []
 Puts-none known = record { appended = Appends-nil known.octets; stands = refl }

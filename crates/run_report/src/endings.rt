@@ -1,6 +1,6 @@
 //! How a run ends.
 ghost use Rattle.std.specs.Prelude.{◌≡◌, ◌≤◌};
-ghost use Rattle.console_run.specs.Reports.{status_of, line_at};
+ghost use Rattle.run_report.specs.Reports.{status_of, line_at};
 
 /// How a run ended.
 #[derive(Clone, Copy, PartialEq, Eq)]

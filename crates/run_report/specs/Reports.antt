@@ -5,8 +5,8 @@ use Rattle.group_terms.specs.Faults.{Rose}
 use Rattle.gd_edges.specs.Shown.{Shown}
 use Rattle.group_model.specs.declared.entries.Entry.{Entry}
 use Rattle.script_text.specs.Report.{entries_text, entry_text, end_text}
-use Rattle.console_run.specs.declared.endings.Ending.{Ending}
-use Rattle.console_run.specs.declared.endings.Ending.TheVariants.{Whole, NoGroup, BadLine, Source, Sink, Memory, NotOpened}
+use Rattle.run_report.specs.declared.endings.Ending.{Ending}
+use Rattle.run_report.specs.declared.endings.Ending.TheVariants.{Whole, NoGroup, BadLine, Source, Sink, Memory, NotOpened}
 
 -- no call failed, and where the sink exposes what was put, a text was put
 pub record Puts (was now : Shown) (text : List ℕ) : Type 0 where

@@ -1,12 +1,12 @@
 //! How the run of a script can stop early.
 ghost use Rattle.std.specs.Prelude.{◌≡◌};
-ghost use Rattle.console_run.specs.declared.stops.Stop.TheVariants.{Memory};
+ghost use Rattle.run_report.specs.declared.stops.Stop.TheVariants.{Memory};
 
 use group_model::NoMemory;
 
 /// Why a run stops before its script ends.
 #[derive(Clone, Copy)]
-pub(crate) enum Stop {
+pub enum Stop {
     /// A line is not of the grammar, or is past a limit.
     Line,
     /// The source failed.

@@ -1,7 +1,7 @@
 use Rattle.std.proofs.Common.{◌++◌, ap, sym, ◌∙◌, take}
 use Rattle.std.proofs.lemmas.List.{append_assoc}
-use Rattle.console_run.proofs.KnownLemmas.{Puts-then}
-use Rattle.console_run.proofs.report_sink.put_all.Goals as goal
+use Rattle.run_report.proofs.KnownLemmas.{Puts-then}
+use Rattle.run_report.proofs.report_sink.put_all.Goals as goal
 
 pub loop-rest-preserved : goal.loop-rest-preserved
 loop-rest-preserved g c =

@@ -1,0 +1,12 @@
+//! The report of a run, line by line, and how the run ends.
+#![tactic(auto)]
+
+mod endings;
+mod ends;
+mod report_sink;
+mod stops;
+
+pub use endings::Ending;
+pub use ends::{Finished, end_script, end_unopened, end_without_group, ran_out};
+pub use report_sink::report;
+pub use stops::Stop;
