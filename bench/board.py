@@ -2,7 +2,7 @@
 
     python3 bench/board.py        at the top of the repository
 
-It builds `thread_cases`, and prints a row for each number of threads: the looks of all of them in a second, in millions.
+It builds `room_cases`, and prints a row for each number of threads: the looks of all of them in a second, in millions.
 """
 
 import os
@@ -11,8 +11,8 @@ import subprocess
 import time
 
 TOP = pathlib.Path(__file__).resolve().parent.parent
-CRATE = TOP / "crates" / "thread_cases"
-PROGRAM = CRATE / "out" / "thread_cases"
+CRATE = TOP / "crates" / "room_cases"
+PROGRAM = CRATE / "out" / "room_cases"
 LOOKS = 200_000_000
 
 
@@ -21,7 +21,7 @@ def seconds(threads, looks):
     times = []
     for _ in range(3):
         start = time.perf_counter()
-        run = subprocess.run([PROGRAM, "looks", str(threads), str(looks)], check=True, capture_output=True, text=True)
+        run = subprocess.run([PROGRAM], input=f"looks {threads} {looks}\n", check=True, capture_output=True, text=True)
         times.append(time.perf_counter() - start)
         assert run.stdout == f"{threads} threads looked {looks} times each: no pair fell\n", run.stdout
     return min(times)
@@ -40,7 +40,7 @@ def processor():
 
 
 def main():
-    subprocess.run(["rt", "run", "--", "looks", "1", "1"], cwd=CRATE, check=True, stdout=subprocess.DEVNULL)
+    subprocess.run(["rt", "run"], cwd=CRATE, check=True, stdin=subprocess.DEVNULL, stdout=subprocess.DEVNULL)
     print(f"{processor()}, {os.cpu_count()} processors")
     print(f"{'threads':>8}{'looks, millions/s':>20}")
     for threads in (1, 2, 3, 4, 8, 16):

@@ -2,7 +2,7 @@
 
     python3 bench/desk.py        at the top of the repository
 
-It builds `thread_cases` and `bench/desk.rs`, and prints for 1, 2, 4 and 16 threads how many thousand turns all threads together make at each in
+It builds `room_cases` and `bench/desk.rs`, and prints for 1, 2, 4 and 16 threads how many thousand turns all threads together make at each in
 a second, and the second figure divided by the first. A turn adds a number to a sum and to the list of all numbers.
 """
 
@@ -12,16 +12,16 @@ import tempfile
 import time
 
 TOP = pathlib.Path(__file__).resolve().parent.parent
-CRATE = TOP / "crates" / "thread_cases"
-PROGRAM = CRATE / "out" / "thread_cases"
+CRATE = TOP / "crates" / "room_cases"
+PROGRAM = CRATE / "out" / "room_cases"
 TURNS_OF_A_ROUND = 64 * 4096
 ROUNDS = {1: 40, 2: 20, 4: 10, 16: 10}
 
 
 def run(program, threads, rounds):
-    """What a program prints; ours is told by a word what it has to do."""
-    what = ["turns"] if program == PROGRAM else []
-    return subprocess.run([program, *what, str(threads), str(rounds)], check=True, capture_output=True).stdout
+    """What a program prints: ours reads a line, and that in Rust has words."""
+    words, given = ([program], f"turns {threads} {rounds}\n") if program == PROGRAM else ([program, str(threads), str(rounds)], "")
+    return subprocess.run(words, input=given, check=True, capture_output=True, text=True).stdout
 
 
 def seconds(program, threads, rounds):
@@ -49,7 +49,7 @@ def built(folder):
 
 
 def main():
-    subprocess.run(["rt", "run", "--", "turns", "1", "0"], cwd=CRATE, check=True, stdout=subprocess.DEVNULL)
+    subprocess.run(["rt", "run"], cwd=CRATE, check=True, stdin=subprocess.DEVNULL, stdout=subprocess.DEVNULL)
     with tempfile.TemporaryDirectory() as folder:
         theirs = built(folder)
         print("threads  desk, thousands/s  mutex, thousands/s  ratio")

@@ -1,4 +1,5 @@
 //! A case: a group and what it is asked.
+ghost use Rattle.std.specs.Prelude.{⊤};
 
 use crate::batches::{add_pair, batch};
 use crate::groups::{SeedCore, SeedOpening, SeedParts, create, parts_on};
@@ -47,6 +48,9 @@ impl Drop for Case {
 }
 
 impl Cases for Case {
+    // a line may come at any time
+    ghost Ready = { λ _. ⊤ };
+
     fn answer(&mut self, rt: &HostRuntime, words: &[&str], text: &mut Text) -> Option<()> {
         let (word, rest) = words.split_first()?;
         match rest {

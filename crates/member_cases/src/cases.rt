@@ -1,4 +1,5 @@
 //! A case: a group, and the stores of its members.
+ghost use Rattle.std.specs.Prelude.{⊤};
 
 use crate::groups::write;
 use crate::members::Members;
@@ -19,6 +20,9 @@ pub struct Case {
 }
 
 impl Cases for Case {
+    // a line may come at any time
+    ghost Ready = { λ _. ⊤ };
+
     fn answer(&mut self, rt: &HostRuntime, words: &[&str], text: &mut Text) -> Option<()> {
         let (word, rest) = words.split_first()?;
         match *word {

@@ -1,0 +1,5 @@
+use Rattle.std.proofs.Common.{IsSome}
+use Rattle.room_cases.proofs.journals.makings.make_with.Given as goal
+
+abbrev pub invariant-loop-number : goal.invariant-loop-number
+invariant-loop-number l = IsSome l.store.end
