@@ -1,4 +1,4 @@
-/* The works of `core_cases` (`work DISK DEPTH KIND COUNT`) in C with openssl's library: the same batches in a key tree that is changed in place,
+/* The works of `group_cases` (`work DISK DEPTH KIND COUNT`) in C with openssl's library: the same batches in a key tree that is changed in place,
    with the same values, pushes and replies, and the same calls to the file. It prints the same. */
 #define OPENSSL_SUPPRESS_DEPRECATED
 #include <fcntl.h>

@@ -2,7 +2,7 @@
 
     python3 bench/core.py [FOLDER]        at the top of the repository
 
-It builds `core_cases` and `bench/core.c`, which each make a group in a tree of 512 leaves and close batches: they queue the changes, find what a
+It builds `group_cases` and `bench/core.c`, which each make a group in a tree of 512 leaves and close batches: they queue the changes, find what a
 batch renews, draw its keys, seal its pushes, find what its newcomers are told, and store it. For each work it prints the middle one of the times that
 each takes in runs by turns, our time divided by that of C, and the most memory that each had. The works are 512 members of whom 32 then go out at
 once; many batches of 32 changes; and many of four. On no disk they show the sealing and the planning alone. The files lie in a new folder in FOLDER,
@@ -23,8 +23,8 @@ import time
 import typing
 
 TOP = pathlib.Path(__file__).resolve().parent.parent
-CRATE = TOP / "crates" / "core_cases"
-PROGRAM = CRATE / "out" / "core_cases"
+CRATE = TOP / "crates" / "group_cases"
+PROGRAM = CRATE / "out" / "group_cases"
 # the processor's AES and carry-less products off, and nothing else
 NO_HARDWARE = dict(os.environ, OPENSSL_ia32cap="~0x200000200000000:~0x0")
 DEPTH = "9"

@@ -2,7 +2,7 @@
 
     python3 bench/members.py        at the top of the repository
 
-It builds `member_cases` and `bench/members.c`, and has the first make a group and leave its pushes in a file. Both then give each push of that file to
+It builds `group_cases` and `bench/members.c`, and has the first make a group and leave its pushes in a file. Both then give each push of that file to
 the stores of 16 members: a store decrypts the push under its root's key, reads its payloads, checks its signature and its number, and takes the keys of
 its path or the traffic key. A member that went out finds no path, and its reply makes its store anew when it comes back. For each group the script prints
 how often a store read a push, the middle one of the processor times that each program takes in runs by turns, our time divided by that of C, and the
@@ -23,8 +23,8 @@ import time
 import typing
 
 TOP = pathlib.Path(__file__).resolve().parent.parent
-CRATE = TOP / "crates" / "member_cases"
-PROGRAM = CRATE / "out" / "member_cases"
+CRATE = TOP / "crates" / "group_cases"
+PROGRAM = CRATE / "out" / "group_cases"
 # the processor's AES and carry-less products off, and nothing else
 NO_HARDWARE = dict(os.environ, OPENSSL_ia32cap="~0x200000200000000:~0x0")
 # the name of each group, the depth of its tree, how many go out with a batch, and how many batches there are
@@ -96,13 +96,13 @@ def peak(command):
 def written(folder, depth, going, count):
     """A file with the pushes of a group."""
     path = folder / f"{depth}-{going}-{count}.pushes"
-    run(Command([PROGRAM], f"write {path} {depth} {going} {count}\n"))
+    run(Command([PROGRAM], f"members\nwrite {path} {depth} {going} {count}\n"))
     return path
 
 
 def commands(theirs, path):
-    """What has each program read a file: first ours, which reads a line."""
-    return [Command([PROGRAM], f"read {path}\n"), Command([theirs, path])]
+    """What has each program read a file: first ours, which reads a line after the one that asks for members."""
+    return [Command([PROGRAM], f"members\nread {path}\n"), Command([theirs, path])]
 
 
 def pushes(octets):
