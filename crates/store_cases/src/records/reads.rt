@@ -1,8 +1,10 @@
 //! What is read of files.
 ghost use Rattle.std.specs.Prelude.{◌≤◌, length, IsSome};
 
-use crate::crashes::holding;
-use crate::journals::{Journal, Left, append, close, journal_failing_at, leaves, made, open, read};
+use crate::records::crashes::holding;
+use crate::records::journals::{
+    Journal, Left, append, close, journal_failing_at, leaves, made, open, read,
+};
 use gd_disk::MemDisk;
 use group_terms::{List, NoMemory, Octets};
 use std::alloc::Global;

@@ -1,7 +1,9 @@
 //! Journals that are opened again in place.
 ghost use Rattle.std.specs.Prelude.{IsSome};
 
-use crate::journals::{CLOSED, FAULT, Journal, Left, append, close, has_left, journal_failing_at};
+use crate::records::journals::{
+    CLOSED, FAULT, Journal, Left, append, close, has_left, journal_failing_at,
+};
 use group_terms::{NoMemory, Octets};
 use std::alloc::Global;
 

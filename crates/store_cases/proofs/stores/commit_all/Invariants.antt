@@ -1,5 +1,5 @@
 use Rattle.std.proofs.Common.{IsSome}
-use Rattle.tree_store_cases.proofs.stores.commit_all.Given as goal
+use Rattle.store_cases.proofs.stores.commit_all.Given as goal
 
 -- the place of the closed gate is known
 abbrev pub invariant-loop-stored : goal.invariant-loop-stored

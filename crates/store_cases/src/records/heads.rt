@@ -1,5 +1,5 @@
 //! The head of a journal.
-use crate::texts::{Fault, octets, put, whole};
+use crate::records::texts::{Fault, octets, put, whole};
 use gd_wire::WireFault;
 use group_records::{Head, head_fits, read_head, write_head};
 use group_terms::WireWhat;

@@ -1,5 +1,5 @@
 //! The record of a batch.
-use crate::texts::{Fault, octets, put, whole};
+use crate::records::texts::{Fault, octets, put, whole};
 use gd_wire::WireFault;
 use group_records::{RecordFault, Stored, batch_fits, read_batch, write_batch};
 use group_terms::{Change, WireWhat};

@@ -1,5 +1,6 @@
 //! Tests of what the calls of a store answer: calls of the disk that fail, crashes, stores that are opened again, and lists of batches that are
-//! stored and read; and of what a store reads: the file of another implementation, files of no group, and records that are not due.
+//! stored and read; of what a store reads: the file of another implementation, files of no group, and records that are not due; and of what is
+//! below a store: disks, journals, records and values.
 #![tactic(auto)]
 
 #[cfg(test)]
@@ -14,6 +15,8 @@ mod images;
 mod lists;
 #[cfg(test)]
 mod numbers;
+#[cfg(test)]
+mod records;
 #[cfg(test)]
 mod refusals;
 #[cfg(test)]

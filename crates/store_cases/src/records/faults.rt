@@ -1,7 +1,7 @@
 //! Calls of the disk that fail, and crashes.
 ghost use Rattle.std.specs.Prelude.{IsSome};
 
-use crate::journals::{
+use crate::records::journals::{
     CLOSED, FAULT, Journal, Left, Why, append, disk_failing_at, journal_failing_at, leaves, made,
     open, read,
 };
