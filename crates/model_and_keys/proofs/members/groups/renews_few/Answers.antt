@@ -1,5 +1,5 @@
 use Rattle.std.proofs.Common.{◌≡◌, ◌+◌, ◌*◌, length, ap, arith}
-use Rattle.key_cases.proofs.groups.renews_few.Goals as goal
+use Rattle.model_and_keys.proofs.members.groups.renews_few.Goals as goal
 
 pub returns : goal.returns
 returns c shallow limit step is_step =

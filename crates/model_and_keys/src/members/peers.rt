@@ -1,8 +1,8 @@
 //! The peers of a run, one of which is told its keys.
 ghost use Rattle.member_store.specs.Stores.{IsReply};
 
-use crate::groups::named;
-use crate::known::reply;
+use crate::draws::named;
+use crate::members::known::reply;
 use gd_edges::TestVerifier;
 use group_peers::{Peers, who_is_noted_is_a_peer};
 use group_terms::{Keyed, MemberName};
@@ -20,7 +20,7 @@ fn newest_are_kept(alloc: Global) -> Option<bool> {
 }
 
 fn keeps_the_newest(peers: &mut Peers) -> Option<bool> {
-    let (a, b) = (named(b'a')?, named(b'b')?);
+    let (a, b) = (named(b'a'), named(b'b'));
     let first = tell(peers, &a, reply(3)?)? == Ok(());
     note(peers, &b)?;
     let second = tell(peers, &a, reply(4)?)? == Ok(());
@@ -48,7 +48,7 @@ fn takes_with_a_store_alone(alloc: Global) -> Option<bool> {
 
 /// Whether a datagram is answered for nobody before the first of two names is told its keys, and for that one then.
 fn is_answered_once_told(peers: &mut Peers, room: &mut Room) -> Option<bool> {
-    let (a, b) = (named(b'a')?, named(b'b')?);
+    let (a, b) = (named(b'a'), named(b'b'));
     note(peers, &a)?;
     let before = is_answered(peers, &a, room) | is_answered(peers, &b, room);
     let is_told = tell(peers, &a, reply(3)?)? == Ok(());

@@ -4,12 +4,12 @@ ghost use Rattle.std.specs.List.{All};
 ghost use Rattle.group_terms.specs.declared.values.Drawn.{Drawn};
 ghost use Rattle.group_model.specs.Steps.{IsReady};
 
-use crate::groups::{Group, joins, leaves, step_of};
-use crate::known::{MEMBERSHIP, TRAFFIC, octets};
+use crate::members::groups::{Group, step_of};
+use crate::members::known::{MEMBERSHIP, TRAFFIC, octets};
 use gd_edges::{ChaChaDraws, Draws, TestSigner};
 use group_model::{PresentTree, PushPair, TreeStep};
 use group_pushes::write_pair;
-use group_terms::{BatchValues, Change};
+use group_terms::BatchValues;
 use group_values::{KeptValues, draw_values};
 use std::alloc::Global;
 
@@ -37,23 +37,21 @@ fn second_goes_out(alloc: Global, group: &mut Group) -> Option<bool>
     requires depth { group.old.tree.depth ≡ 2 }
     requires room { length group.old.kept.nodes ≡ 8 }
 {
-    let come = [joins(b'a')?, joins(b'b')?, joins(b'c')?];
-    let goes = [leaves(b'b')?];
     let mut draws = ChaChaDraws::new(0, 0);
     let spi = draws.draw();
     Some(
-        makes(alloc, group, &mut draws, &spi, &come, false)?
-            & makes(alloc, group, &mut draws, &spi, &goes, true)?,
+        makes(alloc, group, &mut draws, &spi, ["", "abc"], false)?
+            & makes(alloc, group, &mut draws, &spi, ["b", ""], true)?,
     )
 }
 
-/// Whether a batch makes the known pair of pushes, or none where none is due; then it is taken in.
+/// Whether a batch in which some go out and others come in makes the known pair of pushes, or none where none is due; then it is taken in.
 fn makes(
     alloc: Global,
     group: &mut Group,
     draws: &mut ChaChaDraws,
     spi: &[u8; 16],
-    changes: &[Change],
+    changes: [&str; 2],
     is_due: bool,
 ) -> Option<bool>
     requires depth { group.old.tree.depth ≡ 2 }
@@ -61,7 +59,7 @@ fn makes(
     ensures depth { group.new.tree.depth ≡ 2 }
     ensures room { length group.new.kept.nodes ≡ 8 }
 {
-    let step = step_of(alloc, &group.tree, changes)?;
+    let step = step_of(alloc, &group.tree, changes[0], changes[1])?;
     let values = low_values(alloc, draws, &step)?;
     let is_made = has_pushes(alloc, group, &step, &values, spi, is_due);
     group.kept.take(&values);

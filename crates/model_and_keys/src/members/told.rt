@@ -4,11 +4,12 @@ ghost use Rattle.std.specs.List.{All};
 ghost use Rattle.group_terms.specs.declared.values.Drawn.{Drawn};
 ghost use Rattle.group_model.specs.Steps.{IsReady};
 
-use crate::groups::{Group, joins, leaves, named, step_of};
+use crate::draws::named;
+use crate::members::groups::{Group, step_of};
 use group_keys::{keyed, keyed_after};
 use group_model::{PresentTree, TreeStep};
 use group_terms::{
-    BatchValues, Change, Drawn, Keyed, List, LkhId, MemberName, NodeValue, PathKey, TrafficValue,
+    BatchValues, Drawn, Keyed, List, LkhId, MemberName, NodeValue, PathKey, TrafficValue,
 };
 use group_values::KeptValues;
 use std::alloc::Global;
@@ -40,7 +41,7 @@ fn are_told_in(alloc: Global, group: &mut Group) -> Option<bool>
     requires depth { group.old.tree.depth ≡ 1 }
     requires room { length group.old.kept.nodes ≡ 4 }
 {
-    let (a, b) = (named(b'a')?, named(b'b')?);
+    let (a, b) = (named(b'a'), named(b'b'));
     let now = is_told(group, &b, &SECOND);
     let after = are_told_after(alloc, group)?;
     second_goes_out(alloc, group)?;
@@ -72,9 +73,9 @@ fn are_told_after(alloc: Global, group: &Group) -> Option<bool>
     requires room { length group.now.kept.nodes ≡ 4 }
 {
     let (second, third) = (LkhId::new(2)?, LkhId::new(3)?);
-    let (changes, nodes) = ([leaves(b'b')?, joins(b'c')?], [drawn(1, 2)?, drawn(3, 2)?]);
+    let nodes = [drawn(1, 2)?, drawn(3, 2)?];
     let values = made(alloc, 2, &nodes)?;
-    let step = step_of(alloc, &group.tree, &changes)?;
+    let step = step_of(alloc, &group.tree, "b", "c")?;
     Some(
         is_told_after(group, &step, &values, third, &THIRD)
             & is_told_after(group, &step, &values, second, &FIRST),
@@ -118,21 +119,18 @@ fn is_key((key, (number, made, octet)): (&PathKey, (u16, u32, u8))) -> bool {
 fn two_members(alloc: Global) -> Option<Group>
     ensures { IfSome result (λ group. (group.tree.depth ≡ 1) × (length group.kept.nodes ≡ 4)) }
 {
-    let (changes, nodes) = (
-        [joins(b'a')?, joins(b'b')?],
-        [drawn(1, 1)?, drawn(2, 1)?, drawn(3, 1)?],
-    );
-    let tree = tree_after(alloc, &changes)?;
+    let nodes = [drawn(1, 1)?, drawn(2, 1)?, drawn(3, 1)?];
+    let tree = tree_of_two(alloc)?;
     let kept = kept_after(alloc, &nodes)?;
     Some(Group { tree, kept })
 }
 
 /// A tree with two leaves, after its first batch.
-fn tree_after(alloc: Global, changes: &[Change]) -> Option<PresentTree>
+fn tree_of_two(alloc: Global) -> Option<PresentTree>
     ensures { IfSome result (λ tree. tree.depth ≡ 1) }
 {
     let mut tree = PresentTree::new(alloc, 1).ok()?;
-    let step = step_of(alloc, &tree, changes)?;
+    let step = step_of(alloc, &tree, "", "ab")?;
     tree.advance(step);
     Some(tree)
 }
@@ -154,9 +152,8 @@ fn second_goes_out(alloc: Global, group: &mut Group) -> Option<()>
     ensures depth { group.new.tree.depth ≡ group.old.tree.depth }
     ensures room { length group.new.kept.nodes ≡ 4 }
 {
-    let (changes, nodes) = ([leaves(b'b')?], [drawn(1, 2)?]);
-    let values = made(alloc, 2, &nodes)?;
-    let step = step_of(alloc, &group.tree, &changes)?;
+    let values = made(alloc, 2, &[drawn(1, 2)?])?;
+    let step = step_of(alloc, &group.tree, "b", "")?;
     group.tree.advance(step);
     group.kept.take(&values);
     Some(())

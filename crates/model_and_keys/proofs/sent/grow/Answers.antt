@@ -1,6 +1,6 @@
 use Rattle.std.proofs.Common.{sym, ◌∙◌, subst, ◌∷◌, []}
 use Rattle.sym_closure.specs.Knowledge.{Knows}
-use Rattle.model_cases.proofs.sent.grow.Goals as goal
+use Rattle.model_and_keys.proofs.sent.grow.Goals as goal
 
 pub follow-requires : goal.follow-requires
 follow-requires c =

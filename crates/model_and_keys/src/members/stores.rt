@@ -1,5 +1,5 @@
 //! A store of a member whose keys and pushes another implementation made.
-use crate::known::{
+use crate::members::known::{
     FIRST_TRAFFIC, MEMBERSHIP, SECOND_TRAFFIC, TRAFFIC, octets, reply, traffic_value,
 };
 use gd_edges::TestVerifier;
