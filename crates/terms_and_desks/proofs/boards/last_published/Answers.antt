@@ -1,7 +1,7 @@
 use Rattle.std.proofs.Common.{◌≡◌, List, ap, subst, ◌∙◌}
 use Rattle.epoch_board.specs.declared.pairs.Seen.{Seen}
 use Rattle.epoch_board.specs.Pairs.{last_pair, StartsWith}
-use Rattle.desk_and_board.proofs.boards.last_published.Goals as goal
+use Rattle.terms_and_desks.proofs.boards.last_published.Goals as goal
 
 pub returns-clause-pair : goal.returns-clause-pair
 returns-clause-pair c =
