@@ -28,8 +28,19 @@ fn holds_of_a_drawn_group(
     names: &[MemberName],
 ) -> Result<bool, NoMemory> {
     let mut history = History::new(alloc, 2);
-    draw_batches(alloc, draws, &mut history)?;
-    holds_of_history(alloc, &history, names)
+    let holds = holds_once_drawn(alloc, draws, &mut history, names);
+    drop(history);
+    holds
+}
+
+fn holds_once_drawn(
+    alloc: Global,
+    draws: &mut Draws,
+    history: &mut History,
+    names: &[MemberName],
+) -> Result<bool, NoMemory> {
+    draw_batches(alloc, draws, history)?;
+    holds_of_history(alloc, history, names)
 }
 
 fn holds_of_history(
@@ -95,7 +106,7 @@ fn add_pairs(
     pairs: &mut List<Wrap>,
 ) -> Result<(), NoMemory> {
     for epoch in 1..=history.epoch() {
-        pairs.extend(history.wraps(alloc, epoch)?.as_slice())?;
+        add_wraps(alloc, history, epoch, pairs)?;
         for member in names {
             let stayed = history.is_member(epoch - 1, member);
             if history.is_member(epoch, member) && !(only_new && stayed) {
@@ -104,6 +115,21 @@ fn add_pairs(
         }
     }
     Ok(())
+}
+
+/// Adds what the batch of an epoch encrypted.
+fn add_wraps(
+    alloc: Global,
+    history: &History,
+    epoch: u32,
+    pairs: &mut List<Wrap>,
+) -> Result<(), NoMemory>
+    requires { epoch ≤ length history.now.batches }
+{
+    let wraps = history.wraps(alloc, epoch)?;
+    let added = pairs.extend(wraps.as_slice());
+    drop(wraps);
+    added
 }
 
 /// Adds the keys of a member at an epoch and the traffic key, each under its phase 1 key.
@@ -116,8 +142,20 @@ fn add_reply(
 ) -> Result<(), NoMemory>
     requires { epoch ≤ length history.now.batches }
 {
+    let path = history.path(alloc, epoch, member)?;
+    let added = add_told(epoch, member, path.as_slice(), pairs);
+    drop(path);
+    added
+}
+
+fn add_told(
+    epoch: u32,
+    member: &MemberName,
+    path: &[KeyName],
+    pairs: &mut List<Wrap>,
+) -> Result<(), NoMemory> {
     let by = KeyName::Phase { member: *member };
-    for name in history.path(alloc, epoch, member)?.as_slice() {
+    for name in path {
         pairs.push(Wrap { by, gives: *name })?;
     }
     let gives = KeyName::Traffic { made: epoch };

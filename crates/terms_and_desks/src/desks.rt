@@ -10,12 +10,11 @@ use std::sync::Wait;
 use std::thread::Threads;
 
 #[test]
-fn passes_take_turns_and_come_back(rt: HostRuntime) -> Result<(), NoMemory> {
+fn passes_take_turns_and_come_back(rt: HostRuntime) {
     let rate = 1;
-    let met = two_passes_meet(&rt, rt.alloc(), &rate)?;
-    let full = has_no_second_turn(&rt, rt.alloc(), &rate)?;
+    let met = two_passes_meet(&rt, rt.alloc(), &rate) == Ok(true);
+    let full = has_no_second_turn(&rt, rt.alloc(), &rate) == Ok(true);
     assert!(rt; met & full);
-    Ok(())
 }
 
 /// A desk at an empty sum.
@@ -29,10 +28,8 @@ fn desk_of(
     requires turns { (1 ≤ turns) × (turns ≤ 4096) }
     ensures { IfOk result (λ made. All (λ pass. pass.desk ≡ made.desk.id) made.passes) }
 {
-    match Desk::new(alloc, Sums::new(alloc, rate), passes, turns) {
-        Ok(made) => Ok(made),
-        Err(_) => Err(NoMemory),
-    }
+    let made = Desk::new(alloc, Sums::new(alloc, rate), passes, turns);
+    made.ok().ok_or(NoMemory)
 }
 
 /// Takes the last pass out.
@@ -47,13 +44,35 @@ fn taken<K: Kept>(desk: &Desk<K>, passes: &mut List<Pass<K>>) -> Result<Pass<K>,
     }
 }
 
-/// Puts a pass to the others.
-fn put<K: Kept>(desk: &Desk<K>, passes: &mut List<Pass<K>>, pass: Pass<K>) -> Result<(), NoMemory>
-    requires pass { pass.desk ≡ desk.now.id }
-    requires others { All (λ pass. pass.desk ≡ desk.now.id) passes.old }
-    ensures { OnOk result (All (λ pass. pass.desk ≡ desk.now.id) passes.new) }
+/// Two passes take a turn each and meet. The desk stays open while one of them is away, and is closed when both are back.
+fn two_passes_meet<R: Threads + Wait + Sync>(
+    rt: &R,
+    alloc: Global,
+    rate: &u64,
+) -> Result<bool, NoMemory> {
+    let DeskMade { desk, mut passes } = desk_of(alloc, rate, 2, 4)?;
+    let (turned, second) = both_turn(rt, &desk, &mut passes)?;
+    match desk.close(passes).err() {
+        Some(open) => Ok(turned & comes_back(open, second)),
+        None => Ok(false),
+    }
+}
+
+/// Takes two passes out, each of which takes a turn, and puts one of them back.
+fn both_turn<'a, R: Threads + Wait + Sync>(
+    rt: &R,
+    desk: &Desk<Sums<'a>>,
+    passes: &mut List<Pass<Sums<'a>>>,
+) -> Result<(bool, Pass<Sums<'a>>), NoMemory>
+    requires { All (λ pass. pass.desk ≡ desk.now.id) passes.old }
+    ensures second { IfOk result (λ turned. turned.1.desk ≡ desk.now.id) }
+    ensures others { OnOk result (All (λ pass. pass.desk ≡ desk.now.id) passes.new) }
 {
-    passes.push(pass)
+    let mut second = taken(desk, passes)?;
+    let mut first = taken(desk, passes)?;
+    let turned = two_turns_seen(rt, desk, &mut first, &mut second) == Ok((5, 12));
+    passes.push(first)?;
+    Ok((turned, second))
 }
 
 /// Turns of 5 and 7 by two passes, which then meet: the first has seen the entries of both.
@@ -70,31 +89,28 @@ fn two_turns_seen<'a, R: Threads + Wait + Sync>(
     ensures five { OnOk result ((before : List ℕ) × StartsWith first.new.seen (before ++ 5 ∷ [])) }
     ensures seven { OnOk result ((before : List ℕ) × StartsWith first.new.seen (before ++ 7 ∷ [])) }
 {
-    let five = desk.turn(rt, first, 5)?;
-    let seven = desk.turn(rt, second, 7)?;
+    let five = turn_seen(rt, desk, first, 5)?;
+    let seven = turn_seen(rt, desk, second, 7)?;
     desk.meet(first, second);
     Ok((five, seven))
 }
 
-/// Two passes take a turn each and meet. The desk stays open while one of them is away, and is closed when both are back.
-fn two_passes_meet<R: Threads + Wait + Sync>(
+/// A turn of a pass, which has seen its entry then.
+fn turn_seen<'a, R: Threads + Wait + Sync>(
     rt: &R,
-    alloc: Global,
-    rate: &u64,
-) -> Result<bool, NoMemory> {
-    let DeskMade { desk, mut passes } = desk_of(alloc, rate, 2, 4)?;
-    let mut second = taken(&desk, &mut passes)?;
-    let mut first = taken(&desk, &mut passes)?;
-    let turned = two_turns_seen(rt, &desk, &mut first, &mut second) == Ok((5, 12));
-    put(&desk, &mut passes, first)?;
-    match desk.close(passes) {
-        Ok(_) => Ok(false),
-        Err(open) => Ok(turned & comes_back(open, second)?),
-    }
+    desk: &Desk<Sums<'a>>,
+    pass: &mut Pass<Sums<'a>>,
+    event: u64,
+) -> Result<u64, LedgerFull>
+    requires { pass.old.desk ≡ desk.now.id }
+    ensures desk { pass.new.desk ≡ pass.old.desk }
+    ensures seen { OnOk result ((before : List ℕ) × (pass.new.seen ≡ before ++ event ∷ [])) }
+{
+    desk.turn(rt, pass, event)
 }
 
 /// Whether one of two passes was there, and the desk is closed with the other one.
-fn comes_back<'a>(open: DeskOpen<Sums<'a>>, away: Pass<Sums<'a>>) -> Result<bool, NoMemory>
+fn comes_back<'a>(open: DeskOpen<Sums<'a>>, away: Pass<Sums<'a>>) -> bool
     requires passes { All (λ pass. pass.desk ≡ open.desk.id) open.passes }
     requires away { away.desk ≡ open.desk.id }
 {
@@ -104,10 +120,22 @@ fn comes_back<'a>(open: DeskOpen<Sums<'a>>, away: Pass<Sums<'a>>) -> Result<bool
         made,
     } = open;
     let one_was_away = (made == 2) & (passes.len() == 1);
-    passes.push(away)?;
+    if passes.push(away).is_err() {
+        return false;
+    }
+    match closed(desk, passes) {
+        Some(sums) => one_was_away & has_five_and_seven(&sums),
+        None => false,
+    }
+}
+
+/// The value of a desk whose passes are all there.
+pub(crate) fn closed<K: Kept + Drop>(desk: Desk<K>, passes: List<Pass<K>>) -> Option<K>
+    requires { All (λ pass. pass.desk ≡ desk.id) passes }
+{
     match desk.close(passes) {
-        Ok(Closed { kept, calls: _ }) => Ok(one_was_away & has_five_and_seven(&kept)),
-        Err(_) => Ok(false),
+        Ok(Closed { kept, calls: _ }) => Some(kept),
+        Err(_) => None,
     }
 }
 
@@ -123,16 +151,27 @@ fn has_no_second_turn<R: Threads + Wait + Sync>(
 ) -> Result<bool, NoMemory> {
     let DeskMade { desk, mut passes } = desk_of(alloc, rate, 1, 1)?;
     let mut pass = taken(&desk, &mut passes)?;
-    let first = desk.turn(rt, &mut pass, 3) == Ok(3);
-    let second = desk.turn(rt, &mut pass, 4) == Err(LedgerFull { held: 1 });
-    match desk.close(passes) {
-        Ok(_) => Ok(false),
-        Err(
-            DeskOpen {
-                desk: _,
-                passes,
-                made,
-            },
-        ) => Ok(first & second & (made == 1) & passes.is_empty()),
+    let turned = turns_once(rt, &desk, &mut pass);
+    let open = desk.close(passes).err();
+    let stays_open = is_without_a_pass(&open);
+    drop(open);
+    Ok(turned & stays_open)
+}
+
+fn turns_once<'a, R: Threads + Wait + Sync>(
+    rt: &R,
+    desk: &Desk<Sums<'a>>,
+    pass: &mut Pass<Sums<'a>>,
+) -> bool
+    requires { pass.old.desk ≡ desk.now.id }
+{
+    let first = turn_seen(rt, desk, pass, 3) == Ok(3);
+    first & (turn_seen(rt, desk, pass, 4) == Err(LedgerFull { held: 1 }))
+}
+
+fn is_without_a_pass(open: &Option<DeskOpen<Sums>>) -> bool {
+    match open {
+        Some(open) => (open.made == 1) & open.passes.is_empty(),
+        None => false,
     }
 }

@@ -1,8 +1,9 @@
 //! What comes of many turns, in several threads.
 ghost use Rattle.std.specs.Prelude.{◌<◌, ◌≤◌};
 
+use crate::desks::closed;
 use crate::sums::Sums;
-use desk::{Closed, Desk, DeskMade};
+use desk::{Desk, DeskMade};
 use desk_sites::work_all;
 use group_terms::{List, NoMemory};
 use std::alloc::Global;
@@ -80,15 +81,10 @@ fn sums_of<'a, R: Threads + Wait + Sync>(
 {
     let sums = Sums::new(alloc, &case.rate);
     let made = Desk::new(alloc, sums, case.passes, u64::from(case.turns));
-    let Ok(DeskMade { desk, passes }) = made else {
-        return Err(NoMemory);
-    };
+    let DeskMade { desk, passes } = made.ok().ok_or(NoMemory)?;
     let mut passes = passes.into_vec();
     work_all(rt, &desk, passes.as_mut_slice(), case.turns, case.threads);
-    match desk.close(List::from_vec(passes)) {
-        Ok(Closed { kept, calls: _ }) => Ok(kept),
-        Err(_) => Err(NoMemory),
-    }
+    closed(desk, List::from_vec(passes)).ok_or(NoMemory)
 }
 
 /// Whether the entries are the numbers of these places, each once.
