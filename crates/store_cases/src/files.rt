@@ -1,5 +1,5 @@
 //! Files that are read.
-use gd_disk::MemDisk;
+use gd_disk::{Disk, MemDisk};
 use group_terms::Octets;
 use std::alloc::Global;
 use tree_store::{FormatRefusal, JournalRefusal, TreeStore};
@@ -37,13 +37,24 @@ pub(crate) fn close(store: TreeStore<MemDisk>) {
 
 fn rest_of(alloc: Global, store: &mut TreeStore<MemDisk>) -> Option<Found> {
     for count in 0..10 {
-        match store.next_batch(alloc) {
-            Ok(Some(_)) => {}
-            Ok(None) => return Some((count, None)),
+        match go_on(alloc, store) {
+            Ok(true) => {}
+            Ok(false) => return Some((count, None)),
             Err(why) => return refused_at(count, why),
         }
     }
     None
+}
+
+/// Reads the next batch and lets it go; whether there is one.
+pub(crate) fn go_on<D: Disk>(
+    alloc: Global,
+    store: &mut TreeStore<D>,
+) -> Result<bool, JournalRefusal> {
+    let next = store.next_batch(alloc)?;
+    let is_there = next.is_some();
+    drop(next);
+    Ok(is_there)
 }
 
 fn refused_at(count: usize, why: JournalRefusal) -> Option<Found> {

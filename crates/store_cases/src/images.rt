@@ -1,5 +1,5 @@
 //! A file that another implementation made.
-use crate::files::{close, opened};
+use crate::files::{close, go_on, opened};
 use gd_disk::MemDisk;
 use group_terms::{Batch, BatchValues, Change, Drawn, NoMemory, Octets};
 use std::alloc::Global;
@@ -20,7 +20,9 @@ const IMAGE: &str =
     cb84ee105fd84218cba8e25f33b7c39ac3e82600";
 
 /// The SPI of its head.
-const SPI: &str = "ade0b876903df1a0e56a5d4028bd8653";
+const SPI: [u8; 16] = [
+    0xad, 0xe0, 0xb8, 0x76, 0x90, 0x3d, 0xf1, 0xa0, 0xe5, 0x6a, 0x5d, 0x40, 0x28, 0xbd, 0x86, 0x53,
+];
 
 /// The values of its first batch: each position with its IV and key; and the keys of the traffic with their SPI.
 const FIRST: &str = "0001bee7079f7a3851557c97ba980d082d73a0290fcb6965e3483e53c612ed7aee32\
@@ -45,7 +47,7 @@ struct Due {
     values: &'static str,
 }
 
-const DUE: [Due; 2] = [
+static DUE: [Due; 2] = [
     Due {
         stamps: (1, 0),
         changes: &[(true, b"a"), (true, b"b"), (true, b"c")],
@@ -89,34 +91,36 @@ fn is_read(alloc: Global) -> Result<bool, NoMemory> {
 
 /// Whether a store has the head and the batches of that file, and no more.
 fn reads_group(alloc: Global, store: &mut TreeStore<MemDisk>) -> Result<bool, NoMemory> {
-    let mut holds = is_head(&store.head(), octets(alloc, SPI)?.as_slice());
+    let mut holds = is_head(&store.head());
     for due in &DUE {
         holds &= reads_batch(alloc, store, due)?;
     }
-    Ok(holds & ends(alloc, store))
+    Ok(holds & (go_on(alloc, store) == Ok(false)))
 }
 
-fn ends(alloc: Global, store: &mut TreeStore<MemDisk>) -> bool {
-    match store.next_batch(alloc) {
-        Ok(None) => true,
-        _ => false,
-    }
-}
-
-fn is_head(head: &Head, spi: &[u8]) -> bool {
+fn is_head(head: &Head) -> bool {
     (head.depth == 2)
         & (head.limit == u32::MAX)
         & (head.name.text() == b"console".as_slice())
-        & (head.spi.as_slice() == spi)
+        & (head.spi == SPI)
 }
 
 /// Whether the next batch is the one that is due.
 fn reads_batch(alloc: Global, store: &mut TreeStore<MemDisk>, due: &Due) -> Result<bool, NoMemory> {
     let values = octets(alloc, due.values)?;
-    match store.next_batch(alloc) {
-        Ok(Some(stored)) => Ok(is_batch(&stored, due, values.as_slice())),
-        _ => Ok(false),
-    }
+    let is_due = is_next(alloc, store, due, values.as_slice());
+    drop(values);
+    Ok(is_due)
+}
+
+fn is_next(alloc: Global, store: &mut TreeStore<MemDisk>, due: &Due, values: &[u8]) -> bool {
+    let next = store.next_batch(alloc);
+    let is_due = match &next {
+        Ok(Some(stored)) => is_batch(stored, due, values),
+        _ => false,
+    };
+    drop(next);
+    is_due
 }
 
 fn is_batch(stored: &Stored, due: &Due, values: &[u8]) -> bool {

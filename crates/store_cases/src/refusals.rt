@@ -26,7 +26,7 @@ const ROOT: &[u8] = b"\0\x01 an IV of AES.. and a key of AES";
 const LEAF: &[u8] = b"\0\x05 an IV of AES.. and a key of AES";
 
 /// Changes of the second batch, each of which leaves no batch that is due.
-const NOT_DUE: [&[Change]; 15] = [
+static NOT_DUE: &[&[Change]] = &[
     // Epoch 1 again, and epoch 3 in place of 2.
     &[(5, 1, b"\x01")],
     &[(5, 1, b"\x03")],
@@ -57,19 +57,21 @@ fn a_batch_that_is_not_due_is_refused(rt: HostRuntime) {
 
 fn refuses_all(alloc: Global) -> Result<bool, NoMemory> {
     let image = image(alloc)?;
-    refuses_each(alloc, image.as_slice())
+    let are_refused = refuses_each(alloc, image.as_slice());
+    drop(image);
+    Ok(are_refused)
 }
 
-fn refuses_each(alloc: Global, image: &[u8]) -> Result<bool, NoMemory> {
+fn refuses_each(alloc: Global, image: &[u8]) -> bool {
     let mut holds = true;
-    for changes in &NOT_DUE {
-        holds &= refuses(alloc, image, changes)?;
+    for changes in NOT_DUE {
+        holds &= refuses(alloc, image, changes);
     }
-    Ok(holds)
+    holds
 }
 
 /// Whether the second batch is refused where it has changes.
-fn refuses(alloc: Global, image: &[u8], changes: &[Change]) -> Result<bool, NoMemory> {
+fn refuses(alloc: Global, image: &[u8], changes: &[Change]) -> bool {
     let records: [Record<'_>; 3] = [(HEAD, &[]), (FIRST, &[]), (SECOND, changes)];
     reads(alloc, image, &records, (1, Some(328)))
 }
@@ -99,7 +101,7 @@ const THIRD_EMPTY: &[Change] = &[
 ];
 
 /// What is read of files with these records.
-const READ: [(&[Record<'static>], Found); 10] = [
+static READ: &[(&[Record<'static>], Found)] = &[
     (&[], (0, Some(9))),
     // A second head, and the second batch.
     (&[(HEAD, &[]), (FIRST, &[]), (HEAD, &[])], (1, Some(328))),
@@ -155,29 +157,25 @@ fn records_are_read_up_to_one_that_is_not_due(rt: HostRuntime) {
 }
 
 fn are_read(alloc: Global) -> Result<bool, NoMemory> {
-    let is_empty = read(alloc, Octets::new(alloc)) == Some((0, Some(0)));
     let image = image(alloc)?;
-    Ok(is_empty & reads_each(alloc, image.as_slice())?)
+    let are_read = reads_each(alloc, image.as_slice());
+    drop(image);
+    Ok(are_read)
 }
 
-fn reads_each(alloc: Global, image: &[u8]) -> Result<bool, NoMemory> {
-    let mut holds = true;
-    for (records, found) in &READ {
-        holds &= reads(alloc, image, records, *found)?;
+fn reads_each(alloc: Global, image: &[u8]) -> bool {
+    let mut holds = read(alloc, Octets::new(alloc)) == Some((0, Some(0)));
+    for (records, found) in READ {
+        holds &= reads(alloc, image, records, *found);
     }
-    Ok(holds)
+    holds
 }
 
 /// Whether this is read of a file with these records out of an image.
-fn reads(
-    alloc: Global,
-    image: &[u8],
-    records: &[Record<'_>],
-    found: Found,
-) -> Result<bool, NoMemory> {
+fn reads(alloc: Global, image: &[u8], records: &[Record<'_>], found: Found) -> bool {
     let mut file = Octets::new(alloc);
-    write_file(alloc, &mut file, image, records)?;
-    Ok(read(alloc, file) == Some(found))
+    let is_written = write_file(alloc, &mut file, image, records).is_ok();
+    is_written & (read(alloc, file) == Some(found))
 }
 
 fn write_file(
@@ -187,12 +185,15 @@ fn write_file(
     records: &[Record<'_>],
 ) -> Result<(), NoMemory> {
     file.extend(b"\x01GDOIJRNL")?;
-    for ((at, count), changes) in records {
-        let (_, rest) = image.split_at_checked(*at).ok_or(NoMemory)?;
-        let (record, _) = rest.split_at_checked(*count).ok_or(NoMemory)?;
+    for (part, changes) in records {
+        let record = part_of(image, *part).ok_or(NoMemory)?;
         write_record(alloc, file, record, changes)?;
     }
     file.push(0)
+}
+
+fn part_of(image: &[u8], (at, count): Part) -> Option<&[u8]> {
+    image.get(at..)?.get(..count)
 }
 
 /// Writes an open gate, the length of a record with its changes, and the record.
@@ -203,8 +204,10 @@ fn write_record(
     changes: &[Change],
 ) -> Result<(), NoMemory> {
     let mut changed = Octets::new(alloc);
-    write_changed(&mut changed, record, changes)?;
-    append_record(file, changed.as_slice())
+    let is_changed = write_changed(&mut changed, record, changes);
+    let is_written = append_record(file, changed.as_slice());
+    drop(changed);
+    is_changed.and(is_written)
 }
 
 fn append_record(file: &mut Octets, record: &[u8]) -> Result<(), NoMemory> {
@@ -218,18 +221,12 @@ fn append_record(file: &mut Octets, record: &[u8]) -> Result<(), NoMemory> {
 
 fn write_changed(changed: &mut Octets, record: &[u8], changes: &[Change]) -> Result<(), NoMemory> {
     let mut place = 0;
-    let mut rest = record;
     for (at, count, piece) in changes {
-        let (kept, later) = rest
-            .split_at_checked(at.saturating_sub(place))
-            .ok_or(NoMemory)?;
-        let (_, later) = later.split_at_checked(*count).ok_or(NoMemory)?;
-        changed.extend(kept)?;
+        changed.extend(record.get(place..*at).ok_or(NoMemory)?)?;
         changed.extend(piece)?;
         place = at.saturating_add(*count);
-        rest = later;
     }
-    changed.extend(rest)
+    changed.extend(record.get(place..).ok_or(NoMemory)?)
 }
 
 #[test]
@@ -238,28 +235,36 @@ fn a_batch_of_33_changes_is_refused(rt: HostRuntime) {
 }
 
 fn are_joins_read(alloc: Global) -> Result<bool, NoMemory> {
-    let few = reads_joins(alloc, 32, 64, (1, None))?;
-    Ok(few & reads_joins(alloc, 33, 70, (0, Some(45)))?)
+    let mut source = image(alloc)?;
+    let are_read = few_joins_are_read(alloc, &mut source);
+    drop(source);
+    Ok(are_read)
+}
+
+/// Whether a batch of 32 joins is read, and one of 33 is not. Each is written after what is there.
+fn few_joins_are_read(alloc: Global, source: &mut Octets) -> bool {
+    reads_joins(alloc, source, 32, 64, (1, None))
+        & reads_joins(alloc, source, 33, 70, (0, Some(45)))
 }
 
 /// Whether this is read of a batch in which so many come in and so many positions have values, in a group of depth 6.
-fn reads_joins(alloc: Global, joins: u8, positions: u16, found: Found) -> Result<bool, NoMemory> {
-    let mut source = image(alloc)?;
+fn reads_joins(
+    alloc: Global,
+    source: &mut Octets,
+    joins: u8,
+    positions: u16,
+    found: Found,
+) -> bool {
     let at = source.len();
-    write_joins(&mut source, joins, positions)?;
-    let joins = (at, source.len().saturating_sub(at));
-    reads(
-        alloc,
-        source.as_slice(),
-        &[(HEAD, &[(2, 1, b"\x06")]), (joins, &[])],
-        found,
-    )
+    let is_written = write_joins(source, joins, positions).is_ok();
+    let batch = (at, source.len().saturating_sub(at));
+    let records: [Record<'_>; 2] = [(HEAD, &[(2, 1, b"\x06")]), (batch, &[])];
+    is_written & reads(alloc, source.as_slice(), &records, found)
 }
 
 /// Writes the first batch of a group of depth 6, in which so many come in, of at most 64.
 fn write_joins(record: &mut Octets, joins: u8, positions: u16) -> Result<(), NoMemory> {
-    record.extend(b"\x01\x01\0\0\0\x01\0\0\0\0")?;
-    record.push(joins)?;
+    record.extend(&[1, 1, 0, 0, 0, 1, 0, 0, 0, 0, joins])?;
     for i in 0..joins {
         record.extend(&[1, 2, b'a' + i / 10 % 10, b'0' + i % 10])?;
     }

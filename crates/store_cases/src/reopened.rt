@@ -2,6 +2,7 @@
 ghost use Rattle.std.specs.Prelude.{IsSome};
 
 use crate::batches::two_batches;
+use crate::files::go_on;
 use crate::stores::{
     CLOSED, FAULT, Store, Why, close, commit_all, head_of, reads, store_failing_at, why_not_read,
 };
@@ -44,11 +45,7 @@ fn begins_again(alloc: Global, store: &mut Store, list: &[Stored]) -> bool
 
 /// Whether a batch is read once the store was opened again.
 fn reads_first(alloc: Global, store: &mut Store) -> bool {
-    let is_open = reopened(alloc, store).is_none();
-    match store.next_batch(alloc) {
-        Ok(Some(_)) => is_open,
-        _ => false,
-    }
+    reopened(alloc, store).is_none() & (go_on(alloc, store) == Ok(true))
 }
 
 /// Opening again takes a sync and two reads.

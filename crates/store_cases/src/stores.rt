@@ -1,6 +1,7 @@
 //! Stores on disks in memory, and what is read of them. Calls that promise much are made in functions here that promise no more than is used.
 ghost use Rattle.std.specs.Prelude.{◌≡◌, ◌≤◌, IsSome, IfOk};
 
+use crate::files::go_on;
 use crate::unseen::UnseenDisk;
 use gd_disk::MemDisk;
 use group_terms::{GroupName, List, NoMemory};
@@ -56,10 +57,9 @@ pub(crate) fn store_failing_at(alloc: Global, calls: &[u64]) -> Result<Store, No
     ensures { IfOk result (λ store. IsSome store.end) }
 {
     let head = head_of(2)?;
-    match created(alloc, disk_failing_at(alloc, calls)?, &head) {
-        Ok(store) => Ok(store),
-        Err(_) => Err(NoMemory),
-    }
+    created(alloc, disk_failing_at(alloc, calls)?, &head)
+        .ok()
+        .ok_or(NoMemory)
 }
 
 /// Makes the record of a batch, and stores it. It takes four calls of the disk.
@@ -120,21 +120,17 @@ pub(crate) fn reads(alloc: Global, store: &mut Store, list: &[Stored]) -> bool {
     for stored in list {
         are_same &= reads_next(alloc, store, stored);
     }
-    are_same & ends(alloc, store)
+    are_same & (go_on(alloc, store) == Ok(false))
 }
 
 fn reads_next(alloc: Global, store: &mut Store, stored: &Stored) -> bool {
-    match store.next_batch(alloc) {
-        Ok(Some(next)) => is_same(&next, stored),
+    let next = store.next_batch(alloc);
+    let is_same = match &next {
+        Ok(Some(next)) => is_same(next, stored),
         _ => false,
-    }
-}
-
-fn ends(alloc: Global, store: &mut Store) -> bool {
-    match store.next_batch(alloc) {
-        Ok(None) => true,
-        _ => false,
-    }
+    };
+    drop(next);
+    is_same
 }
 
 fn is_same(stored: &Stored, other: &Stored) -> bool {
@@ -147,5 +143,5 @@ fn is_same(stored: &Stored, other: &Stored) -> bool {
 
 /// Why the next batch is not read, if it is not.
 pub(crate) fn why_not_read(alloc: Global, store: &mut Store) -> Why {
-    store.next_batch(alloc).err()
+    go_on(alloc, store).err()
 }

@@ -46,15 +46,15 @@ fn goes<R: Files<File = File>>(disk: &mut FileDisk<R>, trial: Trial) -> bool {
         Trial::Reads => is_read(disk),
         Trial::FailsAfterSync => fails_after_a_sync(disk),
         Trial::NeverOpens => never_opens(disk),
-        Trial::TakesNothing => disk.write_at(0, b"abc") == Err(Failed),
+        Trial::TakesNothing => write(disk, 0, b"abc") == Err(Failed),
     }
 }
 
 fn is_written<R: Files<File = File>>(disk: &mut FileDisk<R>) -> bool {
-    disk.write_at(0, b"abcdef").is_ok()
-        & disk.write_at(2, b"XY").is_ok()
-        & disk.cut(5).is_ok()
-        & disk.sync().is_ok()
+    write(disk, 0, b"abcdef").is_ok()
+        & write(disk, 2, b"XY").is_ok()
+        & cut(disk, 5).is_ok()
+        & sync(disk).is_ok()
 }
 
 fn is_read<R: Files<File = File>>(disk: &mut FileDisk<R>) -> bool {
@@ -72,7 +72,7 @@ fn reads<R: Files<File = File>>(
     count: usize,
     octets: &[u8],
 ) -> bool {
-    (disk.read(at, room) == Ok(count)) & (*room == *octets)
+    (read(disk, at, room) == Ok(count)) & (*room == *octets)
 }
 
 #[test]
@@ -97,15 +97,41 @@ fn take_nothing<R: Files<File = File> + Clone>(alloc: Global, rt: &R) -> bool {
 
 /// What a sync could not bring to the device may be lost, and no later sync would tell: each call fails after one that failed.
 fn fails_after_a_sync<R: Files<File = File>>(disk: &mut FileDisk<R>) -> bool {
-    (disk.write_at(0, b"abc") == Ok(()))
-        & (disk.sync() == Err(Failed))
-        & (disk.write_at(0, b"abc") == Err(Failed))
-        & (disk.read(0, &mut [b'-'; 2]) == Err(Failed))
+    (write(disk, 0, b"abc") == Ok(()))
+        & (sync(disk) == Err(Failed))
+        & (write(disk, 0, b"abc") == Err(Failed))
+        & (read(disk, 0, &mut [b'-'; 2]) == Err(Failed))
 }
 
 /// Whether each call fails where the file does not open.
 fn never_opens<R: Files<File = File>>(disk: &mut FileDisk<R>) -> bool {
-    (disk.read(0, &mut [b'-'; 2]) == Err(Failed))
-        & (disk.cut(0) == Err(Failed))
-        & (disk.sync() == Err(Failed))
+    (read(disk, 0, &mut [b'-'; 2]) == Err(Failed))
+        & (cut(disk, 0) == Err(Failed))
+        & (sync(disk) == Err(Failed))
+}
+
+// The calls of a disk promise much. Here they promise nothing, so that a test does not pay for it at each call.
+
+fn read<R: Files<File = File>>(
+    disk: &mut FileDisk<R>,
+    at: u64,
+    room: &mut [u8],
+) -> Result<usize, Failed> {
+    disk.read(at, room)
+}
+
+fn write<R: Files<File = File>>(
+    disk: &mut FileDisk<R>,
+    at: u64,
+    octets: &[u8],
+) -> Result<(), Failed> {
+    disk.write_at(at, octets)
+}
+
+fn cut<R: Files<File = File>>(disk: &mut FileDisk<R>, to: u64) -> Result<(), Failed> {
+    disk.cut(to)
+}
+
+fn sync<R: Files<File = File>>(disk: &mut FileDisk<R>) -> Result<(), Failed> {
+    disk.sync()
 }
