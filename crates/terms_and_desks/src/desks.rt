@@ -33,7 +33,10 @@ fn desk_of(
 }
 
 /// Takes the last pass out.
-fn taken<K: Kept>(desk: &Desk<K>, passes: &mut List<Pass<K>>) -> Result<Pass<K>, NoMemory>
+pub(crate) fn taken<K: Kept>(
+    desk: &Desk<K>,
+    passes: &mut List<Pass<K>>,
+) -> Result<Pass<K>, NoMemory>
     requires { All (λ pass. pass.desk ≡ desk.now.id) passes.old }
     ensures pass { IfOk result (λ pass. pass.desk ≡ desk.now.id) }
     ensures others { All (λ pass. pass.desk ≡ desk.now.id) passes.new }
@@ -169,8 +172,8 @@ fn turns_once<'a, R: Threads + Wait + Sync>(
     first & (turn_seen(rt, desk, pass, 4) == Err(LedgerFull { held: 1 }))
 }
 
-fn is_without_a_pass(open: &Option<DeskOpen<Sums>>) -> bool {
-    match open {
+fn is_without_a_pass(left: &Option<DeskOpen<Sums>>) -> bool {
+    match left {
         Some(open) => (open.made == 1) & open.passes.is_empty(),
         None => false,
     }

@@ -1,7 +1,8 @@
 //! A look at a board waits for no turn at the desk whose value publishes on it.
-ghost use Rattle.std.specs.Prelude.{◌≡◌, [], IfOk};
+ghost use Rattle.std.specs.Prelude.{◌≡◌, [], All, IfOk};
 ghost use Rattle.desk.specs.Turned.{new_passes};
 
+use crate::desks::taken;
 use crate::halls::{Hall, Watch, look_and_tell, wait_for};
 use desk::{Desk, DeskMade, Kept, Pass};
 use epoch_board::{BoardMade, BoardPass, EpochBoard, Publisher};
@@ -9,7 +10,6 @@ use group_terms::{List, Log, NoMemory};
 use std::alloc::Global;
 use std::sync::Wait;
 use std::sync::atomic::AtomicBool;
-use std::test::Fail;
 use std::thread;
 use std::thread::Threads;
 
@@ -84,48 +84,67 @@ fn turn_once<'a, R: Threads + Wait + Sync>(
 }
 
 /// A desk of one pass at a value that publishes on the board of this hall.
-fn desk_of(alloc: Global, hall: &Hall, publisher: Publisher) -> Result<DeskMade<Waiting<'_>>, Fail>
+fn desk_of(
+    alloc: Global,
+    hall: &Hall,
+    publisher: Publisher,
+) -> Result<DeskMade<Waiting<'_>>, NoMemory>
     requires { publisher.board ≡ hall.now.board }
     ensures desk { IfOk result (λ made. (made.desk.terms.tag.board ≡ hall.now.board) × (made.desk.terms.passes ≡ 1)) }
     ensures passes { IfOk result (λ made. made.passes ≡ new_passes made.desk.id made.desk.terms) }
+    ensures own { IfOk result (λ made. All (λ pass. pass.desk ≡ made.desk.id) made.passes) }
 {
     let waiting = Waiting {
         epochs: Log::of(List::new(alloc)),
         hall,
         publisher,
     };
-    match Desk::new(alloc, waiting, 1, 1) {
-        Ok(made) => Ok(made),
-        Err(_) => Err(Fail::new("memory is short")),
-    }
+    Desk::new(alloc, waiting, 1, 1).ok().ok_or(NoMemory)
 }
 
 #[test]
-fn a_look_waits_for_no_turn(rt: HostRuntime) -> Result<(), Fail> {
+fn a_look_waits_for_no_turn(rt: HostRuntime) {
+    assert!(rt; waits_for_none(&rt, rt.alloc()) == Ok(true));
+}
+
+fn waits_for_none<R: Threads + Wait + Sync>(rt: &R, alloc: Global) -> Result<bool, NoMemory> {
     let BoardMade {
         board,
         publisher,
         mut reader,
-    } = EpochBoard::new(rt.alloc())?;
+    } = EpochBoard::new(alloc)?;
     let told = Told {
         epoch: 1,
         pass: board.split(&mut reader),
     };
-    let hall = Hall {
-        board,
-        flag: AtomicBool::new(false),
-    };
+    let hall = Hall::of(board);
     let mut watch = Watch {
         hall: &hall,
         pass: reader,
     };
-    let DeskMade { desk, mut passes } = desk_of(rt.alloc(), &hall, publisher)?;
-    let mut pass = passes.pop().ok_or("one pass")?;
+    let made = desk_of(alloc, &hall, publisher)?;
+    is_seen_in_a_turn(rt, made, told, &mut watch)
+}
+
+/// Whether the first epoch is seen while it is told in a turn.
+fn is_seen_in_a_turn<'a, R: Threads + Wait + Sync>(
+    rt: &R,
+    made: DeskMade<Waiting<'a>>,
+    told: Told,
+    watch: &mut Watch,
+) -> Result<bool, NoMemory>
+    requires board { told.pass.board ≡ made.desk.terms.tag.board }
+    requires own { All (λ pass. pass.desk ≡ made.desk.id) made.passes }
+{
+    let DeskMade { desk, mut passes } = made;
+    let mut pass = taken(&desk, &mut passes)?;
     let (turned, seen) = thread::join(
-        &rt,
-        || turn_once(&rt, &desk, &mut pass, told),
-        || look_and_tell(&rt, &mut watch),
+        rt,
+        ||
+            requires desk { pass.desk ≡ desk.id }
+            requires board { told.pass.board ≡ desk.terms.tag.board }
+        { turn_once(rt, &desk, &mut pass, told) },
+        || look_and_tell(rt, watch),
     );
-    assert_eq!(rt; (turned, seen.epoch, seen.sequence), (true, 1, 0));
-    Ok(())
+    Ok(turned & (seen.epoch == 1) & (seen.sequence == 0))
 }
