@@ -15,13 +15,17 @@ pub(crate) fn report(alloc: Global, asked: Asked, answer: Answer, out: &mut Octe
         outside,
         answer,
     };
-    report_entry(alloc, &entry, out).is_ok()
+    let is_told = report_entry(alloc, &entry, out).is_ok();
+    drop(entry);
+    is_told
 }
 
 /// Whether this is what is reported of an answer.
 pub(crate) fn reports(alloc: Global, asked: Asked, answer: Answer, lines: &[u8]) -> bool {
     let mut out = List::new(alloc);
-    report(alloc, asked, answer, &mut out) & (out.as_slice() == lines)
+    let is_told = report(alloc, asked, answer, &mut out) & (out.as_slice() == lines);
+    drop(out);
+    is_told
 }
 
 /// Whether this is what is reported of a refusal.

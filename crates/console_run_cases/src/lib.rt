@@ -27,4 +27,6 @@ mod sinks;
 #[cfg(test)]
 mod sources;
 #[cfg(test)]
+mod store_reports;
+#[cfg(test)]
 mod words;

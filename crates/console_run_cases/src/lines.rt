@@ -19,7 +19,7 @@ enum Says {
 }
 
 /// Lines of the grammar.
-const LINES: [(&[u8], Says); 21] = [
+static LINES: &[(&[u8], Says)] = &[
     (b"", Says::Nothing),
     (b"   ", Says::Nothing),
     (b"#", Says::Nothing),
@@ -50,7 +50,7 @@ const LINES: [(&[u8], Says); 21] = [
 ];
 
 /// Lines that are not of the grammar.
-const OTHERS: [&[u8]; 38] = [
+static OTHERS: &[&[u8]] = &[
     b"join abcdefghijklmnopqrstuvwxyz_567890",
     b"join A",
     b"join #a",
@@ -97,7 +97,7 @@ fn lines_are_read_by_the_grammar(rt: HostRuntime) {
     let spaces = [b' '; 201];
     let mut holds = is_read(&spaces[..200], Says::Nothing) & read_line(&spaces).is_none();
     for (text, says) in LINES {
-        holds &= is_read(text, says);
+        holds &= is_read(text, *says);
     }
     for text in OTHERS {
         holds &= read_line(text).is_none();
@@ -147,7 +147,7 @@ fn is_line(line: &Line, says: Says) -> bool {
 }
 
 /// Numbers of at most 3 digits and below 5.
-const NUMBERS: [(&[u8], Option<u64>); 7] = [
+static NUMBERS: &[(&[u8], Option<u64>)] = &[
     (b"0", Some(0)),
     (b"004", Some(4)),
     (b"0004", None),
@@ -161,7 +161,7 @@ const NUMBERS: [(&[u8], Option<u64>); 7] = [
 fn decimal_numbers_are_read(rt: HostRuntime) {
     let mut holds = true;
     for (text, number) in NUMBERS {
-        holds &= read_decimal(text, 3, 5) == number;
+        holds &= read_decimal(text, 3, 5) == *number;
     }
     assert!(rt; holds);
 }

@@ -5,7 +5,7 @@ use gd_edges::{StdSource, TextSink};
 use group_terms::List;
 use std::alloc::Global;
 
-const OTHER_WORDS: [&str; 18] = [
+static OTHER_WORDS: &[&str] = &[
     "",
     "batch",
     "--new",
@@ -47,6 +47,7 @@ fn touch_nothing(alloc: Global, words: &str) -> bool {
         b"as it was",
     );
     let told = (sink.octets() == b"end 1\n".as_slice()) & (source == GOOD_LINES.as_bytes());
+    drop(sink);
     match ran {
         Ok(outcome) => told & (outcome.ending == Ending::NoGroup) & outcome.disk_stays,
         Err(_) => false,

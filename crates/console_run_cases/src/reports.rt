@@ -1,54 +1,50 @@
-//! What is reported of groups, of changes and batches, of stores, of questions, of refusals, and at the end.
-use crate::entries::{b_1, refuses, report, reports};
+//! What is reported of groups, of changes and batches, of questions, of refusals, and at the end.
+use crate::entries::{b_1, refuses, reports};
 use group_model::{
     Answer, Asked, Counter, GroupSeen, KeyName, List, LkhId, MOST_MEMBERS, MemberName, MemberNames,
-    NoMemory, Octets, Output, PushPair, PushRefusal, Refusal, Standing, Wrap,
+    NoMemory, Output, PushPair, Refusal, Standing, Wrap,
 };
 use script_text::end_line;
 use std::alloc::Global;
 
 #[test]
 fn changes_are_reported(rt: HostRuntime) {
-    let alloc = rt.alloc();
+    assert!(rt; joins_are_reported(rt.alloc()) & leaves_are_reported(rt.alloc()));
+}
+
+fn joins_are_reported(alloc: Global) -> bool {
+    let why = Refusal::TreeFull { held: 4 };
+    is_join(alloc, Answer::Queued, b"b_1 queued\n")
+        & is_join(alloc, Answer::Nothing, b"b_1 nothing\n")
+        & is_join(alloc, Answer::Refused { why }, b"b_1 refused tree-full 4\n")
+}
+
+fn is_join(alloc: Global, answer: Answer, line: &[u8]) -> bool {
     let member = b_1();
-    let full = Refusal::TreeFull { held: 4 };
-    assert!(rt;
-        reports(
+    reports(alloc, Asked::Join { member }, answer, line)
+}
+
+fn leaves_are_reported(alloc: Global) -> bool {
+    is_leave(alloc, Answer::Done, b"b_1 leaving\n")
+        & is_refused_leave(
             alloc,
-            Asked::Join { member },
-            Answer::Queued,
-            b"b_1 queued\n"
-        ) & reports(
-            alloc,
-            Asked::Join { member },
-            Answer::Nothing,
-            b"b_1 nothing\n"
-        ) & refuses(
-            alloc,
-            Asked::Join { member },
-            full,
-            b"b_1 refused tree-full 4\n"
-        ) & reports(
-            alloc,
-            Asked::Leave { member },
-            Answer::Done,
-            b"b_1 leaving\n"
-        ) & refuses(
-            alloc,
-            Asked::Leave { member },
             Refusal::AlreadyPending,
-            b"b_1 refused already-pending\n"
-        ) & refuses(
-            alloc,
-            Asked::Leave { member },
-            Refusal::NotMember,
-            b"b_1 refused not-member\n"
+            b"b_1 refused already-pending\n",
         )
-    );
+        & is_refused_leave(alloc, Refusal::NotMember, b"b_1 refused not-member\n")
+}
+
+fn is_refused_leave(alloc: Global, why: Refusal, line: &[u8]) -> bool {
+    is_leave(alloc, Answer::Refused { why }, line)
+}
+
+fn is_leave(alloc: Global, answer: Answer, line: &[u8]) -> bool {
+    let member = b_1();
+    reports(alloc, Asked::Leave { member }, answer, line)
 }
 
 /// Why a batch is refused, and the line.
-const REFUSALS: [(Refusal, &[u8]); 7] = [
+static REFUSALS: &[(Refusal, &[u8])] = &[
     (Refusal::NoMemory, b"batch refused no-memory\n"),
     (Refusal::NeedsReopen, b"batch refused needs-reopen\n"),
     (
@@ -79,101 +75,31 @@ const REFUSALS: [(Refusal, &[u8]); 7] = [
 #[test]
 fn stops_and_refusals_are_reported(rt: HostRuntime) {
     let alloc = rt.alloc();
+    let stops = reports(alloc, Asked::Halt, Answer::Done, b"halted\n");
+    assert!(rt; stops & batches_are_refused(alloc) & others_are_refused(alloc));
+}
+
+fn batches_are_refused(alloc: Global) -> bool {
     let mut holds = true;
     for (why, line) in REFUSALS {
-        holds &= refuses(alloc, Asked::Batch, why, line);
+        holds &= refuses(alloc, Asked::Batch, *why, line);
     }
-    let why = Refusal::NeedsReopen;
-    assert!(rt;
-        holds
-            & reports(alloc, Asked::Halt, Answer::Done, b"halted\n")
-            & refuses(alloc, Asked::Begin, why, b"open refused needs-reopen\n")
-            & refuses(alloc, Asked::Reopen, why, b"reopen refused needs-reopen\n")
-            & refuses(alloc, Asked::Show, why, b"show refused needs-reopen\n")
-            & refuses(
-                alloc,
-                Asked::DeliverAll,
-                why,
-                b"deliver-all refused needs-reopen\n"
-            )
-    );
+    holds
 }
 
-#[test]
-fn stores_are_reported(rt: HostRuntime) {
-    let mut out = List::new(rt.alloc());
-    let put = report_stores(rt.alloc(), &mut out);
-    assert!(rt;
-        put & (out.as_slice()
-            == b"b_1 keyed 3\nb_1 older 6 4\nb_1 push 5 taken root 3\nb_1 push 5 taken traffic 3\n\
-                b_1 push 5 refused bad-signature\nb_1 push 5 nothing\nb_1 key 3 sequence 6 0001020a0f10abff\nb_1 nothing\n"
-                .as_slice())
-    );
+fn others_are_refused(alloc: Global) -> bool {
+    needs_reopen(alloc, Asked::Begin, b"open refused needs-reopen\n")
+        & needs_reopen(alloc, Asked::Reopen, b"reopen refused needs-reopen\n")
+        & needs_reopen(alloc, Asked::Show, b"show refused needs-reopen\n")
+        & needs_reopen(
+            alloc,
+            Asked::DeliverAll,
+            b"deliver-all refused needs-reopen\n",
+        )
 }
 
-/// Puts what is reported of stores, line after line.
-fn report_stores(alloc: Global, out: &mut Octets) -> bool {
-    let member = b_1();
-    let why = PushRefusal::BadSignature;
-    let known = Answer::KeyIs {
-        epoch: 3,
-        sequence: 6,
-        print: [0, 1, 2, 10, 15, 16, 171, 255],
-    };
-    report(
-        alloc,
-        Asked::Keep { member },
-        Answer::Kept { epoch: 3 },
-        out,
-    ) & report(
-        alloc,
-        Asked::Keep { member },
-        Answer::Older { last: 6, got: 4 },
-        out,
-    ) & report(alloc, fifth_push(), Answer::TookRoot { epoch: 3 }, out)
-        & report(alloc, fifth_push(), Answer::TookTraffic { epoch: 3 }, out)
-        & report(alloc, fifth_push(), Answer::PushRefused { why }, out)
-        & report(alloc, fifth_push(), Answer::Nothing, out)
-        & report(alloc, Asked::Key { member }, known, out)
-        & report(alloc, Asked::Key { member }, Answer::Nothing, out)
-}
-
-fn fifth_push() -> Asked {
-    Asked::Deliver {
-        member: b_1(),
-        sequence: 5,
-    }
-}
-
-#[test]
-fn each_refusal_of_a_push_has_its_reason(rt: HostRuntime) {
-    let leaf = LkhId::new(9).unwrap_or_default();
-    let table: [(PushRefusal, &[u8]); 4] = [
-        (
-            PushRefusal::OtherSpi {
-                got: [0; 16],
-                kept: [1; 16],
-            },
-            b"b_1 push 5 refused other-spi\n",
-        ),
-        (
-            PushRefusal::Malformed { at: 7 },
-            b"b_1 push 5 refused malformed\n",
-        ),
-        (
-            PushRefusal::Stale { last: 6, got: 5 },
-            b"b_1 push 5 refused stale 6 5\n",
-        ),
-        (
-            PushRefusal::NoPath { leaf },
-            b"b_1 push 5 refused no-path 9\n",
-        ),
-    ];
-    let mut holds = true;
-    for (why, line) in table {
-        holds &= reports(rt.alloc(), fifth_push(), Answer::PushRefused { why }, line);
-    }
-    assert!(rt; holds);
+fn needs_reopen(alloc: Global, asked: Asked, line: &[u8]) -> bool {
+    refuses(alloc, asked, Refusal::NeedsReopen, line)
 }
 
 #[test]
@@ -220,19 +146,14 @@ fn reports_new_group(alloc: Global) -> bool {
         sequence: 0,
         members: List::new(alloc),
     };
-    let resent = None;
-    reports(
-        alloc,
-        Asked::Create { depth: 2 },
-        Answer::Opened { group, resent },
-        b"new depth 2\n",
-    ) & reports(alloc, Asked::Create { depth: 2 }, Answer::Queued, b"")
-        & refuses(
-            alloc,
-            Asked::Create { depth: 2 },
-            Refusal::NoMemory,
-            b"new refused no-memory\n",
-        )
+    let (why, resent) = (Refusal::NoMemory, None);
+    is_create(alloc, Answer::Opened { group, resent }, b"new depth 2\n")
+        & is_create(alloc, Answer::Queued, b"")
+        & is_create(alloc, Answer::Refused { why }, b"new refused no-memory\n")
+}
+
+fn is_create(alloc: Global, answer: Answer, line: &[u8]) -> bool {
+    reports(alloc, Asked::Create { depth: 2 }, answer, line)
 }
 
 /// A group with one member was found, with a pair of two short pushes, and is shown.

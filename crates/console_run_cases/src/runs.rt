@@ -46,30 +46,47 @@ pub(crate) fn run<S: Source, K: Sink>(
 ) -> Result<Outcome, NoMemory>
     requires { length image.now ≤ 1000 }
 {
-    let octets = List::copy_of(alloc, image)?;
     let words = words_of(alloc, words)?;
-    let Finished {
-        ending,
-        history,
-        disk,
-    } = console(
+    let ran = run_words(alloc, words.as_slice(), source, sink, image);
+    drop(words);
+    ran
+}
+
+fn run_words<S: Source, K: Sink>(
+    alloc: Global,
+    words: &[String],
+    source: &mut S,
+    sink: &mut K,
+    image: &[u8],
+) -> Result<Outcome, NoMemory>
+    requires { length image.now ≤ 1000 }
+{
+    let disk = MemDisk::holding(alloc, List::copy_of(alloc, image)?);
+    let finished = console(
         alloc,
-        words.as_slice(),
+        words,
         source,
         sink,
-        MemDisk::holding(alloc, octets),
+        disk,
         TestSigner::new(),
         &TestVerifier::new(),
         ChaChaDraws::new(0, 0),
     );
-    Ok(Outcome {
-        ending,
-        entries: history.len(),
-        disk_stays: disk.image() == image,
-    })
+    let outcome = outcome_of(&finished, image);
+    drop(finished);
+    Ok(outcome)
 }
 
-fn words_of(alloc: Global, text: &str) -> Result<Vec<String>, NoMemory> {
+fn outcome_of(finished: &Finished<MemDisk>, image: &[u8]) -> Outcome {
+    Outcome {
+        ending: finished.ending,
+        entries: finished.history.len(),
+        disk_stays: finished.disk.image() == image,
+    }
+}
+
+/// The words of a text, between its spaces.
+pub(crate) fn words_of(alloc: Global, text: &str) -> Result<Vec<String>, NoMemory> {
     let mut words = Vec::new(alloc);
     for word in text.split_ascii_whitespace() {
         words.push(String::from_str(alloc, word)?)?;

@@ -40,8 +40,9 @@ fn a_sink_may_fail_at_any_octet(rt: HostRuntime) {
 fn takes(alloc: Global, most: usize) -> bool {
     let mut written = Vec::new(alloc);
     let ending = ending_after(alloc, &mut written, most);
-    (TOLD_BAD.as_bytes().get(..most) == Some(written.as_slice()))
-        & (ending == Some(written_to(most)))
+    let is_written = TOLD_BAD.as_bytes().get(..most) == Some(written.as_slice());
+    drop(written);
+    is_written & (ending == Some(written_to(most)))
 }
 
 /// How the faulty script ends with a sink that takes so many octets.

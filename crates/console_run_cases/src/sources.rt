@@ -32,23 +32,23 @@ impl Read for OneByOne<'_> {
 /// Runs what a reader gives: how it ends and how many entries its history has, where it is reported so.
 fn run_read<R: Read>(alloc: Global, reader: &mut R, report: &str) -> Option<(Ending, usize)> {
     let mut sink = TextSink::new(alloc, List::new(alloc));
-    let outcome = run(
+    let ran = run(
         alloc,
         "--new 2",
         &mut StdSource::new(reader),
         &mut sink,
         &[],
-    )
-    .ok()?;
-    if sink.octets() == report.as_bytes() {
-        Some((outcome.ending, outcome.entries))
-    } else {
-        None
+    );
+    let is_reported = sink.octets() == report.as_bytes();
+    drop(sink);
+    match ran {
+        Ok(outcome) if is_reported => Some((outcome.ending, outcome.entries)),
+        _ => None,
     }
 }
 
 /// Scripts, their reports, and what no call has taken at the end.
-const SCRIPTS: [(&str, &str, &str); 4] = [
+static SCRIPTS: &[(&str, &str, &str)] = &[
     (GOOD_LINES, TOLD_GOOD, ""),
     (BAD_THIRD, TOLD_BAD, "join b\n"),
     ("jo\nbatch\n", "new depth 2\nend 2 line 1\n", "batch\n"),
@@ -79,7 +79,7 @@ fn is_reported_one_by_one(alloc: Global, script: &str, report: &str, left: &str)
 }
 
 /// The first and the last count of calls that go well, how many entries there are then, and the report.
-const CALLS: [(usize, usize, usize, &str); 4] = [
+static CALLS: &[(usize, usize, usize, &str)] = &[
     (0, 6, 1, "new depth 2\nend 3\n"),
     (7, 12, 2, "new depth 2\na queued\nend 3\n"),
     (
@@ -101,8 +101,8 @@ const CALLS: [(usize, usize, usize, &str); 4] = [
 fn a_source_may_fail_at_any_call(rt: HostRuntime) {
     let mut holds = true;
     for (first, last, entries, report) in CALLS {
-        for calls in first..=last {
-            holds &= fails_after(rt.alloc(), calls, entries, report);
+        for calls in *first..=*last {
+            holds &= fails_after(rt.alloc(), calls, *entries, report);
         }
     }
     assert!(rt; holds);

@@ -1,11 +1,13 @@
 //! Which words of the command line are read, and as what.
+use crate::runs::words_of;
 use command_words::{Command, Opening, read_words, seed_of};
-use std::alloc::{AllocError, Global};
+use group_terms::NoMemory;
+use std::alloc::Global;
 
 const MOST_LIMIT: u32 = 4_294_967_295;
 
 /// Words of the grammar: how a group is opened, the limit, and the seed.
-const COMMANDS: [(&str, Opening, u32, u64); 9] = [
+static COMMANDS: &[(&str, Opening, u32, u64)] = &[
     ("--new 2", Opening::New { depth: 2 }, MOST_LIMIT, 0),
     ("--new=2", Opening::New { depth: 2 }, MOST_LIMIT, 0),
     (
@@ -38,7 +40,7 @@ const COMMANDS: [(&str, Opening, u32, u64); 9] = [
 ];
 
 /// Words that are not of the grammar.
-const OTHERS: [&str; 20] = [
+static OTHERS: &[&str] = &[
     "",
     "--new",
     "--new 0",
@@ -67,11 +69,11 @@ fn words_are_read_by_the_grammar(rt: HostRuntime) {
     let mut holds = true;
     for (text, opening, limit, seed) in COMMANDS {
         let command = Command {
-            opening,
-            limit,
-            seed,
+            opening: *opening,
+            limit: *limit,
+            seed: *seed,
         };
-        holds &= is_read(alloc, text, Some(command), seed) == Ok(true);
+        holds &= is_read(alloc, text, Some(command), *seed) == Ok(true);
     }
     for text in OTHERS {
         holds &= is_read(alloc, text, None, 0) == Ok(true);
@@ -85,10 +87,9 @@ fn is_read(
     text: &str,
     command: Option<Command>,
     seed: u64,
-) -> Result<bool, AllocError> {
-    let mut words = Vec::new(alloc);
-    for word in text.split_whitespace() {
-        words.push(String::from_str(alloc, word)?)?;
-    }
-    Ok((read_words(&words) == command) & (seed_of(&words) == seed))
+) -> Result<bool, NoMemory> {
+    let words = words_of(alloc, text)?;
+    let is_read = (read_words(&words) == command) & (seed_of(&words) == seed);
+    drop(words);
+    Ok(is_read)
 }
