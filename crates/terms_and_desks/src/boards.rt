@@ -34,12 +34,11 @@ const GREATEST: Seen = Seen {
 };
 
 #[test]
-fn a_board_shows_the_last_published_pair(rt: HostRuntime) -> Result<(), NoMemory> {
-    let alone = shows_the_last(rt.alloc())?;
-    let locked = shows_under_the_lock(&rt, rt.alloc())?;
-    let rising = never_shows_less(&rt, rt.alloc())?;
+fn a_board_shows_the_last_published_pair(rt: HostRuntime) {
+    let alone = shows_the_last(rt.alloc()) == Ok(true);
+    let locked = shows_under_the_lock(&rt, rt.alloc()) == Ok(true);
+    let rising = never_shows_less(&rt, rt.alloc()) == Ok(true);
     assert!(rt; alone & locked & rising);
-    Ok(())
 }
 
 fn shows_the_last(alloc: Global) -> Result<bool, NoMemory> {

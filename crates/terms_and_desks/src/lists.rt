@@ -16,14 +16,26 @@ fn copies(alloc: Global) -> Result<bool, NoMemory> {
 /// A list grows and shrinks, goes on as a log, and ends as a list that is cleared.
 fn change(alloc: Global) -> Result<bool, NoMemory> {
     let mut list = List::with_room(alloc, 2)?;
-    let grown = grows(&mut list)?;
-    let shrunk = shrinks(&mut list);
-    list.push(8)?;
+    let changes = grows_and_shrinks(&mut list) == Ok(true);
     let mut log = Log::of(list);
-    let noted = goes_on(&mut log)?;
-    let mut list = List::from_vec(log.into_list().into_vec());
+    let goes_on = goes_on(&mut log) == Ok(true);
+    let is_empty = is_cleared(List::from_vec(log.into_list().into_vec()));
+    Ok(changes & goes_on & is_empty)
+}
+
+fn is_cleared(mut list: List<u8>) -> bool {
     list.clear();
-    Ok(grown & shrunk & noted & list.is_empty())
+    let is_empty = list.is_empty();
+    drop(list);
+    is_empty
+}
+
+/// A list ends with one item.
+fn grows_and_shrinks(list: &mut List<u8>) -> Result<bool, NoMemory> {
+    let grown = grows(list)?;
+    let shrunk = shrinks(list);
+    list.push(8)?;
+    Ok(grown & shrunk)
 }
 
 fn grows(list: &mut List<u8>) -> Result<bool, NoMemory> {

@@ -1,4 +1,6 @@
 //! Marks are seen from the positions above their leaf.
+ghost use Rattle.std.specs.Prelude.{◌≡◌};
+
 use group_terms::{LeafMarks, NoMemory, marks_above};
 use std::alloc::Global;
 
@@ -22,11 +24,21 @@ fn is_counted(alloc: Global) -> Result<bool, NoMemory> {
 /// A mark set on a leaf is seen from the positions above it, and no more once it is taken off; a copy keeps it.
 fn follow(alloc: Global) -> Result<bool, NoMemory> {
     let mut marks = LeafMarks::none(alloc, 2)?;
+    let follow = follow_in(alloc, &mut marks);
+    drop(marks);
+    follow
+}
+
+fn follow_in(alloc: Global, marks: &mut LeafMarks) -> Result<bool, NoMemory>
+    requires { marks.old.depth ≡ 2 }
+{
     marks.set(2, true);
     let copy = marks.copy(alloc)?;
     let above = marks.is_below(1) & !marks.is_below(2) & marks.is_below(3) & marks.is_below(6);
     marks.set(2, false);
-    Ok(above & is_marked(&copy) & is_unmarked(&marks))
+    let is_kept = is_marked(&copy);
+    drop(copy);
+    Ok(above & is_kept & is_unmarked(marks))
 }
 
 fn is_marked(marks: &LeafMarks) -> bool {

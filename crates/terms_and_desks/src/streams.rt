@@ -5,24 +5,41 @@ use std::io::{ErrorKind, Read, Write};
 
 #[test]
 fn a_reader_of_std_is_a_source(rt: HostRuntime) {
-    let mut source = StdSource::new(b"abc".as_slice());
+    let given = gives_abc(&mut StdSource::new(b"abc".as_slice()));
+    assert!(rt; given & fails(&mut StdSource::new(Trouble::AtOnce)));
+}
+
+fn gives_abc<S: Source>(source: &mut S) -> bool {
     let mut room = [b'-'; 2];
-    let first = (source.take(&mut room) == Ok(2)) & (room == *b"ab");
-    let second = (source.take(&mut room) == Ok(1)) & (room == *b"cb");
-    let end = (source.take(&mut room) == Ok(0)) & (room == *b"cb");
-    let failed = StdSource::new(Trouble::AtOnce).take(&mut room).is_err();
-    assert!(rt; first & second & end & failed);
+    gives(source, &mut room, 2, b"ab")
+        & gives(source, &mut room, 1, b"cb")
+        & gives(source, &mut room, 0, b"cb")
+}
+
+/// Whether a source gives so many octets, and the room is this then.
+fn gives<S: Source>(source: &mut S, room: &mut [u8; 2], count: usize, octets: &[u8; 2]) -> bool {
+    (source.take(room) == Ok(count)) & (*room == *octets)
+}
+
+fn fails<S: Source>(source: &mut S) -> bool {
+    source.take(&mut [b'-'; 2]).is_err()
 }
 
 #[test]
 fn a_writer_of_std_is_a_sink(rt: HostRuntime) {
     let mut written = Vec::new(rt.alloc());
-    let mut sink = StdSink::new(&mut written);
-    let counted = (sink.put(b"ab") == Ok(2)) & (sink.put(b"c") == Ok(1));
-    let failed = put_fails(Trouble::AtOnce)
-        & put_fails(Trouble::TakesNothing)
-        & put_fails(Trouble::AtFlush);
-    assert!(rt; counted & failed & (written.as_slice() == b"abc".as_slice()));
+    let counted = takes_abc(&mut StdSink::new(&mut written));
+    let taken = counted & (written.as_slice() == b"abc".as_slice());
+    drop(written);
+    assert!(rt; taken & puts_fail());
+}
+
+fn takes_abc<S: Sink>(sink: &mut S) -> bool {
+    (sink.put(b"ab") == Ok(2)) & (sink.put(b"c") == Ok(1))
+}
+
+fn puts_fail() -> bool {
+    put_fails(Trouble::AtOnce) & put_fails(Trouble::TakesNothing) & put_fails(Trouble::AtFlush)
 }
 
 fn put_fails(trouble: Trouble) -> bool {
@@ -32,12 +49,16 @@ fn put_fails(trouble: Trouble) -> bool {
 /// A call that failed is not made again: the next one goes through.
 #[test]
 fn a_fault_is_answered_and_not_tried_again(rt: HostRuntime) {
-    let mut source = StdSource::new(FailsOnce { failed: false });
-    let mut room = [b'-'; 2];
-    let taken = source.take(&mut room).is_err() & (source.take(&mut room) == Ok(1));
-    let mut sink = StdSink::new(FailsOnce { failed: false });
-    let put = sink.put(b"ab").is_err() & (sink.put(b"ab") == Ok(1));
-    assert!(rt; taken & put);
+    let given = gives_at_last(&mut StdSource::new(FailsOnce { failed: false }));
+    assert!(rt; given & takes_at_last(&mut StdSink::new(FailsOnce { failed: false })));
+}
+
+fn gives_at_last<S: Source>(source: &mut S) -> bool {
+    fails(source) & (source.take(&mut [b'-'; 2]) == Ok(1))
+}
+
+fn takes_at_last<S: Sink>(sink: &mut S) -> bool {
+    sink.put(b"ab").is_err() & (sink.put(b"ab") == Ok(1))
 }
 
 /// A reader and writer whose first call fails; each other one moves an octet.
