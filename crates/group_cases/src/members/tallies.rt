@@ -83,23 +83,23 @@ impl Tally {
 
     /// Adds what a store answered to a push.
     pub(crate) fn add_answer(&mut self, answer: &Result<Taken, PushRefusal>, store: &MemberStore) {
-        if matches!(answer, Ok(Taken::Traffic { .. })) {
-            self.add_traffic(&store.traffic_key());
+        match answer {
+            Ok(Taken::Root { .. }) => count_on(&mut self.roots),
+            Ok(Taken::Traffic { .. }) => {
+                count_on(&mut self.traffics);
+                self.add_traffic(&store.traffic_key());
+            }
+            Err(refusal) => self.add_refusal(refusal),
         }
-        let count = self.count_of(answer);
-        *count = count.saturating_add(1);
     }
 
-    /// The count of answers of one kind.
-    fn count_of(&mut self, answer: &Result<Taken, PushRefusal>) -> &mut u64 {
-        match answer {
-            Ok(Taken::Root { .. }) => &mut self.roots,
-            Ok(Taken::Traffic { .. }) => &mut self.traffics,
-            Err(PushRefusal::OtherSpi { .. }) => &mut self.other_spi,
-            Err(PushRefusal::Malformed { .. }) => &mut self.malformed,
-            Err(PushRefusal::BadSignature) => &mut self.bad_signature,
-            Err(PushRefusal::Stale { .. }) => &mut self.stale,
-            Err(PushRefusal::NoPath { .. }) => &mut self.no_path,
+    fn add_refusal(&mut self, refusal: &PushRefusal) {
+        match refusal {
+            PushRefusal::OtherSpi { .. } => count_on(&mut self.other_spi),
+            PushRefusal::Malformed { .. } => count_on(&mut self.malformed),
+            PushRefusal::BadSignature => count_on(&mut self.bad_signature),
+            PushRefusal::Stale { .. } => count_on(&mut self.stale),
+            PushRefusal::NoPath { .. } => count_on(&mut self.no_path),
         }
     }
 
@@ -125,6 +125,11 @@ impl Tally {
     fn add_number(&mut self, number: u64) {
         self.sum = self.sum.wrapping_add(number);
     }
+}
+
+/// One more.
+fn count_on(count: &mut u64) {
+    *count = count.saturating_add(1);
 }
 
 /// Counts, with words after each.

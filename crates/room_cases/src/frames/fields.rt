@@ -122,30 +122,35 @@ fn add_name(id: u16, made: u32, text: &mut Text) {
 
 fn add_given(updates: &Option<UpdateSpan>, body: &[u8], text: &mut Text) {
     if let Some(span) = updates {
-        add_arrays(span, body, text);
+        add_arrays(span, body, true, text);
     }
 }
 
-fn add_arrays(span: &UpdateSpan, body: &[u8], text: &mut Text) {
+/// The keys that arrays give, ` ID.EPOCH>ID.EPOCH` each; where what is sealed is asked for, with ` given` before it and that after it.
+pub fn add_arrays(span: &UpdateSpan, body: &[u8], sealed: bool, text: &mut Text) {
     for array in span.arrays(body) {
-        add_array(array.keys, text);
+        add_array(array.keys, sealed, text);
     }
 }
 
-fn add_array(keys: SealedKeys, text: &mut Text) {
+fn add_array(keys: SealedKeys, sealed: bool, text: &mut Text) {
     for key in keys {
-        add_sealed(&key, text);
+        add_key(&key, sealed, text);
     }
 }
 
-fn add_sealed(key: &SealedKey, text: &mut Text) {
-    text.add(" given");
+fn add_key(key: &SealedKey, sealed: bool, text: &mut Text) {
+    if sealed {
+        text.add(" given");
+    }
     add_names(key, text);
-    add_spaced(&key.gives.sealed, text);
+    if sealed {
+        add_spaced(&key.gives.sealed, text);
+    }
 }
 
 /// ` ID.EPOCH>ID.EPOCH`: the key that seals, and the key that is given.
-pub fn add_names(key: &SealedKey, text: &mut Text) {
+fn add_names(key: &SealedKey, text: &mut Text) {
     text.add(" ");
     add_name(key.by.number(), key.by_made, text);
     text.add(">");

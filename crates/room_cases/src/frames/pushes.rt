@@ -1,11 +1,10 @@
 //! Pushes that are opened one after the other, in a line of text each.
 
-use crate::frames::fields::{add_names, add_traffic};
+use crate::frames::fields::{add_arrays, add_traffic};
 use crate::frames::words::rekey_key;
 use case_lines::{Text, number};
 use gd_edges::TestVerifier;
 use group_terms::{NoMemory, NodeValue};
-use kd_wire::{SealedKeys, UpdateSpan};
 use push_msg::{OpenBody, OpenPush, PushRefusal, Room, open_push};
 use std::alloc::Global;
 
@@ -63,25 +62,13 @@ fn add_push(push: &OpenPush, keys: &[u8], text: &mut Text) {
         OpenBody::Membership { span, .. } => {
             text.add("membership ");
             text.add_number(u64::from(push.sequence));
-            add_given(span, keys, text);
+            add_arrays(span, keys, false, text);
         }
         OpenBody::Traffic { traffic } => {
             text.add("traffic ");
             text.add_number(u64::from(push.sequence));
             add_traffic(traffic, text);
         }
-    }
-}
-
-fn add_given(span: &UpdateSpan, body: &[u8], text: &mut Text) {
-    for array in span.arrays(body) {
-        add_array(array.keys, text);
-    }
-}
-
-fn add_array(keys: SealedKeys, text: &mut Text) {
-    for key in keys {
-        add_names(&key, text);
     }
 }
 

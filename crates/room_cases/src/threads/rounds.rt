@@ -1,7 +1,7 @@
 ghost use Rattle.std.specs.Prelude.{◌≡◌, ◌<◌, All};
 ghost use Rattle.std.specs.Thread.{IsSync};
 
-use desk::{Closed, Desk, DeskMade, Pass};
+use desk::{Closed, Desk, DeskMade, DeskOpen, Pass};
 use desk_sums::Sum;
 use group_terms::{List, NoMemory};
 use std::alloc::Global;
@@ -51,8 +51,16 @@ fn round<R: Threads + Wait + Sync>(rt: &R, alloc: Global, threads: usize) -> Res
     };
     let mut passes = passes.into_vec();
     work_all(rt, &desk, passes.as_mut_slice(), threads);
-    match desk.close(List::from_vec(passes)) {
-        Ok(Closed { kept, calls: _ }) => Ok(kept.value()),
+    let closed = desk.close(List::from_vec(passes));
+    let sum = sum_of(&closed);
+    drop(closed);
+    sum
+}
+
+/// The sum that a desk was closed with.
+fn sum_of(closed: &Result<Closed<Sum>, DeskOpen<Sum>>) -> Result<u64, NoMemory> {
+    match closed {
+        Ok(closed) => Ok(closed.kept.value()),
         Err(_) => Err(NoMemory),
     }
 }
