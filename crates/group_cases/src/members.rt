@@ -14,9 +14,9 @@
 //! read FILE                    the stores of 16 members are given all of such a file, so that the time of it can be taken from outside
 //! ```
 //!
-//! A line on a store is `NAME ANSWER / ROOT-EPOCH TRAFFIC-EPOCH LAST`: its member, what came of it, and after that the epochs of the keys of its root and of the
-//! traffic, and its last number. An answer is `made`, `renewed` or `older LAST GOT`; `root EPOCH` or `traffic EPOCH`, or why a datagram was refused; or `leaf
-//! POSITION` and the traffic key.
+//! A line on a store is `NAME ANSWER / ROOT-EPOCH TRAFFIC-EPOCH LAST`: its member, what came of it, and after that the epochs of the keys of its root and of
+//! the traffic, and its last number. An answer is `made`, `renewed` or `older LAST GOT`; `root EPOCH` or `traffic EPOCH`, or why a datagram was refused; or
+//! `leaf POSITION` and the traffic key.
 //!
 //! A file has the pushes of its group, and the replies to 16 members. Members come in until a tree of this depth is full. From then on GOING members go out
 //! with each batch, and the members who went out with the batch before it come back. What came of the reading is printed.

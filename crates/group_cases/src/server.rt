@@ -27,19 +27,19 @@
 //! From then on as many go out as a batch has changes, and others come in, in turn. What came of it is printed, and the group of the case stays.
 
 use crate::groups::{SeedCore, SeedOpening, SeedParts, create, group_name, parts_on};
-use crate::server::batches::{add_pair, batch};
-use crate::server::looks::{add_counts, show, state};
+use crate::server::calls::{add_opened, call_core, open};
 use crate::server::requests::ask;
 use crate::server::runs::work;
 use crate::server::texts::{Detail, add_refused, add_shown, detail_of};
 use case_lines::{Text, long_number, number, octets, put};
-use gcks_core::{Core, CoreOpened, MemberName, NewGroup, Opening, Parts, PushPair};
+use gcks_core::{CoreOpened, MemberName, NewGroup, Opening, Parts};
 use gd_disk::MemDisk;
 use gd_edges::{ChaChaDraws, TestSigner};
 use group_terms::{List, NoMemory};
 use std::alloc::Global;
 
 mod batches;
+mod calls;
 mod keyed;
 mod looks;
 mod requests;
@@ -332,68 +332,4 @@ fn crashed(parts: TestParts, choice: u64) -> Option<TestParts> {
             None
         }
     }
-}
-
-/// What is said of a group that was opened.
-fn add_opened(detail: Detail, opened: &TestOpened, text: &mut Text) {
-    text.add("open depth ");
-    text.add_number(u64::from(opened.core.depth()));
-    text.add(" ");
-    add_counts(&opened.core, text);
-    text.add("\n");
-    add_pair(detail, &opened.resent, text);
-}
-
-/// What a word alone asks of a group that is open.
-fn call_core(
-    alloc: Global,
-    detail: Detail,
-    core: &mut TestCore,
-    word: &str,
-    text: &mut Text,
-) -> Option<()> {
-    match word {
-        "batch" => batch(alloc, detail, core, text),
-        "reopen" => reopen(alloc, detail, core, text),
-        "halt" => halt(core, text),
-        "show" => show(core, text),
-        "state" => state(alloc, detail, core, text),
-        "draw" => draw(core, text),
-        _ => return None,
-    }
-    Some(())
-}
-
-/// Opens a group, of which nothing more is said.
-fn open(alloc: Global, parts: TestParts) -> Result<TestOpened, TestOpening> {
-    Core::open(alloc, parts)
-}
-
-fn reopen(alloc: Global, detail: Detail, core: &mut TestCore, text: &mut Text) {
-    match core.reopen(alloc) {
-        Ok(resent) => {
-            add_reopened(detail, core, &resent, text);
-            drop(resent);
-        }
-        Err(why) => add_refused("reopen", why, text),
-    }
-}
-
-/// What is said of a group that was opened again, with the pair of its last batch.
-fn add_reopened(detail: Detail, core: &TestCore, resent: &Option<PushPair>, text: &mut Text) {
-    text.add("reopened ");
-    add_counts(core, text);
-    text.add("\n");
-    add_pair(detail, resent, text);
-}
-
-fn halt(core: &mut TestCore, text: &mut Text) {
-    core.halt();
-    text.add("halted\n");
-}
-
-fn draw(core: &mut TestCore, text: &mut Text) {
-    text.add("drew ");
-    text.add_hex(&core.draw());
-    text.add("\n");
 }
