@@ -15,10 +15,12 @@ fn follows_from_its_leaf(alloc: Global) -> bool {
         by: leaf,
         gives: above,
     }];
-    let follows = match derive(alloc, &[leaf], &pairs, &above) {
-        Ok(Some(found)) => leads_above(&found, &pairs),
+    let found = derive(alloc, &[leaf], &pairs, &above);
+    let follows = match &found {
+        Ok(Some(found)) => leads_above(found, &pairs),
         _ => false,
     };
+    drop(found);
     follows & is_derived_if(alloc, &leaf, &root, &pairs, false)
 }
 
@@ -36,22 +38,26 @@ fn what_is_derived_is_what_a_second_closure_reaches(rt: HostRuntime) {
     let mut draws = Draws { state: 7 };
     let mut same = true;
     for _ in 0..300 {
-        same &= is_closed_alike(rt.alloc(), &mut draws) == Ok(true);
+        same &= is_closed_alike(rt.alloc(), &mut draws);
     }
     assert!(rt; same);
 }
 
 /// Whether of a drawn graph the same keys are derived as a closure reaches.
-fn is_closed_alike(alloc: Global, draws: &mut Draws) -> Result<bool, NoMemory> {
+fn is_closed_alike(alloc: Global, draws: &mut Draws) -> bool {
     let mut pairs = List::new(alloc);
-    draw_pairs(draws, &mut pairs)?;
-    is_derived_as_reached(alloc, key(draws.number(), 1), pairs.as_slice())
+    let are_drawn = draw_pairs(draws, &mut pairs).is_ok();
+    let is_alike = is_derived_as_reached(alloc, key(draws.number(), 1), pairs.as_slice());
+    drop(pairs);
+    are_drawn & is_alike
 }
 
-fn is_derived_as_reached(alloc: Global, start: KeyName, pairs: &[Wrap]) -> Result<bool, NoMemory> {
+fn is_derived_as_reached(alloc: Global, start: KeyName, pairs: &[Wrap]) -> bool {
     let mut reached = List::new(alloc);
-    reach(start, pairs, &mut reached)?;
-    Ok(are_derived(alloc, &start, pairs, reached.as_slice()))
+    let is_whole = reach(start, pairs, &mut reached).is_ok();
+    let are_derived = are_derived(alloc, &start, pairs, reached.as_slice());
+    drop(reached);
+    is_whole & are_derived
 }
 
 /// Whether of the twelve keys just these are derived.

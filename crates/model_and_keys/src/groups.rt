@@ -49,8 +49,10 @@ fn holds_of_history(
     names: &[MemberName],
 ) -> Result<bool, NoMemory> {
     let mut sent = List::new(alloc);
-    add_pairs(alloc, history, names, true, &mut sent)?;
-    holds_of_sent(alloc, history, names, sent.as_slice())
+    let are_added = add_pairs(alloc, history, names, true, &mut sent);
+    let holds = holds_of_sent(alloc, history, names, sent.as_slice());
+    drop(sent);
+    are_added.and(holds)
 }
 
 fn holds_of_sent(
@@ -60,8 +62,10 @@ fn holds_of_sent(
     sent: &[Wrap],
 ) -> Result<bool, NoMemory> {
     let mut world = List::new(alloc);
-    add_pairs(alloc, history, names, false, &mut world)?;
-    holds_of(alloc, history, names, sent, world.as_slice())
+    let are_added = add_pairs(alloc, history, names, false, &mut world);
+    let holds = holds_of(alloc, history, names, sent, world.as_slice());
+    drop(world);
+    are_added.and(holds)
 }
 
 /// Adds those of eight drawn batches that fit.
@@ -154,12 +158,16 @@ fn add_told(
     path: &[KeyName],
     pairs: &mut List<Wrap>,
 ) -> Result<(), NoMemory> {
-    let by = KeyName::Phase { member: *member };
     for name in path {
-        pairs.push(Wrap { by, gives: *name })?;
+        pairs.push(told(member, *name))?;
     }
-    let gives = KeyName::Traffic { made: epoch };
-    pairs.push(Wrap { by, gives })
+    pairs.push(told(member, KeyName::Traffic { made: epoch }))
+}
+
+/// A key under the phase 1 key of a member.
+fn told(member: &MemberName, gives: KeyName) -> Wrap {
+    let by = KeyName::Phase { member: *member };
+    Wrap { by, gives }
 }
 
 fn holds_of(
@@ -208,12 +216,26 @@ fn is_for_others(
     requires { epoch ≤ length history.now.batches }
 {
     let mut others = List::new(alloc);
+    let are_added = add_others(history, epoch, names, &mut others);
+    let is_derived = derives(alloc, others.as_slice(), world, epoch);
+    drop(others);
+    are_added.and(is_derived)
+}
+
+fn add_others(
+    history: &History,
+    epoch: u32,
+    names: &[MemberName],
+    others: &mut List<MemberName>,
+) -> Result<(), NoMemory>
+    requires { epoch ≤ length history.now.batches }
+{
     for member in names {
         if !history.is_member(epoch, member) {
             others.push(*member)?;
         }
     }
-    derives(alloc, others.as_slice(), world, epoch)
+    Ok(())
 }
 
 /// Whether names derive the traffic key of an epoch from their phase 1 keys, by pairs.
@@ -224,9 +246,27 @@ fn derives(
     epoch: u32,
 ) -> Result<bool, NoMemory> {
     let mut have = List::new(alloc);
+    let are_added = add_phase_keys(names, &mut have);
+    let is_derived = is_derived(alloc, have.as_slice(), pairs, epoch);
+    drop(have);
+    are_added.and(is_derived)
+}
+
+fn add_phase_keys(names: &[MemberName], have: &mut List<KeyName>) -> Result<(), NoMemory> {
     for member in names {
         have.push(KeyName::Phase { member: *member })?;
     }
-    let goal = KeyName::Traffic { made: epoch };
-    Ok(derive(alloc, have.as_slice(), pairs, &goal)?.is_some())
+    Ok(())
+}
+
+fn is_derived(
+    alloc: Global,
+    have: &[KeyName],
+    pairs: &[Wrap],
+    epoch: u32,
+) -> Result<bool, NoMemory> {
+    let found = derive(alloc, have, pairs, &KeyName::Traffic { made: epoch })?;
+    let is_found = found.is_some();
+    drop(found);
+    Ok(is_found)
 }

@@ -101,7 +101,10 @@ fn histories_are_as_key_servers_show_them(rt: HostRuntime) {
 /// Whether this is what the history of two batches says of its epochs.
 fn has_epochs(alloc: Global, joins: &str, leaves: &str, epochs: &[Epoch]) -> bool {
     let mut history = History::new(alloc, 2);
-    are_added(alloc, &mut history, joins, leaves) & are_epochs(alloc, &history, epochs)
+    let are_added = are_added(alloc, &mut history, joins, leaves);
+    let are_epochs = are_epochs(alloc, &history, epochs);
+    drop(history);
+    are_added & are_epochs
 }
 
 fn are_epochs(alloc: Global, history: &History, epochs: &[Epoch]) -> bool {
@@ -129,7 +132,10 @@ fn paths_have_the_keys_of_their_epoch(rt: HostRuntime) {
 
 fn has_paths(alloc: Global) -> bool {
     let mut history = History::new(alloc, 2);
-    are_added(alloc, &mut history, "abc", "b") & are_paths(alloc, &history)
+    let are_added = are_added(alloc, &mut history, "abc", "b");
+    let are_paths = are_paths(alloc, &history);
+    drop(history);
+    are_added & are_paths
 }
 
 fn are_paths(alloc: Global, history: &History) -> bool {

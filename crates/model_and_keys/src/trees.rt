@@ -70,7 +70,9 @@ fn steps_make_what_their_batch_makes(rt: HostRuntime) {
 
 fn are_steps(alloc: Global) -> Result<bool, NoMemory> {
     let mut tree = PresentTree::new(alloc, 2)?;
-    Ok(are_taken(alloc, &mut tree))
+    let are_taken = are_taken(alloc, &mut tree);
+    drop(tree);
+    Ok(are_taken)
 }
 
 fn are_taken(alloc: Global, tree: &mut PresentTree) -> bool {
@@ -89,7 +91,9 @@ fn trees_say_who_is_there_and_what_comes(rt: HostRuntime) {
 
 fn is_tree_of_three(alloc: Global) -> Result<bool, NoMemory> {
     let mut tree = PresentTree::new(alloc, 2)?;
-    Ok(says_who_is_there(alloc, &mut tree))
+    let is_said = says_who_is_there(alloc, &mut tree);
+    drop(tree);
+    Ok(is_said)
 }
 
 fn says_who_is_there(alloc: Global, tree: &mut PresentTree) -> bool {
@@ -133,7 +137,11 @@ fn is_foreseen(alloc: Global, tree: &PresentTree) -> bool {
         return false;
     }
     match tree.step(alloc, &batch, 3) {
-        Ok(Some(step)) => is_of_d(tree, &step),
+        Ok(Some(step)) => {
+            let is_of_d = is_of_d(tree, &step);
+            drop(step);
+            is_of_d
+        }
         _ => false,
     }
 }

@@ -57,13 +57,12 @@ pub(crate) const SECOND_TRAFFIC: [&str; 3] = [
 pub(crate) fn reply(sequence: u32) -> Option<Keyed>
     ensures { IfSome result IsReply }
 {
-    let (spi, traffic) = (octets(SPI)?, traffic_value(&FIRST_TRAFFIC)?);
     Some(Keyed {
         epoch: 1,
         sequence,
-        spi,
+        spi: octets(SPI),
         path: path()?,
-        traffic,
+        traffic: traffic_value(&FIRST_TRAFFIC),
     })
 }
 
@@ -85,23 +84,30 @@ fn key(position: u16, texts: &[&str; 2]) -> Option<PathKey>
     ensures id { IfSome result (λ key. key.id ≡ position) }
     ensures made { IfSome result (λ key. key.made ≡ 1) }
 {
-    let id = LkhId::new(position)?;
-    let (iv, key) = (octets(texts[0])?, octets(texts[1])?);
-    let value = NodeValue { iv, key };
-    Some(PathKey { id, made: 1, value })
-}
-
-pub(crate) fn traffic_value(texts: &[&str; 3]) -> Option<TrafficValue> {
-    Some(TrafficValue {
-        cipher_key: octets(texts[0])?,
-        integrity_key: octets(texts[1])?,
-        spi: octets(texts[2])?,
+    let value = NodeValue {
+        iv: octets(texts[0]),
+        key: octets(texts[1]),
+    };
+    Some(PathKey {
+        id: LkhId::new(position)?,
+        made: 1,
+        value,
     })
 }
 
-/// The octets of hexadecimal digits.
-pub(crate) fn octets<const N: usize>(text: &str) -> Option<[u8; N]> {
+pub(crate) fn traffic_value(texts: &[&str; 3]) -> TrafficValue {
+    TrafficValue {
+        cipher_key: octets(texts[0]),
+        integrity_key: octets(texts[1]),
+        spi: octets(texts[2]),
+    }
+}
+
+/// The octets of hexadecimal digits; zeros where there are not N, with which no case holds.
+pub(crate) fn octets<const N: usize>(text: &str) -> [u8; N] {
     let mut octets = [0; N];
-    hex::decode_to_slice(text, &mut octets).ok()?;
-    Some(octets)
+    match hex::decode_to_slice(text, &mut octets) {
+        Ok(()) => octets,
+        Err(_) => [0; N],
+    }
 }

@@ -11,28 +11,35 @@ use std::alloc::Global;
 
 #[test]
 fn a_peer_keeps_the_newest_keys(rt: HostRuntime) {
-    assert!(rt; newest_are_kept(rt.alloc()) == Some(true));
+    assert!(rt; newest_are_kept(rt.alloc()));
 }
 
-fn newest_are_kept(alloc: Global) -> Option<bool> {
+fn newest_are_kept(alloc: Global) -> bool {
     let mut peers = Peers::new(alloc);
-    keeps_the_newest(&mut peers)
+    let are_kept = keeps_the_newest(&mut peers);
+    drop(peers);
+    are_kept
 }
 
-fn keeps_the_newest(peers: &mut Peers) -> Option<bool> {
+fn keeps_the_newest(peers: &mut Peers) -> bool {
     let (a, b) = (named(b'a'), named(b'b'));
-    let first = tell(peers, &a, reply(3)?)? == Ok(());
-    note(peers, &b)?;
-    let second = tell(peers, &a, reply(4)?)? == Ok(());
-    let third = tell(peers, &a, reply(3)?)? == Err(Older { last: 4, got: 3 });
-    Some(
-        first
-            & second
-            & third
-            & (peers.len() == 2)
-            & (last_of(peers, &a) == Some(4))
-            & last_of(peers, &b).is_none(),
-    )
+    let first = tells(peers, &a, 3, Ok(()));
+    let noted = note(peers, &b) == Some(());
+    let second = tells(peers, &a, 4, Ok(()));
+    let third = tells(peers, &a, 3, Err(Older { last: 4, got: 3 }));
+    first & noted & second & third & has_newest(peers, &a, &b)
+}
+
+fn has_newest(peers: &Peers, a: &MemberName, b: &MemberName) -> bool {
+    (peers.len() == 2) & (last_of(peers, a) == Some(4)) & last_of(peers, b).is_none()
+}
+
+/// Whether a member that is told its keys, where the last push had this number, answers so.
+fn tells(peers: &mut Peers, member: &MemberName, last: u32, answer: Result<(), Older>) -> bool {
+    match reply(last) {
+        Some(keyed) => tell(peers, member, keyed) == Some(answer),
+        None => false,
+    }
 }
 
 #[test]
@@ -43,16 +50,19 @@ fn a_peer_without_a_store_takes_no_datagram(rt: HostRuntime) {
 fn takes_with_a_store_alone(alloc: Global) -> Option<bool> {
     let mut room = Room::new(alloc).ok()?;
     let mut peers = Peers::new(alloc);
-    is_answered_once_told(&mut peers, &mut room)
+    let is_answered = is_answered_once_told(&mut peers, &mut room);
+    drop(peers);
+    drop(room);
+    Some(is_answered)
 }
 
 /// Whether a datagram is answered for nobody before the first of two names is told its keys, and for that one then.
-fn is_answered_once_told(peers: &mut Peers, room: &mut Room) -> Option<bool> {
+fn is_answered_once_told(peers: &mut Peers, room: &mut Room) -> bool {
     let (a, b) = (named(b'a'), named(b'b'));
-    note(peers, &a)?;
+    let noted = note(peers, &a) == Some(());
     let before = is_answered(peers, &a, room) | is_answered(peers, &b, room);
-    let is_told = tell(peers, &a, reply(3)?)? == Ok(());
-    Some(!before & is_told & is_answered(peers, &a, room))
+    let told = tells(peers, &a, 3, Ok(()));
+    noted & !before & told & is_answered(peers, &a, room)
 }
 
 /// Whether a datagram without an octet is answered.

@@ -59,11 +59,33 @@ fn makes(
     ensures depth { group.new.tree.depth ≡ 2 }
     ensures room { length group.new.kept.nodes ≡ 8 }
 {
-    let step = step_of(alloc, &group.tree, changes[0], changes[1])?;
-    let values = low_values(alloc, draws, &step)?;
-    let is_made = has_pushes(alloc, group, &step, &values, spi, is_due);
-    group.kept.take(&values);
-    group.tree.advance(step);
+    let Group { tree, kept } = group;
+    let step = step_of(alloc, tree, changes[0], changes[1])?;
+    let is_made = makes_by(alloc, tree, kept, draws, &step, spi, is_due);
+    tree.advance(step);
+    is_made
+}
+
+/// Whether a step makes the known pair of pushes, or none where none is due; then its values are taken in.
+fn makes_by(
+    alloc: Global,
+    tree: &PresentTree,
+    kept: &mut KeptValues,
+    draws: &mut ChaChaDraws,
+    step: &TreeStep,
+    spi: &[u8; 16],
+    is_due: bool,
+) -> Option<bool>
+    requires depth { tree.now.depth ≡ 2 }
+    requires room { length kept.old.nodes ≡ 8 }
+    requires ready { IsReady tree.now step.now }
+    requires few { length step.now.fresh ≤ 321 }
+    ensures { length kept.new.nodes ≡ 8 }
+{
+    let values = low_values(alloc, draws, step)?;
+    let is_made = has_pushes(alloc, tree, kept, step, &values, spi, is_due);
+    kept.take(&values);
+    drop(values);
     Some(is_made)
 }
 
@@ -78,39 +100,33 @@ fn low_values(alloc: Global, draws: &mut ChaChaDraws, step: &TreeStep) -> Option
 /// Whether a step has the known pair of pushes, or none where none is due.
 fn has_pushes(
     alloc: Global,
-    group: &Group,
+    tree: &PresentTree,
+    kept: &KeptValues,
     step: &TreeStep,
     values: &BatchValues,
     spi: &[u8; 16],
     is_due: bool,
 ) -> bool
-    requires depth { group.now.tree.depth ≡ 2 }
-    requires room { length group.now.kept.nodes ≡ 8 }
-    requires ready { IsReady group.now.tree step.now }
+    requires depth { tree.now.depth ≡ 2 }
+    requires room { length kept.now.nodes ≡ 8 }
+    requires ready { IsReady tree.now step.now }
     requires few { length step.now.fresh ≤ 321 }
 {
-    match write_pair(
-        alloc,
-        &group.tree,
-        step,
-        &group.kept,
-        values,
-        spi,
-        &TestSigner::new(),
-    ) {
-        Ok(Some(pair)) => is_due & (is_known(&pair) == Some(true)),
+    let written = write_pair(alloc, tree, step, kept, values, spi, &TestSigner::new());
+    let is_known = match &written {
+        Ok(Some(pair)) => is_due & is_known(pair),
         Ok(None) => !is_due,
         Err(_) => false,
-    }
+    };
+    drop(written);
+    is_known
 }
 
-fn is_known(pair: &PushPair) -> Option<bool> {
-    Some(
-        (pair.first == 1)
-            & (pair.wraps.len() == 4)
-            & (pair.membership.as_slice() == octets::<396>(MEMBERSHIP)?.as_slice())
-            & (pair.traffic.as_slice() == octets::<220>(TRAFFIC)?.as_slice()),
-    )
+fn is_known(pair: &PushPair) -> bool {
+    (pair.first == 1)
+        & (pair.wraps.len() == 4)
+        & (pair.membership.as_slice() == octets::<396>(MEMBERSHIP).as_slice())
+        & (pair.traffic.as_slice() == octets::<220>(TRAFFIC).as_slice())
 }
 
 /// Whether all are positions of the tree.

@@ -3,7 +3,6 @@ use crate::members::known::{
     FIRST_TRAFFIC, MEMBERSHIP, SECOND_TRAFFIC, TRAFFIC, octets, reply, traffic_value,
 };
 use gd_edges::TestVerifier;
-use group_terms::TrafficValue;
 use member_store::{
     MemberStore, Older, Room, Taken, a_datagram_has_one_answer, a_refusal_changes_nothing,
     each_cause_has_its_refusal,
@@ -19,22 +18,18 @@ fn takes_both(alloc: Global) -> Option<bool> {
     let told = reply(0)?;
     let mut room = Room::new(alloc).ok()?;
     let mut store = MemberStore::new(told);
-    takes_pushes(&mut store, &mut room)
+    let takes_both = takes_pushes(&mut store, &mut room);
+    drop(room);
+    Some(takes_both)
 }
 
-fn takes_pushes(store: &mut MemberStore, room: &mut Room) -> Option<bool> {
-    let (first, second) = (
-        traffic_value(&FIRST_TRAFFIC)?,
-        traffic_value(&SECOND_TRAFFIC)?,
-    );
-    let (membership, traffic) = (octets::<396>(MEMBERSHIP)?, octets::<220>(TRAFFIC)?);
-    Some(
-        has(store, (1, 1, 0), &first)
-            & takes(store, room, &membership, Taken::Root { epoch: 2 })
-            & has(store, (2, 1, 1), &first)
-            & takes(store, room, &traffic, Taken::Traffic { epoch: 2 })
-            & has(store, (2, 2, 2), &second),
-    )
+fn takes_pushes(store: &mut MemberStore, room: &mut Room) -> bool {
+    let (membership, traffic) = (octets::<396>(MEMBERSHIP), octets::<220>(TRAFFIC));
+    has(store, (1, 1, 0), &FIRST_TRAFFIC)
+        & takes(store, room, &membership, Taken::Root { epoch: 2 })
+        & has(store, (2, 1, 1), &FIRST_TRAFFIC)
+        & takes(store, room, &traffic, Taken::Traffic { epoch: 2 })
+        & has(store, (2, 2, 2), &SECOND_TRAFFIC)
 }
 
 #[test]
@@ -48,12 +43,9 @@ fn is_renewed() -> Option<bool> {
 }
 
 fn is_renewed_once(store: &mut MemberStore) -> Option<bool> {
-    let first = traffic_value(&FIRST_TRAFFIC)?;
-    Some(
-        (store.renew(reply(4)?) == Ok(()))
-            & (store.renew(reply(3)?) == Err(Older { last: 4, got: 3 }))
-            & has(store, (1, 1, 4), &first),
-    )
+    let renewed = store.renew(reply(4)?) == Ok(());
+    let kept = store.renew(reply(3)?) == Err(Older { last: 4, got: 3 });
+    Some(renewed & kept & has(store, (1, 1, 4), &FIRST_TRAFFIC))
 }
 
 #[test]
@@ -64,12 +56,12 @@ fn laws_hold_of_a_verifier(_rt: HostRuntime) {
 }
 
 /// Whether the store at leaf 4 has these epochs of the root's key and of the traffic key, this last number, and this traffic key.
-fn has(store: &MemberStore, (root, epoch, last): (u32, u32, u32), traffic: &TrafficValue) -> bool {
+fn has(store: &MemberStore, (root, epoch, last): (u32, u32, u32), traffic: &[&str; 3]) -> bool {
     (store.leaf().number() == 4)
         & (store.root_epoch() == root)
         & (store.traffic_epoch() == epoch)
         & (store.last_sequence() == last)
-        & (store.traffic_key() == *traffic)
+        & (store.traffic_key() == traffic_value(traffic))
 }
 
 fn takes(store: &mut MemberStore, room: &mut Room, push: &[u8], due: Taken) -> bool {

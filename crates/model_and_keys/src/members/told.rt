@@ -72,14 +72,27 @@ fn are_told_after(alloc: Global, group: &Group) -> Option<bool>
     requires depth { group.now.tree.depth ≡ 1 }
     requires room { length group.now.kept.nodes ≡ 4 }
 {
-    let (second, third) = (LkhId::new(2)?, LkhId::new(3)?);
+    let values = made_by_two(alloc)?;
+    let are_told = are_told_by(alloc, group, &values);
+    drop(values);
+    are_told
+}
+
+/// What a batch makes in which the second goes out and another comes in.
+fn made_by_two(alloc: Global) -> Option<BatchValues> {
     let nodes = [drawn(1, 2)?, drawn(3, 2)?];
-    let values = made(alloc, 2, &nodes)?;
+    made(alloc, 2, &nodes)
+}
+
+fn are_told_by(alloc: Global, group: &Group, values: &BatchValues) -> Option<bool>
+    requires depth { group.now.tree.depth ≡ 1 }
+    requires room { length group.now.kept.nodes ≡ 4 }
+{
     let step = step_of(alloc, &group.tree, "b", "c")?;
-    Some(
-        is_told_after(group, &step, &values, third, &THIRD)
-            & is_told_after(group, &step, &values, second, &FIRST),
-    )
+    let are_told = is_told_after(group, &step, values, 3, &THIRD)
+        & is_told_after(group, &step, values, 2, &FIRST);
+    drop(step);
+    Some(are_told)
 }
 
 /// Whether the member at a leaf is told this of the epoch that a step makes.
@@ -87,7 +100,7 @@ fn is_told_after(
     group: &Group,
     step: &TreeStep,
     values: &BatchValues,
-    leaf: LkhId,
+    leaf: u16,
     due: &Told,
 ) -> bool
     requires depth { group.now.tree.depth ≡ 1 }
@@ -96,8 +109,13 @@ fn is_told_after(
     requires from { 2 ≤ leaf }
     requires to { leaf < 4 }
 {
-    let told = keyed_after(&group.tree, step, &group.kept, values, &[9; 16], leaf);
-    is_due(&told, due)
+    match LkhId::new(leaf) {
+        Some(leaf) => {
+            let told = keyed_after(&group.tree, step, &group.kept, values, &[9; 16], leaf);
+            is_due(&told, due)
+        }
+        None => false,
+    }
 }
 
 fn is_due(told: &Keyed, due: &Told) -> bool {
@@ -119,9 +137,8 @@ fn is_key((key, (number, made, octet)): (&PathKey, (u16, u32, u8))) -> bool {
 fn two_members(alloc: Global) -> Option<Group>
     ensures { IfSome result (λ group. (group.tree.depth ≡ 1) × (length group.kept.nodes ≡ 4)) }
 {
-    let nodes = [drawn(1, 1)?, drawn(2, 1)?, drawn(3, 1)?];
+    let kept = kept_of_two(alloc)?;
     let tree = tree_of_two(alloc)?;
-    let kept = kept_after(alloc, &nodes)?;
     Some(Group { tree, kept })
 }
 
@@ -130,20 +147,34 @@ fn tree_of_two(alloc: Global) -> Option<PresentTree>
     ensures { IfSome result (λ tree. tree.depth ≡ 1) }
 {
     let mut tree = PresentTree::new(alloc, 1).ok()?;
-    let step = step_of(alloc, &tree, "", "ab")?;
+    come_in(alloc, &mut tree).and(Some(tree))
+}
+
+fn come_in(alloc: Global, tree: &mut PresentTree) -> Option<()>
+    ensures { tree.new.depth ≡ tree.old.depth }
+{
+    let step = step_of(alloc, tree, "", "ab")?;
     tree.advance(step);
-    Some(tree)
+    Some(())
 }
 
 /// The values of such a tree after its first batch.
-fn kept_after(alloc: Global, nodes: &[Drawn]) -> Option<KeptValues>
-    requires { All (λ (node : Drawn). node.id < 4) nodes.now }
+fn kept_of_two(alloc: Global) -> Option<KeptValues>
     ensures { IfSome result (λ kept. length kept.nodes ≡ 4) }
 {
-    let values = made(alloc, 1, nodes)?;
     let mut kept = KeptValues::new(alloc, 1).ok()?;
+    take_first(alloc, &mut kept).and(Some(kept))
+}
+
+fn take_first(alloc: Global, kept: &mut KeptValues) -> Option<()>
+    requires { length kept.old.nodes ≡ 4 }
+    ensures { length kept.new.nodes ≡ 4 }
+{
+    let nodes = [drawn(1, 1)?, drawn(2, 1)?, drawn(3, 1)?];
+    let values = made(alloc, 1, &nodes)?;
     kept.take(&values);
-    Some(kept)
+    drop(values);
+    Some(())
 }
 
 /// The second of them goes out, and the root gets a value of the octet 2.
@@ -152,10 +183,11 @@ fn second_goes_out(alloc: Global, group: &mut Group) -> Option<()>
     ensures depth { group.new.tree.depth ≡ group.old.tree.depth }
     ensures room { length group.new.kept.nodes ≡ 4 }
 {
-    let values = made(alloc, 2, &[drawn(1, 2)?])?;
     let step = step_of(alloc, &group.tree, "b", "")?;
     group.tree.advance(step);
+    let values = made(alloc, 2, &[drawn(1, 2)?])?;
     group.kept.take(&values);
+    drop(values);
     Some(())
 }
 
