@@ -7,12 +7,23 @@ ghost use Rattle.gd_cipher.specs.Private.RoundKeys.{AreRoundKeys, AreOpeningKeys
 use crate::blocks::{decrypt_block, encrypt_block};
 use crate::schedules::{expand, unmix};
 use byteorder::{BigEndian, ByteOrder};
+use std::fmt;
 use std::marker::Model;
 
 /// A key of 128 bits, with the keys of its ten rounds. Contracts see its 16 bytes.
 #[derive(Drop)]
 pub struct Key128 {
     words: [u32; 44],
+}
+
+impl fmt::Debug for Key128 {
+    ghost use Rattle.std.specs.Prelude.{Some, codes};
+
+    ghost debug_output = { λ _. Some (codes "Key128 { .. }") };
+
+    fn fmt<W: fmt::Write>(&self, f: &mut fmt::Formatter<W>) -> fmt::Result {
+        f.write_str("Key128 { .. }")
+    }
 }
 
 impl Model for Key128 {
@@ -79,6 +90,16 @@ impl Key128 {
 #[derive(Drop)]
 pub struct Key256 {
     words: [u32; 60],
+}
+
+impl fmt::Debug for Key256 {
+    ghost use Rattle.std.specs.Prelude.{Some, codes};
+
+    ghost debug_output = { λ _. Some (codes "Key256 { .. }") };
+
+    fn fmt<W: fmt::Write>(&self, f: &mut fmt::Formatter<W>) -> fmt::Result {
+        f.write_str("Key256 { .. }")
+    }
 }
 
 impl Model for Key256 {

@@ -1,2 +1,3 @@
 pub mod Pulls
+pub mod Shown
 pub mod Views

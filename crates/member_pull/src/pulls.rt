@@ -9,6 +9,7 @@ use pull_msgs::{
     written_messages_have_their_size,
 };
 use std::alloc::Global;
+use std::fmt;
 use std::marker::Model;
 
 /// A pull that is under way (RFC 6407 section 3.2).
@@ -18,6 +19,16 @@ pub struct MemberPull {
     message: [u8; 4],
     ni: Nonce,
     step: Step,
+}
+
+impl fmt::Debug for MemberPull {
+    ghost use Rattle.std.specs.Prelude.{Some, codes};
+
+    ghost debug_output = { λ _. Some (codes "MemberPull { .. }") };
+
+    fn fmt<W: fmt::Write>(&self, f: &mut fmt::Formatter<W>) -> fmt::Result {
+        f.write_str("MemberPull { .. }")
+    }
 }
 
 /// What a pull waits for. An IV is the last block of the message before it.

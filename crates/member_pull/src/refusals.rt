@@ -5,10 +5,11 @@ ghost use Rattle.member_pull.specs.declared.refusals.PullRefusal.TheVariants as 
 
 use group_terms::NoMemory;
 use pull_msgs::PullFault;
+use std::fmt;
 use thiserror::Error;
 
 /// Why a message is not taken. The pull is as it was.
-#[derive(Clone, Copy, Debug, PartialEq, Eq, Error)]
+#[derive(Clone, Copy, PartialEq, Eq, Error)]
 pub enum PullRefusal {
     /// The pull does not wait for that message.
     #[error("the pull does not wait for this message")]
@@ -27,6 +28,21 @@ pub enum PullRefusal {
     /// There is no memory for the text, or for the answer.
     #[error("no memory")]
     NoMemory,
+}
+
+impl fmt::Debug for PullRefusal {
+    ghost use Rattle.member_pull.specs.Shown.{shown_refusal};
+
+    ghost debug_output = { shown_refusal };
+
+    fn fmt<W: fmt::Write>(&self, f: &mut fmt::Formatter<W>) -> fmt::Result {
+        match self {
+            PullRefusal::WrongStep => f.write_str("WrongStep"),
+            PullRefusal::Malformed { at } => f.debug_struct("Malformed").field("at", at).finish(),
+            PullRefusal::BadHash { .. } => f.write_str("BadHash { .. }"),
+            PullRefusal::NoMemory => f.write_str("NoMemory"),
+        }
+    }
 }
 
 impl From<PullFault> for PullRefusal {

@@ -12,6 +12,7 @@ use crate::takings::new_path;
 use gd_edges::Verifier;
 use group_terms::{Keyed, LkhId, Path, PushRefusal, TrafficValue};
 use push_msg::{OpenBody, Room};
+use std::fmt;
 use std::marker::Model;
 
 /// The keys that a member of a group has (RFC 6407 section 4): those of its path, and the traffic key. It lives in memory, and takes none
@@ -24,6 +25,16 @@ pub struct MemberStore {
     traffic_epoch: u32,
     /// The number of the last push that was accepted.
     sequence: u32,
+}
+
+impl fmt::Debug for MemberStore {
+    ghost use Rattle.std.specs.Prelude.{Some, codes};
+
+    ghost debug_output = { λ _. Some (codes "MemberStore { .. }") };
+
+    fn fmt<W: fmt::Write>(&self, f: &mut fmt::Formatter<W>) -> fmt::Result {
+        f.write_str("MemberStore { .. }")
+    }
 }
 
 impl Model for MemberStore {

@@ -4,4 +4,5 @@ pub mod Nonces
 pub mod Private
 pub mod Pulls
 pub mod Readings
+pub mod Shown
 pub mod Texts

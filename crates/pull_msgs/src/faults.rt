@@ -3,10 +3,11 @@ ghost use Rattle.std.specs.Prelude.{◌≡◌};
 ghost use Rattle.pull_msgs.specs.declared.faults.PullFault.TheVariants as faults;
 
 use group_terms::{NoMemory, WireFault};
+use std::fmt;
 use thiserror::Error;
 
 /// Why a message of a pull is not read.
-#[derive(Clone, Copy, Debug, PartialEq, Eq, Error)]
+#[derive(Clone, Copy, PartialEq, Eq, Error)]
 pub enum PullFault {
     /// The opened datagram is not the text of that message; its first fault.
     #[error("no text of the message: {fault}")]
@@ -22,6 +23,23 @@ pub enum PullFault {
     /// There is no memory for the opened text, or for what the answer keeps of it.
     #[error("no memory")]
     NoMemory,
+}
+
+impl fmt::Debug for PullFault {
+    ghost use Rattle.pull_msgs.specs.Shown.{shown_fault};
+
+    ghost debug_output = { shown_fault };
+
+    fn fmt<W: fmt::Write>(&self, f: &mut fmt::Formatter<W>) -> fmt::Result {
+        match self {
+            PullFault::Malformed { fault } => f
+                .debug_struct("Malformed")
+                .field("fault", fault)
+                .finish(),
+            PullFault::BadHash { .. } => f.write_str("BadHash { .. }"),
+            PullFault::NoMemory => f.write_str("NoMemory"),
+        }
+    }
 }
 
 impl From<WireFault> for PullFault {

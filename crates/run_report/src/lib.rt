@@ -8,5 +8,5 @@ mod stops;
 
 pub use endings::Ending;
 pub use ends::{Finished, end_script, end_unopened, end_without_group, ran_out};
-pub use report_sink::report;
+pub use report_sink::{put_lines, report};
 pub use stops::Stop;

@@ -28,7 +28,7 @@ pub fn report<K: Sink>(alloc: Global, entry: &Entry, out: &mut K) -> Result<(), 
 }
 
 /// Puts a text line by line. Where the sink takes a part of a line, the next piece is the rest of that line.
-pub(crate) fn put_lines<K: Sink>(text: &[u8], out: &mut K) -> Result<(), Failed>
+pub fn put_lines<K: Sink>(text: &[u8], out: &mut K) -> Result<(), Failed>
     ensures ok { OnOk result (Puts (K.shows out.old) (K.shows out.new) text.now) }
     ensures failed { OnErr result (BreaksOff SinkEnding (K.shows out.old) (K.shows out.new) text.now) }
 {

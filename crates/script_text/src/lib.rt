@@ -3,7 +3,8 @@
 
 pub use ends::end_line;
 pub use lines::{Line, MOST_LINE_OCTETS, read_line};
-pub use numbers::{read_decimal, read_decimal_to};
+pub use numbers::{append_number, append_place, read_decimal, read_decimal_to};
+pub use pushes::append_hex;
 pub use reports::report_entry;
 
 mod changes;

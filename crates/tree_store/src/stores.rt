@@ -7,6 +7,7 @@ use gd_disk::Disk;
 use group_model::PresentTree;
 use group_records::Head;
 use group_terms::Octets;
+use std::fmt;
 use std::marker::Model;
 use tree_journal::Journal;
 
@@ -19,6 +20,16 @@ pub struct TreeStore<D: Disk> {
     pub(crate) tree: PresentTree,
     /// Room for a record.
     pub(crate) body: Octets,
+}
+
+impl<D: Disk> fmt::Debug for TreeStore<D> {
+    ghost use Rattle.std.specs.Prelude.{Some, codes};
+
+    ghost debug_output = { λ _. Some (codes "TreeStore { .. }") };
+
+    fn fmt<W: fmt::Write>(&self, f: &mut fmt::Formatter<W>) -> fmt::Result {
+        f.write_str("TreeStore { .. }")
+    }
 }
 
 impl<D: Disk> Model for TreeStore<D> {
@@ -49,6 +60,13 @@ impl<D: Disk> TreeStore<D> {
     {
         self.tree.depth();
         self.head
+    }
+
+    /// The place of the gate at which reading goes on.
+    pub fn place(&self) -> u64
+        ensures { result ≡ self.now.at }
+    {
+        self.journal.place()
     }
 
     /// Says what is known between two calls of a store that is not closed: a crash leaves what a read gives and nothing else.
