@@ -1,3 +1,3 @@
 mod CrashFacts
-mod MediumLemmas
-mod TornLemmas
+pub mod MediumLemmas
+pub mod TornLemmas

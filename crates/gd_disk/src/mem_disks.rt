@@ -10,6 +10,7 @@ use crate::octets::{cut, read_from, sync, write};
 use crate::places::ends_too_far;
 use group_terms::{List, NoMemory, Octets, Schedule};
 use std::alloc::Global;
+use std::fmt;
 use std::marker::Model;
 
 /// A disk in memory, which fails at chosen calls and can be crashed. It keeps all that was done to
@@ -20,6 +21,16 @@ pub struct MemDisk {
     octets: Octets,
     events: List<Event>,
     schedule: Schedule,
+}
+
+impl fmt::Debug for MemDisk {
+    ghost use Rattle.std.specs.Prelude.{Some, codes};
+
+    ghost debug_output = { λ _. Some (codes "MemDisk { .. }") };
+
+    fn fmt<W: fmt::Write>(&self, f: &mut fmt::Formatter<W>) -> fmt::Result {
+        f.write_str("MemDisk { .. }")
+    }
 }
 
 impl Model for MemDisk {
@@ -74,11 +85,19 @@ impl MemDisk {
         }
     }
 
-    /// The octets that a read gives.
+    /// The octets that a read gives. They do not end past 2^62.
     pub fn image(&self) -> &[u8]
-        ensures { result.now ≡ self.now.image }
+        ensures octets { result.now ≡ self.now.image }
+        ensures near { length result.now ≤ 2 ^ 62 }
     {
         self.octets.as_slice()
+    }
+
+    /// How many writes, cuts and syncs were made.
+    pub fn moment(&self) -> usize
+        ensures { result ≡ length self.now.events }
+    {
+        self.events.len()
     }
 
     /// The disk as a crash leaves it, with all synced, no fault and no planned one. By `choice`

@@ -1,10 +1,10 @@
 ghost use Rattle.std.specs.Prelude.{◌↔◌, ◌+◌, ◌^◌, ◌<◌, length, IsTrue};
 
 /// No place and no end of a disk is past this one.
-pub(crate) const FARTHEST: u64 = 1 << 62;
+pub const FARTHEST: u64 = 1 << 62;
 
 /// Whether octets at a place would end past the farthest one.
-pub(crate) fn ends_too_far(at: u64, octets: &[u8]) -> bool
+pub fn ends_too_far(at: u64, octets: &[u8]) -> bool
     ensures { IsTrue result ↔ (2 ^ 62 < at + length octets.now) }
 {
     at > FARTHEST || octets.len() as u64 > FARTHEST - at

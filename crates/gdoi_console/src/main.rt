@@ -4,7 +4,7 @@
 
 use command_words::seed_of;
 use console_run::{Ending, console};
-use gd_disk::FileDisk;
+use file_disks::FileDisk;
 use gd_edges::{ChaChaDraws, StdSink, StdSource, TestSigner, TestVerifier};
 use std::alloc::AllocError;
 use std::env;

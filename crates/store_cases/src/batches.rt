@@ -83,6 +83,28 @@ fn push_both(
     push_next(alloc, tree, batch_of(false, b"b"), numbers, list)
 }
 
+/// Three batches of such a group: after those two c goes out.
+pub(crate) fn three_batches(alloc: Global) -> Result<List<Stored>, NoMemory> {
+    let mut list = List::new(alloc);
+    push_three(alloc, &mut list)?;
+    Ok(list)
+}
+
+fn push_three(alloc: Global, list: &mut List<Stored>) -> Result<(), NoMemory> {
+    let mut tree = PresentTree::new(alloc, 2)?;
+    push_all(alloc, &mut tree, &mut Numbers::new(1), list)
+}
+
+fn push_all(
+    alloc: Global,
+    tree: &mut PresentTree,
+    numbers: &mut Numbers,
+    list: &mut List<Stored>,
+) -> Result<(), NoMemory> {
+    push_both(alloc, tree, numbers, list)?;
+    push_next(alloc, tree, batch_of(false, b"c"), numbers, list)
+}
+
 /// The batch with which these come in or go out, each of whom has a letter as the name.
 fn batch_of(comes_in: bool, letters: &[u8]) -> Batch {
     let mut batch = Batch::new();

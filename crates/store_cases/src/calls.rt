@@ -7,6 +7,7 @@ use crate::stores::{
     store_failing_at, why_not_read,
 };
 use crate::unseen::UnseenDisk;
+use gd_disk::MemDisk;
 use group_terms::NoMemory;
 use std::alloc::Global;
 use tree_store::{FormatRefusal, Head, Stored, a_file_has_one_group};
@@ -43,7 +44,7 @@ fn gives_back(alloc: Global, head: &Head, call: u64) -> Result<bool, NoMemory>
     }
 }
 
-fn is_made_on(alloc: Global, disk: UnseenDisk, head: &Head) -> bool
+fn is_made_on(alloc: Global, disk: UnseenDisk<MemDisk>, head: &Head) -> bool
     requires shallow { 1 ≤ head.now.depth }
     requires not_deep { head.now.depth ≤ 9 }
     requires limited { 1 ≤ head.now.limit }

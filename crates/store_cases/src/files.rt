@@ -1,4 +1,6 @@
 //! Files that are read.
+ghost use Rattle.std.specs.Prelude.{◌≡◌, Ok, false, IsSome};
+
 use gd_disk::{Disk, MemDisk};
 use group_terms::Octets;
 use std::alloc::Global;
@@ -50,7 +52,9 @@ fn rest_of(alloc: Global, store: &mut TreeStore<MemDisk>) -> Option<Found> {
 pub(crate) fn go_on<D: Disk>(
     alloc: Global,
     store: &mut TreeStore<D>,
-) -> Result<bool, JournalRefusal> {
+) -> Result<bool, JournalRefusal>
+    ensures { result ≡ Ok false → IsSome store.new.end }
+{
     let next = store.next_batch(alloc)?;
     let is_there = next.is_some();
     drop(next);

@@ -16,6 +16,8 @@ mod lists;
 #[cfg(test)]
 mod numbers;
 #[cfg(test)]
+mod powers;
+#[cfg(test)]
 mod records;
 #[cfg(test)]
 mod refusals;

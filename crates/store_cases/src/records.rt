@@ -6,6 +6,7 @@ mod faults;
 mod files;
 mod heads;
 mod journals;
+mod mem_files;
 mod reads;
 mod reopened;
 mod texts;

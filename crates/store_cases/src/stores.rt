@@ -2,7 +2,7 @@
 ghost use Rattle.std.specs.Prelude.{◌≡◌, ◌≤◌, IsSome, IfOk};
 
 use crate::files::go_on;
-use crate::unseen::UnseenDisk;
+use crate::unseen::{Hidden, UnseenDisk};
 use gd_disk::MemDisk;
 use group_terms::{GroupName, List, NoMemory};
 use std::alloc::Global;
@@ -11,7 +11,10 @@ use tree_store::{FormatRefusal, Head, JournalRefusal, Stored, TreeStore};
 /// Why a call refused, if it did.
 pub(crate) type Why = Option<JournalRefusal>;
 
-pub(crate) type Store = TreeStore<UnseenDisk>;
+pub(crate) type Store = StoreOn<MemDisk>;
+
+/// A store on a disk that exposes nothing.
+pub(crate) type StoreOn<H> = TreeStore<UnseenDisk<H>>;
 
 pub(crate) const FAULT: Why = Some(JournalRefusal::DiskFault);
 
@@ -33,17 +36,20 @@ pub(crate) fn head_of(depth: u8) -> Result<Head, NoMemory>
 }
 
 /// A disk that fails at these calls.
-pub(crate) fn disk_failing_at(alloc: Global, calls: &[u64]) -> Result<UnseenDisk, NoMemory> {
+pub(crate) fn disk_failing_at(
+    alloc: Global,
+    calls: &[u64],
+) -> Result<UnseenDisk<MemDisk>, NoMemory> {
     let calls = List::copy_of(alloc, calls)?;
     Ok(UnseenDisk::new(MemDisk::planned(alloc, calls)))
 }
 
 /// Makes a store of a group without a batch, with a tree of this depth, of 1 to 9.
-pub(crate) fn created(
+pub(crate) fn created<H: Hidden>(
     alloc: Global,
-    disk: UnseenDisk,
+    disk: UnseenDisk<H>,
     head: &Head,
-) -> Result<Store, FormatRefusal<UnseenDisk>>
+) -> Result<StoreOn<H>, FormatRefusal<UnseenDisk<H>>>
     requires shallow { 1 ≤ head.now.depth }
     requires not_deep { head.now.depth ≤ 9 }
     requires limited { 1 ≤ head.now.limit }
@@ -63,7 +69,7 @@ pub(crate) fn store_failing_at(alloc: Global, calls: &[u64]) -> Result<Store, No
 }
 
 /// Makes the record of a batch, and stores it. It takes four calls of the disk.
-pub(crate) fn commit(alloc: Global, store: &mut Store, stored: &Stored) -> Why
+pub(crate) fn commit<H: Hidden>(alloc: Global, store: &mut StoreOn<H>, stored: &Stored) -> Why
     requires { IsSome store.old.end }
     ensures { IsSome store.new.end }
 {
@@ -76,7 +82,7 @@ pub(crate) fn commit(alloc: Global, store: &mut Store, stored: &Stored) -> Why
     if values.nodes.len() > 1023 {
         return Some(JournalRefusal::NoMemory);
     }
-    match Store::make_record(alloc, batch, *epoch, *sequence, values) {
+    match StoreOn::<H>::make_record(alloc, batch, *epoch, *sequence, values) {
         Ok(made) => store.commit(&made).err(),
         Err(NoMemory) => Some(JournalRefusal::NoMemory),
     }
@@ -105,12 +111,28 @@ pub(crate) fn holds(alloc: Global, disk: MemDisk, head: &Head, list: &[Stored]) 
     }
 }
 
+/// Whether a disk has no group, or this one without a batch.
+pub(crate) fn holds_no_batch(alloc: Global, disk: MemDisk, head: &Head) -> bool {
+    match opened(alloc, UnseenDisk::new(disk)) {
+        Ok(mut store) => {
+            let is_new = (store.head() == *head) & reads(alloc, &mut store, &[]);
+            close(store);
+            is_new
+        }
+        Err(_) => true,
+    }
+}
+
 /// Lets a store go. Each other function that did so would cost the proof as much again.
 pub(crate) fn close(store: Store) {
     store.into_disk();
 }
 
-fn opened(alloc: Global, disk: UnseenDisk) -> Result<Store, FormatRefusal<UnseenDisk>> {
+/// Opens a store, of which nothing more is said.
+pub(crate) fn opened<H: Hidden>(
+    alloc: Global,
+    disk: UnseenDisk<H>,
+) -> Result<StoreOn<H>, FormatRefusal<UnseenDisk<H>>> {
     TreeStore::open(alloc, disk)
 }
 

@@ -2,18 +2,82 @@
 ghost use Rattle.std.specs.Prelude.{◌≡◌, ◌+◌, ◌^◌, ◌≤◌, ⊤, false, None, length, IfOk, OnOk, OnErr, is_err, if◌then◌else◌};
 ghost use Rattle.group_terms.specs.Faults.{Rose, one_more};
 
+use file_disks::{MemFile, OverFile};
 use gd_disk::{Disk, Failed, MemDisk};
 use group_terms::counted_on;
 use std::marker::Model;
 
-/// A disk in memory that exposes nothing, so that no clause asks what it holds. Contracts see alone how many of its calls failed.
+/// A disk in memory, or one over a file in memory, of which contracts see how much a read moves and how far a write goes.
+pub(crate) trait Hidden: Drop {
+    fn read_hidden(&mut self, at: u64, into: &mut [u8]) -> Result<usize, Failed>
+        ensures count { IfOk result (λ n. n ≤ length into.new) }
+        ensures far { 2 ^ 62 ≤ at → IfOk result (λ n. n ≡ 0) };
+
+    /// Fails past the end, too.
+    fn write_hidden(&mut self, at: u64, octets: &[u8]) -> Result<(), Failed>
+        ensures { OnOk result (at + length octets.now ≤ 2 ^ 62) };
+
+    fn cut_hidden(&mut self, to: u64) -> Result<(), Failed>;
+
+    fn sync_hidden(&mut self) -> Result<(), Failed>;
+}
+
+impl Hidden for MemDisk {
+    fn read_hidden(&mut self, at: u64, into: &mut [u8]) -> Result<usize, Failed> {
+        self.read(at, into)
+    }
+
+    fn write_hidden(&mut self, at: u64, octets: &[u8]) -> Result<(), Failed> {
+        if at > self.image().len() as u64 {
+            return Err(Failed);
+        }
+        self.write_at(at, octets)
+    }
+
+    fn cut_hidden(&mut self, to: u64) -> Result<(), Failed> {
+        if to > self.image().len() as u64 {
+            return Err(Failed);
+        }
+        self.cut(to)
+    }
+
+    fn sync_hidden(&mut self) -> Result<(), Failed> {
+        self.sync()
+    }
+}
+
+impl Hidden for OverFile<MemFile> {
+    fn read_hidden(&mut self, at: u64, into: &mut [u8]) -> Result<usize, Failed> {
+        self.read(at, into)
+    }
+
+    fn write_hidden(&mut self, at: u64, octets: &[u8]) -> Result<(), Failed> {
+        if at > self.file().image().len() as u64 {
+            return Err(Failed);
+        }
+        self.write_at(at, octets)
+    }
+
+    fn cut_hidden(&mut self, to: u64) -> Result<(), Failed> {
+        if to > self.file().image().len() as u64 {
+            return Err(Failed);
+        }
+        self.cut(to)
+    }
+
+    fn sync_hidden(&mut self) -> Result<(), Failed> {
+        self.sync()
+    }
+}
+
+/// A disk that exposes nothing, so that no clause asks what it holds. Contracts see alone how many of its calls failed.
 #[derive(Drop)]
-pub(crate) struct UnseenDisk {
-    disk: MemDisk,
+pub(crate) struct UnseenDisk<H: Hidden> {
+    disk: H,
     faults: u64,
 }
 
-impl Model for UnseenDisk {
+impl<H: Hidden> Model for UnseenDisk<H> {
     ghost use Rattle.std.specs.Prelude.{ℕ};
 
     ghost Value = { ℕ };
@@ -21,13 +85,13 @@ impl Model for UnseenDisk {
     ghost view = { λ disk. disk.faults };
 }
 
-impl UnseenDisk {
-    pub(crate) fn new(disk: MemDisk) -> Self {
+impl<H: Hidden> UnseenDisk<H> {
+    pub(crate) fn new(disk: H) -> Self {
         UnseenDisk { disk, faults: 0 }
     }
 
-    /// The disk in memory, as it is.
-    pub(crate) fn into_disk(self) -> MemDisk {
+    /// The disk, as it is.
+    pub(crate) fn into_disk(self) -> H {
         self.disk
     }
 
@@ -46,42 +110,9 @@ impl UnseenDisk {
             }
         }
     }
-
-    fn read_unseen(&mut self, at: u64, into: &mut [u8]) -> Result<usize, Failed>
-        ensures stands { self.new ≡ self.old }
-        ensures count { IfOk result (λ n. n ≤ length into.new) }
-        ensures far { 2 ^ 62 ≤ at → IfOk result (λ n. n ≡ 0) }
-    {
-        self.disk.read(at, into)
-    }
-
-    fn write_unseen(&mut self, at: u64, octets: &[u8]) -> Result<(), Failed>
-        ensures stands { self.new ≡ self.old }
-        ensures far { OnOk result (at + length octets.now ≤ 2 ^ 62) }
-    {
-        if at > self.disk.image().len() as u64 {
-            return Err(Failed);
-        }
-        self.disk.write_at(at, octets)
-    }
-
-    fn cut_unseen(&mut self, to: u64) -> Result<(), Failed>
-        ensures { self.new ≡ self.old }
-    {
-        if to > self.disk.image().len() as u64 {
-            return Err(Failed);
-        }
-        self.disk.cut(to)
-    }
-
-    fn sync_unseen(&mut self) -> Result<(), Failed>
-        ensures { self.new ≡ self.old }
-    {
-        self.disk.sync()
-    }
 }
 
-impl Disk for UnseenDisk {
+impl<H: Hidden> Disk for UnseenDisk<H> {
     ghost faults = { λ disk. disk };
 
     ghost honest = { λ _. false };
@@ -101,22 +132,22 @@ impl Disk for UnseenDisk {
     ghost only_now = { λ disk c left. left };
 
     fn read(&mut self, at: u64, into: &mut [u8]) -> Result<usize, Failed> {
-        let answer = self.read_unseen(at, into);
+        let answer = self.disk.read_hidden(at, into);
         self.counted(answer)
     }
 
     fn write_at(&mut self, at: u64, octets: &[u8]) -> Result<(), Failed> {
-        let answer = self.write_unseen(at, octets);
+        let answer = self.disk.write_hidden(at, octets);
         self.counted(answer)
     }
 
     fn cut(&mut self, to: u64) -> Result<(), Failed> {
-        let answer = self.cut_unseen(to);
+        let answer = self.disk.cut_hidden(to);
         self.counted(answer)
     }
 
     fn sync(&mut self) -> Result<(), Failed> {
-        let answer = self.sync_unseen();
+        let answer = self.disk.sync_hidden();
         self.counted(answer)
     }
 }

@@ -6,7 +6,8 @@ use crate::no_disks::NoDisk;
 use crate::server::tallies::Tally;
 use crate::server::works::{Kind, Work};
 use case_lines::{Text, number};
-use gd_disk::{Disk, FileDisk};
+use file_disks::FileDisk;
+use gd_disk::Disk;
 use group_terms::Change;
 use std::alloc::Global;
 

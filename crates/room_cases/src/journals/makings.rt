@@ -2,16 +2,18 @@
 ghost use Rattle.std.specs.Prelude.{◌≤◌, length, IsSome, IfSome};
 
 use crate::journals::values::{POSITIONS, batch, values};
-use gd_disk::FileDisk;
+use file_disks::FileDisk;
 use group_model::{PresentTree, TreeStep};
 use group_terms::{Batch, BatchValues, GroupName, Octets};
 use std::alloc::Global;
+use std::fs::File;
+use std::rt::Files;
 use tree_store::{Head, TreeStore};
 
 /// How deep the tree is.
 const DEPTH: u8 = 9;
 
-type FileStore = TreeStore<FileDisk<HostRuntime>>;
+type FileStore<R> = TreeStore<FileDisk<R>>;
 
 /// Makes the store of a group with so many batches in the file at a path, whatever that held.
 pub fn make(rt: &HostRuntime, path: &str, count: u32) -> Option<()> {
@@ -19,7 +21,11 @@ pub fn make(rt: &HostRuntime, path: &str, count: u32) -> Option<()> {
     make_on(rt.alloc(), disk, count)
 }
 
-fn make_on(alloc: Global, disk: FileDisk<HostRuntime>, count: u32) -> Option<()> {
+fn make_on<R: Files<File = File> + Drop>(
+    alloc: Global,
+    disk: FileDisk<R>,
+    count: u32,
+) -> Option<()> {
     let head = Head {
         depth: DEPTH,
         name: GroupName::read(b"bench")?,
@@ -33,9 +39,9 @@ fn make_on(alloc: Global, disk: FileDisk<HostRuntime>, count: u32) -> Option<()>
 }
 
 /// Makes the store of a group with this head, whose tree is this one after its batches.
-fn make_with(
+fn make_with<R: Files<File = File> + Drop>(
     alloc: Global,
-    disk: FileDisk<HostRuntime>,
+    disk: FileDisk<R>,
     head: &Head,
     tree: &mut PresentTree,
     count: u32,
@@ -57,9 +63,9 @@ fn make_with(
 }
 
 /// Stores the batch of this number. The tree goes on by it.
-fn store_batch(
+fn store_batch<R: Files<File = File>>(
     alloc: Global,
-    store: &mut FileStore,
+    store: &mut FileStore<R>,
     tree: &mut PresentTree,
     number: u32,
 ) -> Option<()>
@@ -73,7 +79,7 @@ fn store_batch(
     let Ok(Some(step)) = tree.step(alloc, &batch, u32::MAX) else {
         return None;
     };
-    let made = record(alloc, &batch, &step, number)?;
+    let made = record::<R>(alloc, &batch, &step, number)?;
     let stored = store.commit(&made).ok();
     drop(made);
     match stored {
@@ -84,16 +90,21 @@ fn store_batch(
 }
 
 /// The record of a batch.
-fn record(alloc: Global, batch: &Batch, step: &TreeStep, number: u32) -> Option<Octets>
+fn record<R: Files<File = File>>(
+    alloc: Global,
+    batch: &Batch,
+    step: &TreeStep,
+    number: u32,
+) -> Option<Octets>
     ensures { IfSome result (λ made. length made ≤ 65536) }
 {
     let values = values(alloc, step.drawn(), number)?;
-    let made = record_with(alloc, batch, step, &values);
+    let made = record_with::<R>(alloc, batch, step, &values);
     drop(values);
     made
 }
 
-fn record_with(
+fn record_with<R: Files<File = File>>(
     alloc: Global,
     batch: &Batch,
     step: &TreeStep,
@@ -104,5 +115,5 @@ fn record_with(
     if values.nodes.len() > POSITIONS {
         return None;
     }
-    FileStore::make_record(alloc, batch, step.epoch(), step.sequence(), values).ok()
+    FileStore::<R>::make_record(alloc, batch, step.epoch(), step.sequence(), values).ok()
 }

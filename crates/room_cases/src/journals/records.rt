@@ -2,7 +2,8 @@
 ghost use Rattle.std.specs.Prelude.{IsSome};
 
 use case_lines::Text;
-use gd_disk::{Disk, FileDisk, MemDisk};
+use file_disks::FileDisk;
+use gd_disk::{Disk, MemDisk};
 use group_terms::Octets;
 use std::alloc::Global;
 use tree_journal::{FormatRefusal, Journal, JournalRefusal};

@@ -1,7 +1,8 @@
 //! Stores of groups that are read.
 
 use case_lines::Text;
-use gd_disk::{Disk, FileDisk};
+use file_disks::FileDisk;
+use gd_disk::Disk;
 use std::alloc::Global;
 use tree_journal::JournalRefusal;
 use tree_store::{FormatRefusal, TreeStore};

@@ -1,5 +1,6 @@
 //! Disks in files of the operating system.
-use gd_disk::{Disk, Failed, FileDisk};
+use file_disks::FileDisk;
+use gd_disk::{Disk, Failed};
 use group_terms::NoMemory;
 use std::alloc::Global;
 use std::fs::{self, File};
@@ -27,7 +28,6 @@ fn is_kept<R: Files<File = File> + Clone>(alloc: Global, rt: &R) -> bool {
 enum Trial {
     Writes,
     Reads,
-    FailsAfterSync,
     NeverOpens,
     TakesNothing,
 }
@@ -44,7 +44,6 @@ fn goes<R: Files<File = File>>(disk: &mut FileDisk<R>, trial: Trial) -> bool {
     match trial {
         Trial::Writes => is_written(disk),
         Trial::Reads => is_read(disk),
-        Trial::FailsAfterSync => fails_after_a_sync(disk),
         Trial::NeverOpens => never_opens(disk),
         Trial::TakesNothing => write(disk, 0, b"abc") == Err(Failed),
     }
@@ -81,12 +80,12 @@ fn a_disk_that_fails_says_so(rt: HostRuntime) {
 }
 
 fn all_fail<R: Files<File = File> + Clone>(alloc: Global, rt: &R) -> bool {
-    holds(alloc, rt, "/dev/null", Trial::FailsAfterSync)
+    holds(alloc, rt, "/dev/null", Trial::NeverOpens)
         & holds(alloc, rt, "no_such_folder/disk", Trial::NeverOpens)
         & take_nothing(alloc, rt)
 }
 
-/// A folder that is not there, a folder in place of a file, and a device that takes nothing.
+/// A folder that is not there, a folder in place of a file, and a device.
 fn take_nothing<R: Files<File = File> + Clone>(alloc: Global, rt: &R) -> bool {
     let mut take_nothing = true;
     for path in ["no_such_folder/disk", ".", "/dev/full"] {
@@ -95,19 +94,42 @@ fn take_nothing<R: Files<File = File> + Clone>(alloc: Global, rt: &R) -> bool {
     take_nothing
 }
 
-/// What a sync could not bring to the device may be lost, and no later sync would tell: each call fails after one that failed.
-fn fails_after_a_sync<R: Files<File = File>>(disk: &mut FileDisk<R>) -> bool {
-    (write(disk, 0, b"abc") == Ok(()))
-        & (sync(disk) == Err(Failed))
-        & (write(disk, 0, b"abc") == Err(Failed))
-        & (read(disk, 0, &mut [b'-'; 2]) == Err(Failed))
-}
-
 /// Whether each call fails where the file does not open.
 fn never_opens<R: Files<File = File>>(disk: &mut FileDisk<R>) -> bool {
     (read(disk, 0, &mut [b'-'; 2]) == Err(Failed))
         & (cut(disk, 0) == Err(Failed))
         & (sync(disk) == Err(Failed))
+}
+
+const SHARED: &str = "gd_disk_shared";
+
+const SHARED_PATH: &str = "gd_disk_shared/disk";
+
+#[test]
+fn a_file_that_another_disk_has_open_is_refused_until_it_is_let_go(rt: HostRuntime) {
+    let _ = fs::remove_dir_all(&rt, SHARED);
+    let is_made = fs::create_dir(&rt, SHARED).is_ok();
+    let is_refused = is_refused(rt.alloc(), &rt) == Ok(true);
+    let is_removed = fs::remove_dir_all(&rt, SHARED).is_ok();
+    assert!(rt; is_made & is_refused & is_removed);
+}
+
+fn is_refused<R: Files<File = File> + Clone>(alloc: Global, rt: &R) -> Result<bool, NoMemory> {
+    let mut second = FileDisk::new(alloc, rt, SHARED_PATH)?;
+    let has_first = has_first(alloc, rt, &mut second)?;
+    Ok(has_first & write(&mut second, 0, b"xy").is_ok() & sync(&mut second).is_ok())
+}
+
+/// Whether a second disk is refused as long as a first one has the file.
+fn has_first<R: Files<File = File> + Clone>(
+    alloc: Global,
+    rt: &R,
+    second: &mut FileDisk<R>,
+) -> Result<bool, NoMemory> {
+    let mut first = FileDisk::new(alloc, rt, SHARED_PATH)?;
+    let is_written = is_written(&mut first);
+    let never_opens = never_opens(second);
+    Ok(is_written & never_opens & read(&mut first, 0, &mut [b'-'; 8]).is_ok())
 }
 
 // The calls of a disk promise much. Here they promise nothing, so that a test does not pay for it at each call.

@@ -1,0 +1,4 @@
+pub mod Listings
+pub mod Lists
+pub mod Private
+pub mod Texts

@@ -1,0 +1,33 @@
+-- A store on a disk in memory, whose batches are read one after the other.
+use Rattle.std.specs.Prelude.{◌≡◌, ⊤, ℕ, ◌+◌, ◌<◌, ◌≤◌, ◌^◌, List, [], ◌∷◌, ◌++◌}
+use Rattle.gd_disk.specs.Media.{Medium}
+use Rattle.group_model.specs.Present.{StandsFor}
+use Rattle.group_records.specs.declared.batches.Stored.{Stored}
+use Rattle.journal_listing.specs.Listings.{EndsAfter, listed_as}
+use Rattle.journal_listing.specs.declared.rows.JournalEnd.{JournalEnd}
+use Rattle.journal_listing.specs.declared.rows.JournalEnd.TheVariants.{Whole, Begun, NotAJournal}
+use Rattle.journal_listing.specs.declared.readings.Next.{Next}
+use Rattle.journal_listing.specs.declared.readings.Next.TheVariants.{Batch, End}
+use Rattle.tree_store.specs.Groups.{IsGroupTo, batches_of}
+use Rattle.tree_store.specs.Views.{View}
+
+-- these batches were read
+pub record IsReadTo (store : View Medium) (list : List Stored) : Type 0 where
+  pub stands : StandsFor store.tree (batches_of list)
+  pub read : IsGroupTo store.disk.image store.head list store.at
+
+-- the next batch was read; or there is none, and this is how the file ends
+abbrev pub GoesOn : List Stored → View Medium → View Medium → Next → Type 0
+GoesOn list was now (Batch batch) = (stored : Stored) × (batch ≡ listed_as stored) × IsReadTo now (list ++ stored ∷ [])
+GoesOn list was now (End end) = EndsAfter was.disk.image was.head list end
+
+-- a batch that was read takes the store further
+abbrev pub IsFurther : View Medium → View Medium → Next → Type 0
+IsFurther was now (Batch batch) = (was.at < 2 ^ 62) × (was.at < now.at)
+IsFurther was now (End end) = ⊤
+
+-- octets with a closed gate at this place end so, where there are so many
+abbrev pub IsEndAt : ℕ → ℕ → JournalEnd → Type 0
+IsEndAt at size Whole = size ≤ at + 1
+IsEndAt at size (Begun place) = (place ≡ at) × (at + 1 < size)
+IsEndAt at size (NotAJournal place) = ⊥

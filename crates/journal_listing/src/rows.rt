@@ -1,0 +1,54 @@
+//! What is listed of a journal.
+ghost use Rattle.std.specs.Prelude.{◌≡◌};
+ghost use Rattle.journal_listing.specs.Listings.{listed_as};
+
+use group_records::{Head, Stored};
+use group_terms::{Batch, List};
+
+/// A batch but for the values of its keys.
+#[derive(Drop)]
+pub struct ListedBatch {
+    pub epoch: u32,
+    /// The number of the last push after it.
+    pub sequence: u32,
+    /// How many positions of the tree it gave a new key.
+    pub keys: usize,
+    pub changes: Batch,
+}
+
+/// How the octets of a journal end.
+#[derive(Clone, Copy, PartialEq, Eq)]
+pub enum JournalEnd {
+    /// With the closed gate after the last record.
+    Whole,
+    /// At this place is the closed gate, and octets follow it, as of a record that was begun.
+    Begun { at: u64 },
+    /// At this place is neither a closed gate nor a record that is due.
+    NotAJournal { at: u64 },
+}
+
+/// What a journal has: the head of its group, where it has one, the batches up to the first closed gate or the first fault, and how it ends.
+#[derive(Drop)]
+pub struct Listing {
+    pub head: Option<Head>,
+    pub batches: List<ListedBatch>,
+    pub end: JournalEnd,
+}
+
+/// A batch as it is listed. The values of its keys are let go.
+pub(crate) fn listed(stored: Stored) -> ListedBatch
+    ensures { result ≡ listed_as stored }
+{
+    let Stored {
+        batch,
+        epoch,
+        sequence,
+        values,
+    } = stored;
+    ListedBatch {
+        epoch,
+        sequence,
+        keys: values.nodes.len(),
+        changes: batch,
+    }
+}
