@@ -120,12 +120,12 @@ impl MemFile {
         self.is_sound
     }
 
-    /// What a loss of power leaves, by `choice` as of a crash of a disk in memory; nothing where the folder does not have the file, and
-    /// `choice` is even. `NoMemory` where there is none for the octets.
+    /// What a loss of power leaves, by `choice` as of a crash of a disk in memory, of which there are eight; nothing where the folder does
+    /// not have the file, and `choice / 8` is even. `NoMemory` where there is none for the octets.
     pub fn crashed(self, choice: u64) -> Result<MemDisk, NoMemory>
         ensures { IfOk result (λ disk. MayLeaveFile self disk.image) }
     {
-        if self.is_listed || choice % 2 == 1 {
+        if self.is_listed || choice / 8 % 2 == 1 {
             self.disk.crashed(choice)
         } else {
             Ok(MemDisk::new(self.alloc))

@@ -7,6 +7,8 @@ ghost use Rattle.gd_disk.specs.declared.crashes.Fate.TheVariants.{Lost};
 use crate::events::Event;
 use crate::octets::{lay, replace};
 use group_terms::{List, NoMemory, Octets};
+use rand_chacha::ChaCha8Rng;
+use rand_core::{Rng, SeedableRng};
 use std::alloc::Global;
 
 /// Which part of what was not synced a crash leaves on the disk.
@@ -19,6 +21,8 @@ pub(crate) enum Crash {
     /// Each range is there, filled with this octet.
     Filled(u8),
     Last,
+    /// Each range is there, with octets drawn from this seed.
+    Drawn(u64),
 }
 
 /// What a crash leaves of one write or cut.
@@ -28,22 +32,24 @@ pub(crate) enum Fate {
     Whole,
     Half,
     Filled(u8),
+    Drawn(u64),
 }
 
 impl Crash {
-    /// The crash of a number, of which there are seven.
+    /// The crash of a number, of which there are eight. The last of them draws by the whole number.
     pub(crate) fn of(choice: u64) -> Self
-        ensures nothing { choice % 7 ≡ 0 → result ≡ Nothing }
-        ensures all { choice % 7 ≡ 1 → result ≡ All }
+        ensures nothing { choice % 8 ≡ 0 → result ≡ Nothing }
+        ensures all { choice % 8 ≡ 1 → result ≡ All }
     {
-        match choice % 7 {
+        match choice % 8 {
             0 => Crash::Nothing,
             1 => Crash::All,
             2 => Crash::First,
             3 => Crash::Halves,
             4 => Crash::Filled(0xff),
             5 => Crash::Last,
-            _ => Crash::Filled(0),
+            6 => Crash::Filled(0),
+            _ => Crash::Drawn(choice),
         }
     }
 
@@ -53,6 +59,7 @@ impl Crash {
         let is_whole = match self {
             Crash::Halves => return Fate::Half,
             Crash::Filled(octet) => return Fate::Filled(octet),
+            Crash::Drawn(seed) => return Fate::Drawn(seed),
             Crash::Nothing => false,
             Crash::All => true,
             Crash::First => is_first,
@@ -140,7 +147,22 @@ fn write_in_part(
             let filled = List::from_vec(vec![in alloc; octet; new.len()]?);
             lay(alloc, octets.as_slice(), at, filled.as_slice())
         }
+        Fate::Drawn(seed) => {
+            let drawn = drawn(alloc, seed, at, new.len())?;
+            lay(alloc, octets.as_slice(), at, drawn.as_slice())
+        }
     }
+}
+
+/// So many octets by chance: the stream of this place, from this seed.
+fn drawn(alloc: Global, seed: u64, at: usize, n: usize) -> Result<Octets, NoMemory>
+    ensures { IfOk result (λ octets. length octets ≡ n) }
+{
+    let mut octets = List::from_vec(vec![in alloc; 0; n]?);
+    let mut generator = ChaCha8Rng::seed_from_u64(seed);
+    generator.set_stream(at as u64);
+    generator.fill_bytes(octets.as_mut_slice());
+    Ok(octets)
 }
 
 /// What a crash leaves of a cut.
@@ -152,7 +174,7 @@ fn cut_in_part(octets: Octets, to: usize, fate: Fate) -> Octets
     let left = match fate {
         Fate::Lost => end,
         Fate::Half => to.max(end - end.saturating_sub(to) / 2),
-        Fate::Whole | Fate::Filled(_) => to,
+        Fate::Whole | Fate::Filled(_) | Fate::Drawn(_) => to,
     };
     let mut octets = octets;
     octets.truncate(left);

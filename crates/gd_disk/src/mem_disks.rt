@@ -101,15 +101,15 @@ impl MemDisk {
     }
 
     /// The disk as a crash leaves it, with all synced, no fault and no planned one. By `choice`
-    /// modulo 7 there is, of the writes and cuts that were not synced: nothing, all, the first
-    /// alone, half of each, each range filled with 0xff, the last alone, or each range filled with
-    /// 0. `NoMemory` where there is none for the octets.
+    /// modulo 8 there is, of the writes and cuts that were not synced: nothing, all, the first
+    /// alone, half of each, each range filled with 0xff, the last alone, each range filled with 0,
+    /// or each with octets drawn by the choice. `NoMemory` where there is none for the octets.
     pub fn crashed(self, choice: u64) -> Result<MemDisk, NoMemory>
         ensures left { IfOk result (λ disk. MayLeave self.image self.events disk.image) }
         ensures started { IfOk result (λ disk. disk ≡ fresh disk.image []) }
-        ensures nothing { choice % 7 ≡ 0 →
+        ensures nothing { choice % 8 ≡ 0 →
             IfOk result (λ disk. disk.image ≡ synced_image self.image self.events) }
-        ensures all { choice % 7 ≡ 1 → IfOk result (λ disk. disk.image ≡ self.image) }
+        ensures all { choice % 8 ≡ 1 → IfOk result (λ disk. disk.image ≡ self.image) }
     {
         let MemDisk {
             alloc,

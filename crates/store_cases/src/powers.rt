@@ -23,8 +23,8 @@ const CALLS: u64 = 28;
 /// Opening it and reading three batches: a sync, the beginning, the head, the batches and the end, each in pieces of a hundred octets.
 const OPENING: u64 = 30;
 
-/// Seven kinds of crash, with the file in its folder or not where that was not synced.
-const CHOICES: u64 = 14;
+/// Eight kinds of crash, with the file in its folder or not where that was not synced.
+const CHOICES: u64 = 16;
 
 #[test]
 fn a_loss_of_power_leaves_what_was_acknowledged(rt: HostRuntime) {

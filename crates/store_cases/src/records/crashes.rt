@@ -30,7 +30,7 @@ static CASES: [Case; 4] = [
             (4, b"\xff\xffcd\xff\xff\xff\xff"),
             (5, b"12cdef"),
             (6, b"\0\0cd\0\0\0\0"),
-            (7, b"abcdef"),
+            (8, b"abcdef"),
         ],
     ),
     // The same two writes, synced.
@@ -66,6 +66,29 @@ static CASES: [Case; 4] = [
         &[(0, b"abcdef"), (1, b"ab"), (3, b"abcd")],
     ),
 ];
+
+#[test]
+fn a_crash_draws_octets_in_the_ranges_that_were_not_synced(rt: HostRuntime) {
+    assert!(rt; draws_in_their_ranges(rt.alloc()) == Ok(true));
+}
+
+/// Whether two crashes that draw leave what lies between two writes, and of these different octets.
+fn draws_in_their_ranges(alloc: Global) -> Result<bool, NoMemory> {
+    let one = drawn(alloc, 7)?;
+    let other = drawn(alloc, 15)?;
+    Ok(keeps_between(one.image()) & keeps_between(other.image()) & (one.image() != other.image()))
+}
+
+fn keeps_between(image: &[u8]) -> bool {
+    image.len() == 8 && image[2] == b'c' && image[3] == b'd'
+}
+
+fn drawn(alloc: Global, choice: u64) -> Result<MemDisk, NoMemory> {
+    let (synced, calls, _) = &CASES[0];
+    let mut disk = holding(alloc, List::copy_of(alloc, synced)?);
+    are_done(&mut disk, calls);
+    disk.crashed(choice)
+}
 
 #[test]
 fn each_crash_leaves_its_part_of_what_was_not_synced(rt: HostRuntime) {

@@ -32,7 +32,7 @@ static CASES: [Case; 9] = [
         steps: &[],
         calls: &[],
         asked: &[(Call::Write(0, b"abcdef"), true)],
-        left: &[(0, b""), (1, b"abcdef")],
+        left: &[(0, b""), (1, b""), (8, b""), (9, b"abcdef")],
     },
     // The same, by two octets at a time: the last piece may survive alone.
     Case {
@@ -41,7 +41,7 @@ static CASES: [Case; 9] = [
         steps: &[],
         calls: &[],
         asked: &[(Call::Write(0, b"abcdef"), true), (Call::Read, true)],
-        left: &[(0, b""), (1, b"abcdef"), (5, b"\0\0\0\0ef")],
+        left: &[(0, b""), (9, b"abcdef"), (13, b"\0\0\0\0ef")],
     },
     // What was synced stays, and what came after it may be lost.
     Case {
@@ -54,7 +54,7 @@ static CASES: [Case; 9] = [
             (Call::Sync, true),
             (Call::Cut(3), true),
         ],
-        left: &[(0, b"abcdef"), (1, b"abc"), (7, b"abcdef")],
+        left: &[(0, b"abcdef"), (1, b"abc"), (8, b"abcdef")],
     },
     // It does not open at first: the next call tries again.
     Case {
@@ -81,7 +81,7 @@ static CASES: [Case; 9] = [
             (Call::Sync, false),
             (Call::Cut(0), false),
         ],
-        left: &[(0, b""), (1, b"")],
+        left: &[(0, b""), (9, b"")],
     },
     // Its folder cannot be synced: nothing goes on.
     Case {
@@ -96,7 +96,7 @@ static CASES: [Case; 9] = [
             (Call::Write(0, b"ab"), false),
             (Call::Read, false),
         ],
-        left: &[(0, b""), (1, b"ab")],
+        left: &[(0, b""), (9, b"ab")],
     },
     // The file cannot be synced: nothing goes on. (The third call is that of the folder.)
     Case {
@@ -110,7 +110,7 @@ static CASES: [Case; 9] = [
             (Call::Sync, false),
             (Call::Cut(0), false),
         ],
-        left: &[(0, b""), (1, b"ab")],
+        left: &[(0, b""), (9, b"ab")],
     },
     // A write fails in its second piece, and the next one goes on.
     Case {
