@@ -5,9 +5,9 @@ use Rattle.std.proofs.lemmas.List.{take_all}
 use Rattle.gd_disk.specs.Disks.{Torn, Follows, Narrows, Elapses}
 use Rattle.gd_disk.specs.Media.{Medium, MayLeave, wrote}
 use Rattle.file_disks.specs.FileMedia.{FileMedium, MayLeaveFile, FileLeftSince}
-use Rattle.file_disks.specs.Files.{Standing}
+use Rattle.folder_files.specs.Files.{Standing}
 use Rattle.gd_disk.proofs.MediumLemmas.{Left, GoesOn, write_follows}
-use Rattle.file_disks.proofs.PieceLemmas.{Torn-over}
+use Rattle.folder_files.proofs.PieceLemmas.{Torn-over}
 use Rattle.gd_disk.proofs.TornLemmas.{Torn-same, undone-written}
 
 -- a file in memory by its parts

@@ -1,3 +1,1 @@
-pub mod CallLemmas
 pub mod FileLemmas
-pub mod PieceLemmas

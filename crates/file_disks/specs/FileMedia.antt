@@ -1,6 +1,6 @@
 -- A file in memory: a medium, and whether a folder has it.
 use Rattle.std.specs.Prelude.{◌≡◌, ◌⊎◌, ℕ, ◌<◌, ◌≤◌, Bool, false, List, [], length}
-use Rattle.file_disks.specs.Files.{Standing}
+use Rattle.folder_files.specs.Files.{Standing}
 use Rattle.gd_disk.specs.Media.{Medium, MayLeave, LeftSince}
 
 -- its octets and what was done to them, how it stands, the last moment at which its folder did not have it, how many octets a read or a write

@@ -1,5 +1,3 @@
 pub mod FileLaws
 pub mod FileMedia
-pub mod Files
-pub mod Private
 pub mod Views

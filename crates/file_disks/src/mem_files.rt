@@ -7,7 +7,7 @@ ghost use Rattle.gd_disk.specs.MediaLaws.{read_stays};
 ghost use Rattle.file_disks.specs.FileMedia.{MayLeaveFile, FileLeftSince};
 ghost use Rattle.file_disks.specs.FileLaws.{only_now_in_file, counts_now_in_file};
 
-use crate::folder_files::FolderFile;
+use folder_files::FolderFile;
 use gd_disk::{Disk, Failed, MemDisk};
 use group_terms::{List, NoMemory, Schedule};
 use std::alloc::Global;

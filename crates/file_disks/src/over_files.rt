@@ -2,13 +2,11 @@
 ghost use Rattle.std.specs.Prelude.{◌≡◌, ◌⊎◌, ◌↔◌, ℕ, ◌+◌, ◌^◌, ◌<◌, ◌≤◌, List, length, take, true, false, Some, IsSome, IsTrue, IsErr, IfOk, OnOk, OnErr};
 ghost use Rattle.gd_disk.specs.Disks.{known, Knows, IsRead, written, Torn, Cut, Steps, Follows, Narrows, Only, Elapses};
 ghost use Rattle.group_terms.specs.Faults.{Rose};
-ghost use Rattle.file_disks.specs.Files.{Standing};
+ghost use Rattle.folder_files.specs.Files.{Standing};
 
-use crate::calls::{cut, read, sync, write};
 use crate::counts::counted;
-use crate::folder_files::FolderFile;
-use crate::stages::Stage;
 use crate::std_files::StdFile;
+use folder_files::{FolderFile, Stage, cut, read, sync, write};
 use gd_disk::{Disk, Failed};
 use group_terms::NoMemory;
 use std::alloc::Global;
@@ -29,7 +27,7 @@ pub struct OverFile<F: FolderFile> {
 }
 
 impl<F: FolderFile> Model for OverFile<F> {
-    ghost use Rattle.file_disks.specs.Private.Stages.{Fits, is_lost};
+    ghost use Rattle.folder_files.specs.Stages.{Fits, is_lost};
     ghost use Rattle.file_disks.specs.Views.{View};
 
     ghost Value = { View F };

@@ -1,9 +1,9 @@
 //! A file of the operating system.
 ghost use Rattle.std.specs.Prelude.{⊤, ◌≡◌, ◌<◌, ◌≤◌, true, false, None, length, IfOk};
-ghost use Rattle.file_disks.specs.Files.{Standing};
+ghost use Rattle.folder_files.specs.Files.{Standing};
 
 use crate::counts::counted;
-use crate::folder_files::FolderFile;
+use folder_files::FolderFile;
 use gd_disk::Failed;
 use group_terms::NoMemory;
 use std::alloc::Global;

@@ -1,6 +1,6 @@
 use Rattle.std.proofs.Common.{[], refl}
 use Rattle.gd_disk.specs.Disks.{Cut}
-use Rattle.file_disks.specs.Files.{Standing}
+use Rattle.folder_files.specs.Files.{Standing}
 use Rattle.file_disks.proofs.FileLemmas.{file_of, file_follows, file_goes_on}
 use Rattle.gd_disk.proofs.TornLemmas.{Cut-same}
 use Rattle.file_disks.proofs.mem_files.MemFileFolderFile.set_len.Goals as goal

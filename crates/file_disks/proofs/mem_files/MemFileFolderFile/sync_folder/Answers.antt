@@ -1,5 +1,5 @@
 use Rattle.std.proofs.Common.{true, refl}
-use Rattle.file_disks.specs.Files.{Standing}
+use Rattle.folder_files.specs.Files.{Standing}
 use Rattle.file_disks.proofs.FileLemmas.{file_of, file_listed}
 use Rattle.file_disks.proofs.mem_files.MemFileFolderFile.sync_folder.Goals as goal
 

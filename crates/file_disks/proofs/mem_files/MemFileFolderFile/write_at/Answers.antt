@@ -1,6 +1,6 @@
 use Rattle.std.proofs.Common.{◌≤◌, [], length, take, refl, sym, subst, arith, length-take}
 use Rattle.gd_disk.specs.Disks.{Torn}
-use Rattle.file_disks.specs.Files.{Standing}
+use Rattle.folder_files.specs.Files.{Standing}
 use Rattle.file_disks.specs.FileMedia.{FileMedium}
 use Rattle.file_disks.proofs.FileLemmas.{file_of, file_follows, file_widens, file_goes_on, Follows-more}
 use Rattle.gd_disk.proofs.MediumLemmas.{Left}

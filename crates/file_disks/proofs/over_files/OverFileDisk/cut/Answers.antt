@@ -1,5 +1,5 @@
 use Rattle.std.proofs.Common.{◌∙◌, ap, subst}
-use Rattle.file_disks.specs.Private.Calls.{octets_of}
+use Rattle.folder_files.specs.Calls.{octets_of}
 use Rattle.file_disks.specs.Views.{View}
 use Rattle.file_disks.proofs.over_files.OverFileDisk.cut.Goals as goal
 

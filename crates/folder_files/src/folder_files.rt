@@ -2,7 +2,7 @@
 ghost use Rattle.std.specs.Prelude.{◌≡◌, ◌↔◌, ℕ, ◌+◌, ◌^◌, ◌<◌, ◌≤◌, Bool, false, List, length, take, Option, Some, IsSome, IsTrue, IfOk, OnOk, OnErr};
 ghost use Rattle.gd_disk.specs.Disks.{known, Knows, written, Torn, Cut, Steps, Follows, Narrows, Only, Elapses};
 ghost use Rattle.group_terms.specs.Faults.{Rose};
-ghost use Rattle.file_disks.specs.Files.{Standing, IsHeld, IsPartRead};
+ghost use Rattle.folder_files.specs.Files.{Standing, IsHeld, IsPartRead};
 
 use gd_disk::Failed;
 

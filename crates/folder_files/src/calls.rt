@@ -2,16 +2,18 @@
 ghost use Rattle.std.specs.Prelude.{◌≡◌, ◌⊎◌, ◌+◌, ◌^◌, ◌<◌, ◌≤◌, length, take, Some, IsErr, IfOk, OnOk, OnErr};
 ghost use Rattle.group_terms.specs.Faults.{Rose};
 ghost use Rattle.gd_disk.specs.Disks.{Knows, IsRead, Torn, Cut, Only, written};
-ghost use Rattle.file_disks.specs.Private.Calls.{octets_of, IsQuiet, IsNarrow, IsStep};
-ghost use Rattle.file_disks.specs.Private.Stages.{Fits};
-ghost use Rattle.file_disks.specs.declared.stages.Stage.TheVariants.{Lost};
+ghost use Rattle.folder_files.specs.Calls.{octets_of, IsQuiet, IsNarrow, IsStep};
+ghost use Rattle.folder_files.specs.Stages.{Fits};
+ghost use Rattle.folder_files.specs.declared.stages.Stage.TheVariants.{Lost};
 
 use crate::FolderFile;
 use crate::stages::{Stage, hold, list};
 use crate::whole::{read_all, write_all};
 use gd_disk::{FARTHEST, Failed, a_crash_may_leave_nothing_or_all, ends_too_far};
 
-pub(crate) fn read<F: FolderFile>(
+/// Moves octets from a place on to the front of `into`, and says how many: all that are there and fit, and none past the farthest place.
+/// `Failed` where a call of the file fails, and after a sync that failed.
+pub fn read<F: FolderFile>(
     file: &mut F,
     stage: &mut Stage,
     at: u64,
@@ -36,7 +38,9 @@ pub(crate) fn read<F: FolderFile>(
     Ok(read_all(file, at, into)?)
 }
 
-pub(crate) fn write<F: FolderFile>(
+/// Writes octets over those at a place, and past the end. `Failed` where they would end past the farthest place, where a call of the file
+/// fails, and after a sync that failed.
+pub fn write<F: FolderFile>(
     file: &mut F,
     stage: &mut Stage,
     at: u64,
@@ -61,7 +65,8 @@ pub(crate) fn write<F: FolderFile>(
     Ok(())
 }
 
-pub(crate) fn cut<F: FolderFile>(file: &mut F, stage: &mut Stage, to: u64) -> Result<(), Failed>
+/// Cuts all octets from a place on. `Failed` where a call of the file fails, and after a sync that failed.
+pub fn cut<F: FolderFile>(file: &mut F, stage: &mut Stage, to: u64) -> Result<(), Failed>
     requires fits { Fits stage.old (F.standing file.old) }
     requires there { Knows (octets_of F.FolderFile file.old) (λ octets. to ≤ length octets) }
     ensures fits { Fits stage.new (F.standing file.new) }
@@ -78,7 +83,9 @@ pub(crate) fn cut<F: FolderFile>(file: &mut F, stage: &mut Stage, to: u64) -> Re
     Ok(())
 }
 
-pub(crate) fn sync<F: FolderFile>(file: &mut F, stage: &mut Stage) -> Result<(), Failed>
+/// Waits until the folder has the file on the device, and all octets of it are there. `Failed` where a call of the file or of its folder
+/// fails, and after a sync that failed.
+pub fn sync<F: FolderFile>(file: &mut F, stage: &mut Stage) -> Result<(), Failed>
     requires { Fits stage.old (F.standing file.old) }
     ensures fits { Fits stage.new (F.standing file.new) }
     ensures durable { OnOk result (Knows (octets_of F.FolderFile file.old)

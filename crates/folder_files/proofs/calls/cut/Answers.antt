@@ -1,7 +1,7 @@
 use Rattle.std.proofs.Common.{◌∙◌, sym, take}
 use Rattle.gd_disk.specs.Disks.{Cut}
-use Rattle.file_disks.proofs.CallLemmas.{IsStep-after}
-use Rattle.file_disks.proofs.calls.cut.Goals as goal
+use Rattle.folder_files.proofs.CallLemmas.{IsStep-after}
+use Rattle.folder_files.proofs.calls.cut.Goals as goal
 
 pub returns-in_err-set_len-clause-step : goal.returns-in_err-set_len-clause-step
 returns-in_err-set_len-clause-step g c =

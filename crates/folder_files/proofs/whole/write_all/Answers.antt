@@ -1,9 +1,9 @@
 use Rattle.std.proofs.Common.{◌∙◌, ◌+◌, ◌-◌, Some, ℕ, List, length, take, drop, ap, arith, length-take}
 use Rattle.std.proofs.lemmas.List.{take_rest}
 use Rattle.gd_disk.specs.Disks.{written}
-use Rattle.file_disks.proofs.CallLemmas.{IsStep-within, reached, Rose-later, on_err}
-use Rattle.file_disks.proofs.PieceLemmas.{written_more, Torn-over}
-use Rattle.file_disks.proofs.whole.write_all.Goals as goal
+use Rattle.folder_files.proofs.CallLemmas.{IsStep-within, reached, Rose-later, on_err}
+use Rattle.folder_files.proofs.PieceLemmas.{written_more, Torn-over}
+use Rattle.folder_files.proofs.whole.write_all.Goals as goal
 
 pub write_at-requires-clause-there : goal.write_at-requires-clause-there
 write_at-requires-clause-there g c =

@@ -2,8 +2,8 @@
 ghost use Rattle.std.specs.Prelude.{◌≡◌, ◌+◌, ◌^◌, ◌<◌, ◌≤◌, length, Some, IfOk, OnOk, OnErr};
 ghost use Rattle.group_terms.specs.Faults.{Rose};
 ghost use Rattle.gd_disk.specs.Disks.{Knows, IsRead, Torn, written};
-ghost use Rattle.file_disks.specs.Files.{IsHeld};
-ghost use Rattle.file_disks.specs.Private.Calls.{octets_of, IsQuiet, IsStep};
+ghost use Rattle.folder_files.specs.Files.{IsHeld};
+ghost use Rattle.folder_files.specs.Calls.{octets_of, IsQuiet, IsStep};
 
 use crate::FolderFile;
 use gd_disk::{Failed, a_crash_may_leave_nothing_or_all};

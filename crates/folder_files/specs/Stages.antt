@@ -1,8 +1,8 @@
 -- How far the file of a disk is.
 use Rattle.std.specs.Prelude.{⊤, Bool, true, false, IsTrue}
-use Rattle.file_disks.specs.Files.{Standing, IsHeld}
-use Rattle.file_disks.specs.declared.stages.Stage.{Stage}
-use Rattle.file_disks.specs.declared.stages.Stage.TheVariants.{Unopened, Held, Listed, Lost}
+use Rattle.folder_files.specs.Files.{Standing, IsHeld}
+use Rattle.folder_files.specs.declared.stages.Stage.{Stage}
+use Rattle.folder_files.specs.declared.stages.Stage.TheVariants.{Unopened, Held, Listed, Lost}
 
 -- what is known of a file at this stage
 abbrev pub Fits : Stage → Standing → Type 0

@@ -1,7 +1,7 @@
 -- What one or more calls of a file do.
 use Rattle.std.specs.Prelude.{◌≡◌, ◌↔◌, ℕ, List, Option, IsSome}
 use Rattle.gd_disk.specs.Disks.{known, Knows, Steps, Follows, Narrows, Elapses}
-use Rattle.file_disks.specs.declared.folder_files.FolderFile.{Ghosts}
+use Rattle.folder_files.specs.declared.folder_files.FolderFile.{Ghosts}
 
 -- the octets of a file, where they are known
 abbrev pub octets_of : {F : Type 0} → Ghosts F → F → Option (List ℕ)

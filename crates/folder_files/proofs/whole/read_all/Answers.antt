@@ -1,7 +1,7 @@
 use Rattle.std.proofs.Common.{◌∙◌, ◌-◌, length, arith}
-use Rattle.file_disks.proofs.CallLemmas.{IsQuiet-then, Rose-later, on_err}
-use Rattle.file_disks.proofs.PieceLemmas.{read_more}
-use Rattle.file_disks.proofs.whole.read_all.Goals as goal
+use Rattle.folder_files.proofs.CallLemmas.{IsQuiet-then, Rose-later, on_err}
+use Rattle.folder_files.proofs.PieceLemmas.{read_more}
+use Rattle.folder_files.proofs.whole.read_all.Goals as goal
 
 pub loop-n-preserved : goal.loop-n-preserved
 loop-n-preserved g c =

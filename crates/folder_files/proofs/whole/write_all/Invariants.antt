@@ -1,7 +1,7 @@
 use Rattle.std.proofs.Common.{◌≡◌, ◌≤◌, ◌-◌, length, take, Some}
 use Rattle.gd_disk.specs.Disks.{Knows, Torn, written}
-use Rattle.file_disks.specs.Private.Calls.{octets_of, IsStep}
-use Rattle.file_disks.proofs.whole.write_all.Given as goal
+use Rattle.folder_files.specs.Calls.{octets_of, IsStep}
+use Rattle.folder_files.proofs.whole.write_all.Given as goal
 
 abbrev pub invariant-loop-done : goal.invariant-loop-done
 invariant-loop-done g l = record {

@@ -1,7 +1,7 @@
 use Rattle.std.proofs.Common.{length}
 use Rattle.gd_disk.specs.Disks.{Torn}
-use Rattle.file_disks.proofs.CallLemmas.{IsStep-after}
-use Rattle.file_disks.proofs.calls.write.Goals as goal
+use Rattle.folder_files.proofs.CallLemmas.{IsStep-after}
+use Rattle.folder_files.proofs.calls.write.Goals as goal
 
 pub returns-in_err-write_all-clause-step : goal.returns-in_err-write_all-clause-step
 returns-in_err-write_all-clause-step g c =

@@ -4,9 +4,9 @@ use Rattle.std.specs.Prelude.{◌↔◌, Bool, true, false, Option, None, Some, 
 use Rattle.std.proofs.Common.{refl, ap, take, length-take}
 use Rattle.gd_disk.specs.Disks.{Narrows, Torn, written}
 use Rattle.group_terms.specs.Faults.{Rose}
-use Rattle.file_disks.specs.Private.Calls.{octets_of, Goes, Stays, IsQuiet, IsStep}
-use Rattle.file_disks.specs.declared.folder_files.FolderFile.{Ghosts}
-use Rattle.file_disks.proofs.PieceLemmas.{Torn-over, length-written}
+use Rattle.folder_files.specs.Calls.{octets_of, Goes, Stays, IsQuiet, IsStep}
+use Rattle.folder_files.specs.declared.folder_files.FolderFile.{Ghosts}
+use Rattle.folder_files.proofs.PieceLemmas.{Torn-over, length-written}
 
 -- what holds anyway holds where a call fails
 pub on_err : {A E : Type 0} (answer : Result A E) (P : Type 0) → P → OnErr answer P

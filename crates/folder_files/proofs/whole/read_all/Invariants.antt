@@ -1,7 +1,7 @@
 use Rattle.std.proofs.Common.{◌≡◌, ◌≤◌, ◌-◌, length, take, drop}
 use Rattle.gd_disk.specs.Disks.{Knows}
-use Rattle.file_disks.specs.Private.Calls.{octets_of, IsQuiet}
-use Rattle.file_disks.proofs.whole.read_all.Given as goal
+use Rattle.folder_files.specs.Calls.{octets_of, IsQuiet}
+use Rattle.folder_files.proofs.whole.read_all.Given as goal
 
 abbrev pub invariant-loop-n : goal.invariant-loop-n
 invariant-loop-n g l = record {

@@ -1,17 +1,18 @@
 //! Opening, locking and listing the file of a disk.
 ghost use Rattle.std.specs.Prelude.{◌≡◌, ◌⊎◌, ◌≤◌, IsTrue, IsErr, OnOk, OnErr};
 ghost use Rattle.group_terms.specs.Faults.{Rose};
-ghost use Rattle.file_disks.specs.Files.{IsHeld};
-ghost use Rattle.file_disks.specs.Private.Calls.{IsQuiet, IsNarrow};
-ghost use Rattle.file_disks.specs.Private.Stages.{Fits};
-ghost use Rattle.file_disks.specs.declared.stages.Stage.TheVariants.{Lost};
+ghost use Rattle.folder_files.specs.Files.{IsHeld};
+ghost use Rattle.folder_files.specs.Calls.{IsQuiet, IsNarrow};
+ghost use Rattle.folder_files.specs.Stages.{Fits};
+ghost use Rattle.folder_files.specs.declared.stages.Stage.TheVariants.{Lost};
 
 use crate::FolderFile;
 use gd_disk::Failed;
 
 /// How far the file of a disk is.
 #[derive(Clone, Copy)]
-pub(crate) enum Stage {
+pub enum Stage {
+    /// It is not opened and locked yet.
     Unopened,
     /// It is open and locked.
     Held,
