@@ -14,6 +14,7 @@ pub mod PathLemmas
 pub mod PlaceLemmas
 pub mod PresentLemmas
 pub mod QueueLemmas
+pub mod ReplyLemmas
 pub mod RiseLemmas
 pub mod RowLemmas
 pub mod SeatLemmas

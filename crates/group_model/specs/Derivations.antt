@@ -59,6 +59,12 @@ abbrev pub pairs_resent : Option PushPair → List Wrap
 pairs_resent None = []
 pairs_resent (Some pair) = pair.wraps
 
+-- what an answer sent for all to see: the encryptions of a batch, or those of the last one again, with the pushes that an opening sent again
+abbrev pub wraps_in : Answer → List Wrap
+wraps_in (Batched output) = output.wraps
+wraps_in (Opened seen resent) = pairs_resent resent
+wraps_in answer = []
+
 -- all that an answer sent: the wraps of a batch, and then what its replies encrypt; or the pushes that an opening sent again
 abbrev pub pairs_in : Answer → List Wrap
 pairs_in (Batched output) = output.wraps ++ flat_map reply_pairs (says_of output.replies)

@@ -4,6 +4,7 @@ pub use Rattle.tree_leaves.specs.Places
 pub mod Derivations
 pub mod Drawn
 pub mod Groups
+pub mod Growth
 pub mod Histories
 pub mod Laws
 pub mod Legal

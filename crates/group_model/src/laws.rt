@@ -1,4 +1,5 @@
 //! What the definitions mean, said of lists of batches and of histories.
+ghost use Rattle.group_model.specs.Growth.{RepliesGoToMembers};
 ghost use Rattle.group_model.specs.Laws.{EachLeafHasItsPlace, HoldersStay, LastChangesStay, PlacesAreHeld, NoLeafIsShared};
 ghost use Rattle.group_model.specs.Laws.{NoNameHasTwoLeaves, PlacesStay, BatchesSayWhoIsMember, WrapsUseTwoNumbers, DrawnPositionsRise};
 ghost use Rattle.group_model.specs.Laws.{NoChangeFits, LeaversAreFew, ChangesAreFew, GrantedJoinsFit, GrantedLeavesFit};
@@ -38,6 +39,11 @@ pub fn places_stay_while_members_stay()
 /// After a batch of a valid list its joiners are members, its leavers are none, and anybody else is one exactly where it was one before.
 pub fn a_batch_says_who_is_a_member()
     ensures { BatchesSayWhoIsMember }
+{}
+
+/// Each reply of a batch tells a member of its epoch the keys that it has then.
+pub fn replies_go_to_members()
+    ensures { RepliesGoToMembers }
 {}
 
 /// A batch that encrypts something uses the next two sequence numbers; any other one uses none.

@@ -1,12 +1,17 @@
 pub mod Batches
+pub mod ChainLaws
+pub mod Chains
 pub mod Changes
 pub mod Counts
 pub mod Crashes
 pub mod Disks
+pub mod Kinds
 pub mod Laws
 pub mod Members
+pub mod Moments
 pub mod Openings
 pub mod Outsides
 pub mod Runs
 pub mod Sent
 pub mod Steps
+pub mod TrueSteps

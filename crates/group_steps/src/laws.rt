@@ -2,11 +2,17 @@
 ghost use Rattle.std.specs.Prelude.{ℕ, List};
 ghost use Rattle.group_steps.specs.Counts.{DisksStayHonest, FaultsAreCounted};
 ghost use Rattle.group_steps.specs.Crashes.{CrashesLeaveMoments, OpenedHaveJournals};
+ghost use Rattle.group_steps.specs.Kinds.{EachStepIsOfAKind};
 ghost use Rattle.group_steps.specs.Laws.{IsLegalByNames, LeavesValidList};
+ghost use Rattle.group_steps.specs.Moments.{MomentsEndHistories};
+ghost use Rattle.group_steps.specs.TrueSteps.{SureStepsAreTrue, TrueStepsGrow};
 
 use gd_disk::Disk;
 use gd_edges::{Signer, Verifier};
-use group_model::{a_batch_that_fits_has_few_changes, a_history_leaves_a_sound_group};
+use group_model::{
+    a_batch_that_fits_has_few_changes, a_history_leaves_a_sound_group, laws_hold,
+    replies_go_to_members,
+};
 
 /// The batches that a history leaves are a valid list. By key names it is a legal history, as long as each opening found the group that
 /// there was: so it is on an honest disk that exposes its octets, and before it is opened again.
@@ -31,3 +37,25 @@ pub fn a_crash_leaves_a_moment_of_the_history<D: Disk, G: Signer, V: Verifier>()
     ensures opened { (signer : G) (verifier : V) (block : ℕ → List ℕ) → OpenedHaveJournals D.Disk G.Signer signer V.Verifier verifier block }
     ensures crashes { (signer : G) (verifier : V) (block : ℕ → List ℕ) → CrashesLeaveMoments D.Disk G.Signer signer V.Verifier verifier block }
 {}
+
+/// Each step after the first request stores a batch, opens the group again, or leaves the group as it is but for what waits.
+pub fn each_step_is_of_a_kind<D: Disk, G: Signer, V: Verifier>()
+    ensures { (signer : G) (verifier : V) (block : ℕ → List ℕ) → EachStepIsOfAKind D.Disk G.Signer signer V.Verifier verifier block }
+{
+    laws_hold();
+}
+
+/// Each moment of a history is the end of one. So what holds after each history holds at each moment.
+pub fn each_moment_ends_a_history<D: Disk, G: Signer, V: Verifier>()
+    ensures { (signer : G) (verifier : V) (block : ℕ → List ℕ) → MomentsEndHistories D.Disk G.Signer signer V.Verifier verifier block }
+{}
+
+/// From an opening on a group grows by what is sent and told, as long as each later opening found the group that there was. So it is where the
+/// disk is honest and exposes its octets, or nothing was opened again.
+pub fn a_group_grows_by_what_is_sent<D: Disk, G: Signer, V: Verifier>()
+    ensures grows { (signer : G) (verifier : V) (block : ℕ → List ℕ) → TrueStepsGrow D.Disk G.Signer signer V.Verifier verifier block }
+    ensures sure { (signer : G) (verifier : V) (block : ℕ → List ℕ) → SureStepsAreTrue D.Disk G.Signer signer V.Verifier verifier block }
+{
+    laws_hold();
+    replies_go_to_members();
+}

@@ -2,7 +2,9 @@
 #![tactic(auto)]
 
 pub use laws::{
-    a_crash_leaves_a_moment_of_the_history, a_history_is_legal_by_names, faults_are_counted,
+    a_crash_leaves_a_moment_of_the_history, a_group_grows_by_what_is_sent,
+    a_history_is_legal_by_names, each_moment_ends_a_history, each_step_is_of_a_kind,
+    faults_are_counted,
 };
 
 mod laws;

@@ -2,6 +2,9 @@ pub mod AnswerLemmas
 pub mod ClosureLemmas
 pub mod ContainLemmas
 pub mod DerivationLemmas
+pub mod EarlierLemmas
+pub mod EpochLemmas
+pub mod ExtendLemmas
 pub mod FirstLemmas
 pub mod GraphLemmas
 pub mod KindLemmas
@@ -14,4 +17,6 @@ pub mod PlaceLemmas
 pub mod PrefixLemmas
 pub mod SecrecyLemmas
 pub mod SentLemmas
+pub mod ServeLemmas
 pub mod TellLemmas
+pub mod ToldLemmas

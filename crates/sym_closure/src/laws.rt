@@ -8,6 +8,7 @@ ghost use Rattle.group_model.specs.Groups.{Reading};
 ghost use Rattle.group_model.specs.Legal.{IsLegalHistory};
 ghost use Rattle.sym_closure.specs.Firsts.{AreAmong};
 ghost use Rattle.sym_closure.specs.Knowledge.{Known, Knows};
+ghost use Rattle.sym_closure.specs.Serving.{EarlierRunsServeNobodyElse, HistoriesServeMembers};
 ghost use Rattle.sym_closure.specs.Worlds.{world, holdings};
 ghost use Rattle.sym_closure.specs.Secrecy.{NoOthersDerive, NobodyDerivesYet, DerivesOnlyWithinReach, MembersDerive, SendsItsWraps, IsPartOfWorld, NoOthersDeriveFrom, RepliedMembersDerive, YesIsOfMembers};
 
@@ -57,6 +58,15 @@ pub fn a_history_serves_its_members_alone()
     ensures others { (readings : List Reading) (entries : List Entry) → IsLegalHistory readings entries → NoOthersDeriveFrom readings entries }
     ensures members { (readings : List Reading) (entries : List Entry) → IsLegalHistory readings entries → RepliedMembersDerive readings entries }
     ensures yes { (readings : List Reading) (entries : List Entry) → IsLegalHistory readings entries → YesIsOfMembers readings entries }
+{
+    laws_hold();
+    each_law_holds();
+}
+
+/// Entries that leave a valid list of batches serve its members, and nobody else; nor do they with what earlier runs over the journal gave and sent.
+pub fn a_history_serves_its_members()
+    ensures serves { HistoriesServeMembers }
+    ensures earlier { EarlierRunsServeNobodyElse }
 {
     laws_hold();
     each_law_holds();

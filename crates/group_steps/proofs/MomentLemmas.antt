@@ -1,0 +1,33 @@
+-- Each moment of a history is the end of one.
+use Rattle.std.proofs.Common.{◌≡◌, ◌⊎◌, ℕ, List, [], ◌∷◌, ◌++◌, refl, subst, inl, inr}
+use Rattle.gd_disk.specs.declared.disks.Disk.{Ghosts as DiskGhosts}
+use Rattle.gd_edges.specs.declared.signers.Signer.{Ghosts as SignerGhosts}
+use Rattle.gd_edges.specs.declared.verifiers.Verifier.{Ghosts as VerifierGhosts}
+use Rattle.group_model.specs.Legal.{BeginsWithOpening}
+use Rattle.group_model.specs.declared.entries.Entry.{Entry}
+use Rattle.group_steps.specs.Moments.{MomentsEndHistories}
+use Rattle.group_steps.specs.Steps.{EndsWithoutMemory}
+
+none_before : (front later : List Entry) → front ++ later ≡ [] → front ≡ []
+none_before [] later none = refl
+none_before (entry ∷ front) later none = absurd (cc (none))
+
+nothing_or : (P : Type 0) (front later : List Entry) → (front ++ later ≡ []) ⊎ P → (front ≡ []) ⊎ P
+nothing_or P front later (inl none) = inl (none_before front later none)
+nothing_or P front later (inr is) = inr is
+
+pub begins_front : (front later : List Entry) → BeginsWithOpening (front ++ later) → BeginsWithOpening front
+begins_front [] later is = tt
+begins_front (first ∷ front) later is = (is.0, nothing_or _ front later is.1)
+
+memory_front : (front later : List Entry) → EndsWithoutMemory (front ++ later) → EndsWithoutMemory front
+memory_front [] later is = tt
+memory_front (entry ∷ front) later is = (nothing_or _ front later is.0, memory_front front later is.1)
+
+module _ {D G V : Type 0} (d : DiskGhosts D) (g : SignerGhosts G) (signer : G) (v : VerifierGhosts V) (verifier : V) (block : ℕ → List ℕ) where
+  pub moments_end : MomentsEndHistories d g signer v verifier block
+  moments_end start entries after front mid history moment = record {
+    begins = begins_front front moment.later (subst BeginsWithOpening moment.is history.begins);
+    memory = memory_front front moment.later (subst EndsWithoutMemory moment.is history.memory);
+    steps = moment.so_far;
+  }

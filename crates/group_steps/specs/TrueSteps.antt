@@ -1,0 +1,59 @@
+-- Steps whose openings read true: a group that is opened again is the one that there was.
+use Rattle.std.specs.Prelude.{◌≡◌, ℕ, true, List, [], ◌∷◌, ◌++◌}
+use Rattle.gd_disk.specs.declared.disks.Disk.{Ghosts as DiskGhosts}
+use Rattle.gd_edges.specs.declared.signers.Signer.{Ghosts as SignerGhosts}
+use Rattle.gd_edges.specs.declared.verifiers.Verifier.{Ghosts as VerifierGhosts}
+use Rattle.group_terms.specs.Names.{Name}
+use Rattle.group_terms.specs.declared.changes.Change.{Change}
+use Rattle.group_values.specs.Values.{batches_made}
+use Rattle.group_model.specs.Growth.{Leaves}
+use Rattle.group_model.specs.Legal.{BeginsWithOpening, is_open}
+use Rattle.group_model.specs.declared.entries.Entry.{Entry}
+use Rattle.group_steps.specs.Chains.{Along}
+use Rattle.group_steps.specs.Laws.{IsSure, is_opened_again}
+use Rattle.group_steps.specs.Openings.{IsSame}
+use Rattle.group_steps.specs.Runs.{Run, no_run}
+use Rattle.group_steps.specs.Steps.{AreRunSteps, IsRunStep}
+
+module _ {D : Type 0} where
+  -- the batches that made the epochs of a run
+  abbrev pub batches_in : Run D → List (List Change)
+  batches_in run = batches_made run.server.list
+
+  -- where the group was opened again, its journal had the same head, and the batches that it may have
+  abbrev pub ReadsTrue : Run D → Entry → Run D → Type 0
+  ReadsTrue run entry next = is_opened_again entry ≡ true → IsSame run (record { head = next.head; list = next.server.list })
+
+module _ {D G V : Type 0} (d : DiskGhosts D) (g : SignerGhosts G) (signer : G) (v : VerifierGhosts V) (verifier : V) (block : ℕ → List ℕ) where
+  -- a step that reads true, if it opens the group again
+  abbrev pub IsTrueStep : List Entry → Run D → Entry → Run D → Type 0
+  IsTrueStep before run entry next = IsRunStep d g signer v verifier block before run entry next × ReadsTrue run entry next
+
+  -- such steps, one after the other
+  abbrev pub AreTrueSteps : List Entry → Run D → List Entry → Run D → Type 0
+  AreTrueSteps = Along IsTrueStep
+
+  -- a part of a history, from an opening that was granted up to a moment; each opening after that one reads true
+  pub record IsTrueSince (start : Run D) (opening : Entry) (later : List Entry) (mid : Run D) : Type 0 where
+    pub before : List Entry
+    pub begins : BeginsWithOpening (before ++ opening ∷ later)
+    pub run : Run D
+    pub so_far : AreRunSteps d g signer v verifier block [] start before run
+    pub next : Run D
+    pub step : IsRunStep d g signer v verifier block before run opening next
+    pub granted : is_open opening.answer ≡ true
+    pub goes_on : AreTrueSteps (before ++ opening ∷ []) next later mid
+
+  -- ---- the laws
+
+  -- Where the disk is honest and exposes its octets, or nothing was opened again, all steps read true.
+  abbrev pub SureStepsAreTrue : Type 0
+  SureStepsAreTrue =
+      (before : List Entry) (run : Run D) (entries : List Entry) (after : Run D) → AreRunSteps d g signer v verifier block before run entries after
+      → IsSure d run.disk entries → AreTrueSteps before run entries after
+
+  -- From an opening on, as long as later ones read true, the group grows by what is sent and told, from the batches that it found.
+  abbrev pub TrueStepsGrow : Type 0
+  TrueStepsGrow =
+      (disk : D) (name : Name) (limit place : ℕ) (opening : Entry) (later : List Entry) (mid : Run D)
+      → IsTrueSince (no_run disk name limit place) opening later mid → Leaves mid.server.depth (opening ∷ later) (batches_in mid)
