@@ -7,7 +7,7 @@ use Rattle.std.proofs.lemmas.List.Folds.{list_any-append}
 use Rattle.std.proofs.lemmas.Result.{IfOk-at_ok, MatchResult-weaker}
 use Rattle.gd_edges.specs.Shown.{Shown}
 use Rattle.gd_edges.specs.declared.draws.Draws.{Ghosts as DrawGhosts}
-use Rattle.group_model.specs.Legal.{any_ran_out, ran_out}
+use Rattle.group_model.specs.Answers.{any_ran_out, ran_out}
 use Rattle.group_model.specs.declared.entries.Asked.{Asked}
 use Rattle.group_model.specs.declared.entries.Entry.{Entry}
 use Rattle.group_terms.specs.declared.memory.NoMemory.{NoMemory}

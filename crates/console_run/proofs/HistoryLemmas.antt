@@ -3,17 +3,18 @@ use Rattle.std.proofs.Common.{◌≡◌, ◌∙◌, ℕ, true, false, List, [], 
 use Rattle.std.proofs.lemmas.Bool.{false≢true, or_from, or_parts}
 use Rattle.std.proofs.lemmas.List.{append-nil}
 use Rattle.std.proofs.lemmas.List.Folds.{list_any-append}
-use Rattle.group_model.specs.Legal.{BeginsWithOpening, any_ran_out, is_open, opens, ran_out}
+use Rattle.group_model.specs.Answers.{BeginsWithOpening, any_ran_out, is_open, opens, ran_out}
 use Rattle.group_model.specs.declared.entries.Answer.{Answer}
 use Rattle.group_model.specs.declared.entries.Answer.TheVariants.{Opened}
 use Rattle.group_model.specs.declared.entries.Asked.{Asked}
 use Rattle.group_model.specs.declared.entries.Entry.{Entry}
+use Rattle.group_steps.specs.ChainLaws.{along_on}
 use Rattle.group_steps.specs.Runs.{Run}
 use Rattle.group_steps.specs.Steps.{EndsWithoutMemory}
 use Rattle.script_text.specs.declared.lines.Line.{Line}
 use Rattle.run_report.specs.declared.endings.Ending.{Ending}
 use Rattle.run_report.specs.declared.endings.Ending.TheVariants.{Whole, NoGroup, BadLine, Source, Sink, Memory, NotOpened}
-use Rattle.console_run.specs.Devices.{Devices, Keying, MakesHistory, StepsAlong}
+use Rattle.console_run.specs.Devices.{Devices, Keying, MakesHistory, Steps, StepsAlong}
 use Rattle.console_run.specs.Lines.{GoesThrough, IsOpeningEntry, IsRunOf, LineBegins, LinesGive, Opens}
 use Rattle.console_run.specs.Causes.{CauseOf, Given, IsInParts, IsUpTo}
 
@@ -36,19 +37,6 @@ open_ran answer h = absurd (false≢true h)
 
 module _ {D G V : Type 0} (on : Devices D G V) (by : Keying G) where
   -- ---- steps
-
-  along_then : (before : List Entry) (run : Run D) (first : List Entry) (middle : Run D) (second : List Entry) (after : Run D)
-      → StepsAlong on by before run first middle → StepsAlong on by (before ++ first) middle second after
-      → StepsAlong on by before run (first ++ second) after
-  along_then before run [] middle second after h k =
-      subst (λ (before : List Entry). StepsAlong on by before run second after) (append-nil before)
-      (subst (λ (at : Run D). StepsAlong on by (before ++ []) at second after) h k)
-  along_then before run (entry ∷ first) middle second after h k = (
-    h.0,
-    h.1,
-    along_then (before ++ entry ∷ []) h.0 first middle second after h.2
-        (subst (λ (before : List Entry). StepsAlong on by before middle second after) (sym (append_assoc before (entry ∷ []) first)) k),
-  )
 
   -- what a line gives, after those that it gave so far
   through_steps : (line : Line) (before so_far : List Entry) (run : Run D) (more : List Entry) (after : Run D)
@@ -89,7 +77,7 @@ module _ {D G V : Type 0} (on : Devices D G V) (by : Keying G) where
   history_then start entries middle more after h steps memory = record {
     begins = subst (λ (entries : List Entry). BeginsWithOpening (entries ++ more)) (sym h.parts) (h.opening, inr h.is_open);
     memory = ends_after entries more h.memory memory;
-    steps = along_then [] start entries middle more after h.steps steps;
+    steps = along_on (Steps on by) [] entries more start middle after h.steps steps;
   }
 
   pub history_of : (start : Run D) (entries : List Entry) (after : Run D) → Begun start entries after → MakesHistory on by start entries after
@@ -106,7 +94,7 @@ module _ {D G V : Type 0} (on : Devices D G V) (by : Keying G) where
     opening = h.opening;
     is_open = h.is_open;
     memory = any_after entries more h.memory memory;
-    steps = along_then [] start entries middle more after h.steps steps;
+    steps = along_on (Steps on by) [] entries more start middle after h.steps steps;
   }
 
   by_lines : (start : Run D) (before : List Entry) (run : Run D) (lines : List (List ℕ)) (entries : List Entry) (after : Run D) → Begun start before run

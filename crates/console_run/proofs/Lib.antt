@@ -9,6 +9,7 @@ mod LineLemmas
 mod OpenedLemmas
 mod PromiseLemmas
 mod ReplyLemmas
+mod ServeLemmas
 mod SoFarLemmas
 mod StopLemmas
 mod StoreLemmas

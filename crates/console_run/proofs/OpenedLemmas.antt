@@ -6,7 +6,7 @@ use Rattle.command_words.specs.declared.commands.Opening.TheVariants.{New, Open}
 use Rattle.gd_edges.specs.Shown.{Shown}
 use Rattle.gd_edges.specs.declared.draws.Draws.{Ghosts as DrawGhosts}
 use Rattle.group_terms.specs.Names.{Name}
-use Rattle.group_model.specs.Legal.{is_open}
+use Rattle.group_model.specs.Answers.{is_open}
 use Rattle.group_model.specs.declared.entries.Answer.{Answer}
 use Rattle.group_model.specs.declared.entries.Answer.TheVariants.{Refused}
 use Rattle.group_model.specs.declared.entries.Entry.{Entry}

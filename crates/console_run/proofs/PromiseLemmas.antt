@@ -6,7 +6,7 @@ use Rattle.group_terms.specs.Faults.{Rose}
 use Rattle.command_words.specs.declared.commands.Command.{Command}
 use Rattle.command_words.specs.declared.commands.Opening.{Opening}
 use Rattle.command_words.specs.declared.commands.Opening.TheVariants.{New, Open}
-use Rattle.group_model.specs.Legal.{opens}
+use Rattle.group_model.specs.Answers.{opens}
 use Rattle.group_model.specs.declared.entries.Answer.{Answer}
 use Rattle.group_model.specs.declared.entries.Answer.TheVariants.{Refused}
 use Rattle.group_model.specs.declared.entries.Asked.{Asked}

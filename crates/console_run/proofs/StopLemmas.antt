@@ -7,7 +7,7 @@ use Rattle.std.proofs.lemmas.List.{append-nil, take_more, take-append-drop, leng
 use Rattle.std.proofs.lemmas.List.Folds.{list_all-append}
 use Rattle.gd_edges.specs.Shown.{Shown}
 use Rattle.gd_edges.specs.declared.draws.Draws.{Ghosts as DrawGhosts}
-use Rattle.group_model.specs.Legal.{is_open}
+use Rattle.group_model.specs.Answers.{is_open}
 use Rattle.group_model.specs.declared.entries.Entry.{Entry}
 use Rattle.group_run.specs.Views.{View}
 use Rattle.group_steps.specs.Runs.{Run}

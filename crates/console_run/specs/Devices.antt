@@ -4,8 +4,10 @@ use Rattle.gd_disk.specs.declared.disks.Disk.{Ghosts as DiskGhosts}
 use Rattle.gd_edges.specs.declared.signers.Signer.{Ghosts as SignerGhosts}
 use Rattle.gd_edges.specs.declared.verifiers.Verifier.{Ghosts as VerifierGhosts}
 use Rattle.group_model.specs.declared.entries.Entry.{Entry}
+use Rattle.group_steps.specs.Moments.{IsMoment, IsStretch, IsTrueMoment}
 use Rattle.group_steps.specs.Runs.{Run}
 use Rattle.group_steps.specs.Steps.{AreRunSteps, IsHistory, IsRunStep}
+use Rattle.group_steps.specs.TrueSteps.{AreTrueSteps}
 
 -- disks, signers and verifiers of some types, and the verifier of the members
 pub record Devices (D G V : Type 0) : Type 1 where
@@ -38,3 +40,20 @@ module _ {D G V : Type 0} (on : Devices D G V) (by : Keying G) where
   -- a history from the opening on
   abbrev pub MakesHistory : Run D → List Entry → Run D → Type 0
   MakesHistory start entries after = IsHistory on.disks on.signers by.signer on.verifiers on.verifier by.block start entries after
+
+  -- entries are steps, one after the other, and each that opens the group again found the one that there was
+  abbrev pub TrueStepsAlong : List Entry → Run D → List Entry → Run D → Type 0
+  TrueStepsAlong before run entries after = AreTrueSteps on.disks on.signers by.signer on.verifiers on.verifier by.block before run entries after
+
+  -- the run after the first entries of a history
+  abbrev pub HasMoment : Run D → List Entry → Run D → List Entry → Run D → Type 0
+  HasMoment start entries after front mid = IsMoment on.disks on.signers by.signer on.verifiers on.verifier by.block start entries after front mid
+
+  -- a moment up to which each opening again found the group that there was
+  abbrev pub HasTrueMoment : Run D → List Entry → Run D → List Entry → Run D → Type 0
+  HasTrueMoment start entries after front mid = IsTrueMoment on.disks on.signers by.signer on.verifiers on.verifier by.block start entries after front mid
+
+  -- from an opening that was granted, after some entries, up to a later moment
+  abbrev pub HasStretch : Run D → List Entry → Run D → List Entry → Entry → Run D → List Entry → Run D → Type 0
+  HasStretch start entries after before opening next later mid =
+      IsStretch on.disks on.signers by.signer on.verifiers on.verifier by.block start entries after before opening next later mid

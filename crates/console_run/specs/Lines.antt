@@ -1,7 +1,7 @@
 -- Which entries the lines of a script give.
 use Rattle.std.specs.Prelude.{◌≡◌, ◌⊎◌, ℕ, ◌≤◌, true, false, List, [], ◌∷◌, ◌++◌, length, slice_get, MatchBool, Option, None, Some}
 use Rattle.std.specs.Option.{option_map}
-use Rattle.group_model.specs.Legal.{any_ran_out, is_open, ran_out}
+use Rattle.group_model.specs.Answers.{any_ran_out, is_open, ran_out}
 use Rattle.group_model.specs.Servers.{members_now}
 use Rattle.group_model.specs.declared.entries.Asked.{Asked}
 use Rattle.group_model.specs.declared.entries.Asked.TheVariants as requests

@@ -1,5 +1,5 @@
 -- What the console promises of its run.
-use Rattle.std.specs.Prelude.{◌≡◌, ◌⊎◌, ℕ, ◌+◌, ◌<◌, ◌≤◌, true, List, [], ◌∷◌, ◌++◌, Option, None, Some, IsSome, codes}
+use Rattle.std.specs.Prelude.{◌≡◌, ◌⊎◌, ℕ, ◌≤◌, true, List, [], ◌∷◌, ◌++◌, length, Option, None, Some, codes}
 use Rattle.command_words.specs.declared.commands.Command.{Command}
 use Rattle.command_words.specs.declared.commands.Opening.{Opening}
 use Rattle.command_words.specs.declared.commands.Opening.TheVariants.{New, Open}
@@ -7,38 +7,32 @@ use Rattle.gd_disk.specs.Moments.{shown}
 use Rattle.gd_edges.specs.Shown.{Shown}
 use Rattle.group_terms.specs.Faults.{Rose}
 use Rattle.group_terms.specs.Names.{Name}
-use Rattle.group_values.specs.Values.{Made, batches_made}
-use Rattle.group_model.specs.Groups.{Reading, present_group}
-use Rattle.group_model.specs.Legal.{IsLegalHistory, is_open}
-use Rattle.group_model.specs.Places.{IsValid, is_member}
-use Rattle.group_model.specs.Stayed.{stayed_at}
-use Rattle.group_model.specs.declared.entries.Answer.{Answer}
-use Rattle.group_model.specs.declared.entries.Answer.TheVariants.{TookRoot, TookTraffic}
+use Rattle.group_values.specs.Values.{Made}
+use Rattle.group_model.specs.Answers.{is_open}
+use Rattle.group_model.specs.Places.{IsValid}
+use Rattle.group_model.specs.WrapCounts.{most_wraps}
+use Rattle.group_model.specs.declared.entries.Answer.TheVariants.{Batched}
 use Rattle.group_model.specs.declared.entries.Asked.{Asked}
-use Rattle.group_model.specs.declared.entries.Asked.TheVariants.{Begin, Create, Deliver}
+use Rattle.group_model.specs.declared.entries.Asked.TheVariants.{Batch, Begin, Create}
 use Rattle.group_model.specs.declared.entries.Entry.{Entry}
+use Rattle.group_model.specs.declared.entries.Output.{Output}
 use Rattle.group_model.specs.declared.entries.Outside.{Outside}
-use Rattle.group_peers.specs.Peers.{store_of}
 use Rattle.group_records.specs.declared.heads.Head.{Head}
 use Rattle.gcks_core.specs.Stored.{stored_list}
 use Rattle.tree_store.specs.Groups.{IsGroup}
 use Rattle.group_steps.specs.Counts.{CountsFaults, faults_in}
 use Rattle.group_steps.specs.Crashes.{LeavesMoments}
-use Rattle.group_steps.specs.Laws.{IsSure, group_of}
+use Rattle.group_steps.specs.Laws.{IsSure}
 use Rattle.group_steps.specs.Runs.{Run, no_run}
-use Rattle.group_steps.specs.Sent.{last_push}
+use Rattle.group_steps.specs.TrueSteps.{batches_in}
 use Rattle.member_roots.specs.Groups.{Checks}
-use Rattle.member_roots.specs.Roots.{HasTrafficOf, IsAtRoot}
-use Rattle.member_store.specs.Stores.{Store, root_epoch}
-use Rattle.own_questions.specs.Questions.{OwnQuestionsAreAnsweredYes}
-use Rattle.store_steps.specs.Follow.{HasThen, IsMoment, holders_in, number_at}
-use Rattle.store_steps.specs.Stores.{AreForOneRoot, AreStores}
-use Rattle.sym_closure.specs.Secrecy.{MembersDerive, NoOthersDerive, NoOthersDeriveFrom, NobodyDerivesYet, RepliedMembersDerive}
-use Rattle.sym_closure.specs.Secrecy.{IsPartOfWorld, SendsItsWraps, YesIsOfMembers}
+use Rattle.sym_closure.specs.Secrecy.{MembersDerive, NoOthersDerive, NobodyDerivesYet}
 use Rattle.script_text.specs.Report.{entries_text}
 use Rattle.run_report.specs.declared.endings.Ending.{Ending}
 use Rattle.run_report.specs.declared.endings.Ending.TheVariants.{Whole, NoGroup, Memory}
-use Rattle.console_run.specs.Devices.{Devices, Keying, MakesHistory, Steps, StepsAlong}
+use Rattle.console_run.specs.Devices.{Devices, HasMoment, HasTrueMoment, Keying, MakesHistory, Steps, StepsAlong}
+use Rattle.console_run.specs.Following.{KeepsReplies, StoresFollow}
+use Rattle.console_run.specs.Serving.{ServesAlong}
 use Rattle.console_run.specs.Scripts.{are_lines, script_lines}
 use Rattle.console_run.specs.Causes.{CameFrom, CauseOf, Given, IsInParts, SourceAt}
 use Rattle.run_report.specs.Reports.{Puts, ReportBreaksOff, LastLineEnds}
@@ -108,60 +102,6 @@ module _ {D G V : Type 0} (on : Devices D G V) (by : Keying G) where
     pub sink : Rose streams.sink_before.faults streams.sink_after.faults → ⊥
     pub disk : Rose (on.disks.faults old) (on.disks.faults new) → ⊥
 
-  -- ---- by key names
-
-  -- With what its openings found, the history is a legal one by key names, and leaves this group. What was handed to names and sent is part of what its batches
-  -- could ever hand to them and send, and from it no coalition derives the traffic key of an epoch of which none of it is a member. For each epoch some entry
-  -- sent all its encryptions. By them a member that was sent a reply derives the traffic keys from that epoch on, while it stays. A question is answered yes
-  -- only of members, and of who was sent a reply and stayed since.
-  pub record IsLegalRun (entries : List Entry) (after : Run D) : Type 0 where
-    pub readings : List Reading
-    pub legal : IsLegalHistory readings entries
-    pub leaves : present_group readings entries ≡ group_of after.server []
-    pub world : IsPartOfWorld readings entries
-    pub others : NoOthersDeriveFrom readings entries
-    pub wraps : SendsItsWraps readings entries
-    pub members : RepliedMembersDerive readings entries
-    pub yes : YesIsOfMembers readings entries
-    pub own : OwnQuestionsAreAnsweredYes readings entries
-
-  -- ---- the stores of members
-
-  -- What is supposed of keys and signatures: the verifier checks what the signer signs, and of no push is a push read under the root of another epoch than that
-  -- under which it was sent. That cannot hold where two epochs have the same root key, as draws that come again may bring about.
-  pub record AreKeysApart (after : Run D) : Type 0 where
-    pub checks : Checks on.signers by.signer on.verifiers on.verifier
-    pub for_one : AreForOneRoot on.signers by.signer (on.verifiers.kind_of on.verifier) after.server.depth after.head.spi after.server.list
-
-  -- at a moment, after these entries, a member with this store is given the push of a number that was sent
-  pub record IsGivenAt (start : Run D) (entries : List Entry) (after : Run D) (before : List Entry) (middle : Run D) (m : Name) (store : Store) (number : ℕ)
-      (answer : Answer) (next : Run D) : Type 0 where
-    pub first : Entry
-    pub front : List Entry
-    pub parts : before ≡ first ∷ front
-    pub moment : IsMoment on.disks on.signers by.signer on.verifiers on.verifier by.block start entries after before middle
-    pub had : store_of middle.peers m ≡ Some store
-    pub sent : IsSome (last_push before number)
-    pub outside : Outside
-    pub step : Steps on by before middle (record { asked = Deliver m number; outside = outside; answer = answer }) next
-
-  -- At each moment each store is one of the group: its path has the keys of one epoch, and its traffic key is that of this epoch or an earlier one, each with
-  -- the value that the server made. A member takes the membership push (RFC 6407 section 4) of the epoch after that of its store's root, over which it stays,
-  -- and is then at the new root; and the traffic push of the epoch of its root, if it accepted none of that number, and has that traffic key then.
-  pub record StoresFollow (start : Run D) (entries : List Entry) (after : Run D) : Type 0 where
-    pub stores : (first : Entry) (front : List Entry) (middle : Run D)
-        → IsMoment on.disks on.signers by.signer on.verifiers on.verifier by.block start entries after (first ∷ front) middle → AreStores middle
-    pub membership : (before : List Entry) (middle : Run D) (m : Name) (store : Store) (answer : Answer) (next : Run D)
-        → IsGivenAt start entries after before middle m store (number_at middle (root_epoch store) + 1) answer next
-        → is_member (holders_in middle (root_epoch store + 1)) m ≡ true
-        → (answer ≡ TookRoot (root_epoch store + 1))
-        × HasThen next m (λ (now : Store). IsAtRoot middle.server.depth middle.head.spi middle.server.list (root_epoch store + 1) m now)
-    pub traffic : (before : List Entry) (middle : Run D) (m : Name) (store : Store) (answer : Answer) (next : Run D)
-        → IsGivenAt start entries after before middle m store (number_at middle (root_epoch store)) answer next
-        → stayed_at middle.server.depth (batches_made middle.server.list) (root_epoch store) ≡ true
-        → store.sequence < number_at middle (root_epoch store)
-        → (answer ≡ TookTraffic (root_epoch store)) × HasThen next m (λ (now : Store). HasTrafficOf middle.server.list (root_epoch store) now)
-
   -- ---- crashes
 
   -- The first entry is that of the opening. Where that opened the group, then from any place of the history on a crash leaves the journal as it was at some
@@ -184,29 +124,47 @@ module _ {D G V : Type 0} (on : Devices D G V) (by : Keying G) where
     -- the run after the history, which has the disk
     pub after : Run D
     pub disk : after.disk ≡ new
-    -- history, report and ending belong together
+    -- History, report and ending belong together. That memory ran out is taken on the console's word.
     pub run : IsEnded streams (request_of command.opening) (start_of command old place) ending entries after
         ⊎ IsBroken streams (request_of command.opening) (start_of command old place) ending entries after
-    -- where a group can be opened, the source exposes a script and nothing fails, all is run, or memory ran out
+    -- Where a group is made, or the disk exposes the journal of one, the source exposes a script, and nothing fails, all lines are run, or memory ran out.
     pub complete : CanRun streams command.opening old new → (ending ≡ Whole) ⊎ (ending ≡ Memory)
     -- Each entry is a step, from the opening on: of the server, its disk and its draws, of the members and their stores. So each push is the text of its batch,
-    -- and each refusal has its cause.
+    -- and each refusal but for want of memory has its cause, as far as the disk shows it.
     pub history : MakesHistory on by (start_of command old place) entries after
-    -- its batches are a valid list
-    pub valid : IsValid after.server.depth (batches_made after.server.list)
-    -- From all that these batches could ever hand to names and send, no coalition derives the traffic key of an epoch at which none of it is
-    -- a member, and nobody that of an epoch to come (RFC 6407 section 7.4).
-    pub secrecy : NoOthersDerive after.server.depth (batches_made after.server.list)
-    pub to_come : NobodyDerivesYet after.server.depth (batches_made after.server.list)
-    -- a member at each epoch from one to another derives the traffic key of the second from what it may be told at the first, by the encryptions since
-    pub members : 1 ≤ after.server.depth → MembersDerive after.server.depth (batches_made after.server.list)
-    -- so it is by key names, where the disk is honest and exposes its octets, or was not opened again
-    pub by_names : IsSure on.disks old entries → IsLegalRun entries after
-    -- where the same is so, and keys and signatures are as supposed, the stores of members follow their pushes
-    pub stores : IsSure on.disks old entries → AreKeysApart after → StoresFollow (start_of command old place) entries after
-    -- a crash leaves the journal as it was at some moment of the history
+    -- At each moment each batch fits the tree that those before it left, whatever openings read. One that is in doubt is not counted.
+    pub valid : (front : List Entry) (mid : Run D) → HasMoment on by (start_of command old place) entries after front mid
+        → IsValid mid.server.depth (batches_in mid)
+    -- By key names: from all that the batches of a moment could ever send, and all that they could ever give to some names, these derive the traffic key of an
+    -- epoch only if one of them is a member of it (RFC 6407 section 7.4).
+    pub secrecy : (front : List Entry) (mid : Run D) → HasMoment on by (start_of command old place) entries after front mid
+        → NoOthersDerive mid.server.depth (batches_in mid)
+    -- And nobody derives that of an epoch to come. Nothing is said of guessing what is drawn.
+    pub to_come : (front : List Entry) (mid : Run D) → HasMoment on by (start_of command old place) entries after front mid
+        → NobodyDerivesYet mid.server.depth (batches_in mid)
+    -- A member at each epoch from one to another derives the traffic key of the second from what it may be told at the first, whether it was told or not, by the
+    -- encryptions since.
+    pub members : (front : List Entry) (mid : Run D) → HasMoment on by (start_of command old place) entries after front mid → 1 ≤ mid.server.depth
+        → MembersDerive mid.server.depth (batches_in mid)
+    -- A batch encrypts two keys at most for the root and for each position between it and a changed leaf, and the traffic key. Replies are not counted.
+    pub few_wraps : (front : List Entry) (mid : Run D) (output : Output) (outside : Outside) (next : Run D)
+        → HasMoment on by (start_of command old place) entries after front mid
+        → Steps on by front mid (record { asked = Batch; outside = outside; answer = Batched output }) next
+        → length output.wraps ≤ most_wraps mid.server.depth (length mid.server.queue)
+    -- Where the disk is honest and exposes its octets, or nothing was opened again up to a moment, each opening again found the group that there was.
+    pub sure : (front : List Entry) (mid : Run D) → HasMoment on by (start_of command old place) entries after front mid → IsSure on.disks old front
+        → HasTrueMoment on by (start_of command old place) entries after front mid
+    -- From any opening on, as long as each later one found the group that there was: what was sent since leads nobody but members to a traffic key, and leads
+    -- there each who was sent a reply since and stayed.
+    pub serves : ServesAlong on by (start_of command old place) entries after
+    -- Who came in with the batch just made, and is told its keys, keeps them.
+    pub replies : KeepsReplies on by (start_of command old place) entries after
+    -- Where the verifier accepts what the signer signs, a store of the group takes the pushes that are due to it, and, where keys are apart, refuses all others.
+    pub stores : Checks on.signers by.signer on.verifiers on.verifier → StoresFollow on by (start_of command old place) entries after
+    -- Where the disk is honest and exposes its octets, a crash after the opening leaves the journal of some moment of the history, perhaps with the batch that
+    -- is being written.
     pub crash : (entries ≡ []) ⊎ LeavesMomentsAfterOpening (start_of command old place) entries after
-    -- the disk counts the faults that are noted
+    -- the disk counts at least one fault for each that is noted, as far as its count goes, and none where none is
     pub faults : CountsFaults on.disks (faults_in entries) old new
 
   -- words that ask for no group: source and disk are untouched, and there is only a last line

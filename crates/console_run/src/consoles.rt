@@ -13,23 +13,20 @@ use crate::script_run::ScriptRun;
 use command_words::{Command, Opening, read_words};
 use gd_disk::Disk;
 use gd_edges::{Draws, Signer, Sink, Source, Verifier};
-use group_model::{Entry, List};
+use group_model::{Entry, List, a_batch_encrypts_few};
 use group_run::{GroupRun, NewGroup, Parts, Unopened};
 use group_steps::{
-    a_crash_leaves_a_moment_of_the_history, a_history_is_legal_by_names, faults_are_counted,
+    a_crash_leaves_a_moment_of_the_history, a_group_grows_by_what_is_sent,
+    a_history_leaves_a_valid_list, each_moment_ends_a_history, faults_are_counted,
 };
 use group_terms::GroupName;
-use own_questions::questions_of_members_are_answered_yes;
 use run_report::{Finished, end_script, end_unopened, end_without_group};
 use std::alloc::Global;
 use store_steps::{
-    a_due_push_is_taken_in_a_history, each_moment_is_of_a_keyed_history,
-    each_store_is_one_of_the_group,
+    a_due_push_is_taken_in_a_history, a_reply_is_kept_in_a_history,
+    any_other_push_is_refused_in_a_history, each_store_is_one_of_the_group,
 };
-use sym_closure::{
-    a_history_is_part_of_its_world, a_history_serves_its_members_alone, members_derive,
-    no_others_derive,
-};
+use sym_closure::{a_history_serves_its_members, members_derive, no_others_derive};
 use tree_store::a_file_has_one_group;
 
 /// Runs a group (GDOI, RFC 6407) from a script, in its journal on the disk, and reports each entry of its history and then how the run ended.
@@ -62,18 +59,20 @@ pub fn console<S: Source, K: Sink, D: Disk, G: Signer + Drop, V: Verifier, R: Dr
         (R.place_of draws) result.ending result.history disk result.disk }
     ensures untouched { command_of (map string_bytes words.now) ≡ None → script.new ≡ script.old }
 {
-    a_history_is_legal_by_names::<D, G, V>();
+    a_history_leaves_a_valid_list::<D, G, V>();
+    each_moment_ends_a_history::<D, G, V>();
+    a_group_grows_by_what_is_sent::<D, G, V>();
     a_crash_leaves_a_moment_of_the_history::<D, G, V>();
     faults_are_counted::<D, G, V>();
     each_store_is_one_of_the_group::<D, G, V>();
-    each_moment_is_of_a_keyed_history::<D, G, V>();
+    a_reply_is_kept_in_a_history::<D, G, V>();
     a_due_push_is_taken_in_a_history::<D, G, V>();
+    any_other_push_is_refused_in_a_history::<D, G, V>();
     a_file_has_one_group();
     no_others_derive();
     members_derive();
-    a_history_is_part_of_its_world();
-    a_history_serves_its_members_alone();
-    questions_of_members_are_answered_yes();
+    a_batch_encrypts_few();
+    a_history_serves_its_members();
     match read_words(words) {
         Some(command) => {
             let parts = Parts {

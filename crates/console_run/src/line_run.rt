@@ -1,6 +1,6 @@
 //! Running one line of a script.
 ghost use Rattle.std.specs.Prelude.{◌≡◌, List, [], ◌∷◌, ◌++◌, false, Err, IfErr, MatchResult, OnOk};
-ghost use Rattle.group_model.specs.Legal.{ran_out};
+ghost use Rattle.group_model.specs.Answers.{ran_out};
 ghost use Rattle.group_model.specs.declared.entries.Entry.{Entry};
 ghost use Rattle.script_text.specs.Report.{entry_text};
 ghost use Rattle.script_text.specs.declared.lines.Line.TheVariants as lines;

@@ -1,9 +1,11 @@
 //! Tests of the console: sources and sinks of one octet a call that fail anywhere, words of other forms, the limits of a script, and how endings
-//! are told; of the lines of a script, of the lines of the report, and of the words of the command line; and of laws of stores, of questions and
-//! of histories: each is called, at a disk, a signer and a verifier where it has them as parameters. Its proofs have facts that tell wrong rules
+//! are told; of the lines of a script, of the lines of the report, and of the words of the command line; and of laws of stores and of
+//! histories: each is called, at a disk, a signer and a verifier where it has them as parameters. Its proofs have facts that tell wrong rules
 //! of derivations and of a run apart.
 #![tactic(auto)]
 
+#[cfg(test)]
+mod apart;
 #[cfg(test)]
 mod endings;
 #[cfg(test)]
@@ -14,8 +16,6 @@ mod histories;
 mod lines;
 #[cfg(test)]
 mod other_words;
-#[cfg(test)]
-mod questions;
 #[cfg(test)]
 mod reports;
 #[cfg(test)]

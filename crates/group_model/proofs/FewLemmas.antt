@@ -67,42 +67,53 @@ length-upwards zero v = refl
 length-upwards (suc steps) v = omega (arith, length-upwards steps (v / 2))
 
 -- the ways up from the leaves of these seats
-abbrev ways : ℕ → List Seat → List ℕ
-ways depth seats = flat_map (λ (seat : Seat). upwards depth (2 ^ depth + seat.place)) seats
+abbrev pub ways : (ℕ → List ℕ) → ℕ → List Seat → List ℕ
+ways way depth seats = flat_map (λ (seat : Seat). way (2 ^ depth + seat.place)) seats
 
-module _ (depth v : ℕ) where
+-- where the way up from each leaf has v if the leaf is below v
+module _ (depth v size : ℕ) (way : ℕ → List ℕ)
+    (up : (i : ℕ) → i < size → is_below depth v (2 ^ depth + i) ≡ true → list_any (eqb v) (way (2 ^ depth + i)) ≡ true) where
   -- a leaf above which v is has the holder that it had, or v is on the way up from a seat
-  held_or_way : (now : Holders) (seats : List Seat) (i : ℕ) → is_below depth v (2 ^ depth + i) ≡ true
-      → (get_or (seated now seats) i None ≡ get_or now i None) ⊎ (list_any (eqb v) (ways depth seats) ≡ true)
-  held_or_way now [] i below = inl refl
-  held_or_way now (seat ∷ seats) i below = elim (cases_eq i seat.place) [
-    | inl here ↦ inr (list_any-append (eqb v) (upwards depth (2 ^ depth + seat.place)) (ways depth seats)
-        ∙ or_left _ _ (on_the_way depth v (2 ^ depth + seat.place) (subst (λ place. is_below depth v (2 ^ depth + place) ≡ true) here below)))
-    | inr other ↦ elim (held_or_way (set now seat.place seat.holder) seats i below) [
+  held_or_way : (now : Holders) (seats : List Seat) (i : ℕ) → i < size → is_below depth v (2 ^ depth + i) ≡ true
+      → (get_or (seated now seats) i None ≡ get_or now i None) ⊎ (list_any (eqb v) (ways way depth seats) ≡ true)
+  held_or_way now [] i low below = inl refl
+  held_or_way now (seat ∷ seats) i low below = elim (cases_eq i seat.place) [
+    | inl here ↦ inr (list_any-append (eqb v) (way (2 ^ depth + seat.place)) (ways way depth seats)
+        ∙ or_left _ _ (subst (λ place. list_any (eqb v) (way (2 ^ depth + place)) ≡ true) here (up i low below)))
+    | inr other ↦ elim (held_or_way (set now seat.place seat.holder) seats i low below) [
       | inl same ↦ inl (same ∙ get_or-set_other now seat.place i seat.holder None other)
-      | inr way ↦ inr (list_any-append (eqb v) (upwards depth (2 ^ depth + seat.place)) (ways depth seats) ∙ or_right _ _ way)
+      | inr found ↦ inr (list_any-append (eqb v) (way (2 ^ depth + seat.place)) (ways way depth seats) ∙ or_right _ _ found)
     ]
   ]
 
-  changed_way : (before : Holders) (seats : List Seat) (i : ℕ) → get_or (changed_leaves before (seated before seats)) i false ≡ true
-      → is_below depth v (2 ^ depth + i) ≡ true → list_any (eqb v) (ways depth seats) ≡ true
-  changed_way before seats i changed below = elim (held_or_way before seats i below) [
-    | inr way ↦ way
-    | inl same ↦ absurd (false≢true (sym (unchanged same) ∙ changed))
+  pub changed_way : (before : Holders) (seats : List Seat) → length before ≡ size → (i : ℕ)
+      → get_or (changed_leaves before (seated before seats)) i false ≡ true → is_below depth v (2 ^ depth + i) ≡ true
+      → list_any (eqb v) (ways way depth seats) ≡ true
+  changed_way before seats long i changed below = elim (cases_lt i (length before)) [
+    | inr past ↦ absurd (false≢true (sym (get_or_past (changed_leaves before (seated before seats)) i false (omega (arith, past, whole))) ∙ changed))
+    | inl low ↦ elim (held_or_way before seats i (omega (arith, low, long)) below) [
+      | inr found ↦ found
+      | inl same ↦ absurd (false≢true (sym (unchanged low same) ∙ changed))
+    ]
   ]
     where
-      unchanged : get_or (seated before seats) i None ≡ get_or before i None → get_or (changed_leaves before (seated before seats)) i false ≡ false
-      unchanged same = elim (cases_lt i (length before)) [
-        | inr past ↦ get_or_past (changed_leaves before (seated before seats)) i false
-            (omega (arith, past, length-map (zip before (seated before seats)) (λ (pair : Option Name × Option Name). not (is_same_holder pair.0 pair.1)), length-zip before (seated before seats), length-seated before seats))
-        | inl low ↦ get_or-map (λ (pair : Option Name × Option Name). not (is_same_holder pair.0 pair.1)) (zip before (seated before seats)) i (None, None) false
-            (omega (arith, low, length-zip before (seated before seats), length-seated before seats))
-            ∙ ap (λ (pair : Option Name × Option Name). not (is_same_holder pair.0 pair.1)) (get_or-zip before (seated before seats) i (None, None) low (omega (arith, low, length-seated before seats)))
-            ∙ ap (λ holder. not (is_same_holder (get_or before i None) holder)) same
-            ∙ ap not (same_as_itself (get_or before i None))
-      ]
+      whole : length (changed_leaves before (seated before seats)) ≡ length before
+      whole = length-map (zip before (seated before seats)) (λ (pair : Option Name × Option Name). not (is_same_holder pair.0 pair.1))
+          ∙ length-zip before (seated before seats) ∙ omega (arith, length-seated before seats)
 
-  marked_way : (first : ℕ) (leaves : List Bool) (list : List ℕ)
+      unchanged : i < length before → get_or (seated before seats) i None ≡ get_or before i None
+          → get_or (changed_leaves before (seated before seats)) i false ≡ false
+      unchanged low same =
+          get_or-map (λ (pair : Option Name × Option Name). not (is_same_holder pair.0 pair.1)) (zip before (seated before seats)) i (None, None) false
+          (omega (arith, low, length-zip before (seated before seats), length-seated before seats))
+          ∙ ap (λ (pair : Option Name × Option Name). not (is_same_holder pair.0 pair.1))
+          (get_or-zip before (seated before seats) i (None, None) low (omega (arith, low, length-seated before seats)))
+          ∙ ap (λ holder. not (is_same_holder (get_or before i None) holder)) same
+          ∙ ap not (same_as_itself (get_or before i None))
+
+-- what is so for v of each marked leaf below v is so for v where one is marked
+module _ (depth v : ℕ) where
+  pub marked_way : (first : ℕ) (leaves : List Bool) (list : List ℕ)
       → ((i : ℕ) → get_or leaves i false ≡ true → is_below depth v (first + i) ≡ true → list_any (eqb v) list ≡ true)
       → list_any (λ (leaf : ℕ × Bool). leaf.1 && is_below depth v leaf.0) (enumerate_from first leaves) ≡ true → list_any (eqb v) list ≡ true
   marked_way first [] list each h = absurd (false≢true h)
@@ -119,11 +130,13 @@ module _ (depth v : ℕ) where
             each (suc i) marked (subst (λ x. is_below depth v x ≡ true) next below)) there
       ]
 
-length-ways : (depth : ℕ) (seats : List Seat) → length (ways depth seats) ≤ (depth + 1) * length seats
-length-ways depth [] = omega arith
-length-ways depth (seat ∷ seats) =
-    let more : (depth + 1) * suc (length seats) ≡ (depth + 1) * length seats + (depth + 1) = omega arith in
-    omega (arith, more, length-append (upwards depth (2 ^ depth + seat.place)) (ways depth seats), length-upwards depth (2 ^ depth + seat.place), length-ways depth seats)
+pub length-ways : (way : ℕ → List ℕ) (steps depth : ℕ) → ((x : ℕ) → length (way x) ≡ steps) → (seats : List Seat)
+    → length (ways way depth seats) ≤ steps * length seats
+length-ways way steps depth long [] = omega arith
+length-ways way steps depth long (seat ∷ seats) =
+    let more : steps * suc (length seats) ≡ steps * length seats + steps = omega arith in
+    let first : List ℕ = way (2 ^ depth + seat.place) in
+    omega (arith, more, length-append first (ways way depth seats), long (2 ^ depth + seat.place), length-ways way steps depth long seats)
 
 length-cons_option : {A : Type 0} (r : Option A) (xs : List A) → length (cons_option r xs) ≤ length xs + 1
 length-cons_option None xs = omega arith
@@ -140,7 +153,7 @@ length-placements holders (m ∷ names) =
     omega (arith, length-cons_option (placement holders m) (placements (placed holders m) names), length-placements (placed holders m) names)
 
 -- a batch makes one seat a change at the most
-seats_few : (holders : Holders) (batch : List Change) → length (seats_of holders batch) ≤ length batch
+pub seats_few : (holders : Holders) (batch : List Change) → length (seats_of holders batch) ≤ length batch
 seats_few holders batch =
     let left : List Seat = vacancies holders (leavers batch) in
     omega (
@@ -154,14 +167,16 @@ seats_few holders batch =
 pub renewed_few : (depth count : ℕ) (before : Holders) (batch : List Change) (seats : List Seat) → seats ≡ seats_of before batch
     → length (renewed_from depth (changed_leaves before (seated before seats)) 1 count) ≤ (depth + 1) * length batch + 1
 renewed_few depth count before batch seats is =
+    let way : ℕ → List ℕ = upwards depth in
     let leaves : List Bool = changed_leaves before (seated before seats) in
     let p : ℕ → Bool = is_renewed depth leaves in
-    let among : (v : ℕ) → list_any (eqb v) (renewed_from depth leaves 1 count) ≡ true → list_any (eqb v) (1 ∷ ways depth seats) ≡ true = λ v h.
+    let among : (v : ℕ) → list_any (eqb v) (renewed_from depth leaves 1 count) ≡ true → list_any (eqb v) (1 ∷ ways way depth seats) ≡ true = λ v h.
     elim (or_cases (eqb v 1) (some_leaf_below depth leaves v) (passes_in p v (range_with_len 1 count) h)) [
       | inl root ↦ or_left _ _ root
-      | inr below ↦ or_right _ _ (marked_way depth v (2 ^ depth) leaves (ways depth seats) (changed_way depth v before seats) below)
+      | inr below ↦ or_right _ _ (marked_way depth v (2 ^ depth) leaves (ways way depth seats)
+          (changed_way depth v (length before) way (λ i _ at. on_the_way depth v (2 ^ depth + i) at) before seats refl) below)
     ] in
-    let within : length (renewed_from depth leaves 1 count) ≤ length (1 ∷ ways depth seats) =
-    length-le_from_is_member nat_eq_equiv (renewed_from depth leaves 1 count) (1 ∷ ways depth seats) (distinct p count 1) among in
+    let within : length (renewed_from depth leaves 1 count) ≤ length (1 ∷ ways way depth seats) =
+    length-le_from_is_member nat_eq_equiv (renewed_from depth leaves 1 count) (1 ∷ ways way depth seats) (distinct p count 1) among in
     let few : length seats ≤ length batch = omega (arith, ap length is, seats_few before batch) in
-    omega (arith, within, length-ways depth seats, mul-le-mul_left (depth + 1) few)
+    omega (arith, within, length-ways way (depth + 1) depth (length-upwards depth) seats, mul-le-mul_left (depth + 1) few)

@@ -5,8 +5,9 @@ pub mod EpochLemmas
 pub mod FewLemmas
 pub mod FirstLemmas
 pub mod FitLemmas
+pub mod FreshLemmas
+pub mod FullLemmas
 pub mod HandoverLemmas
-pub mod HistoryLemmas
 pub mod JoinLemmas
 pub mod JoinedLemmas
 pub mod OnceLemmas
@@ -14,6 +15,7 @@ pub mod PathLemmas
 pub mod PlaceLemmas
 pub mod PresentLemmas
 pub mod QueueLemmas
+pub mod RemovalLemmas
 pub mod ReplyLemmas
 pub mod RiseLemmas
 pub mod RowLemmas
@@ -22,4 +24,6 @@ pub mod SequenceLemmas
 pub mod StayedLemmas
 pub mod StepLemmas
 pub mod TreeLemmas
+pub mod WrapCountFacts
+pub mod WrapCountLemmas
 pub mod WrapLemmas

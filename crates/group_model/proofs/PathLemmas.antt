@@ -19,7 +19,7 @@ leaf_bounds depth holders m leaf whole h =
       | inr past ↦ absurd (false≢true (sym (ap (is_held_by m) (get_or_past holders found.0 None past)) ∙ found.2))
     ]
 
-twice : (n : ℕ) → 2 ^ suc n ≡ 2 ^ n * 2
+pub twice : (n : ℕ) → 2 ^ suc n ≡ 2 ^ n * 2
 twice n = ap (λ k. 2 ^ k) (sym (add-one n)) ∙ pow_more 2 n
 
 -- what is left of the way up from a leaf: from a position that is so many steps from the root

@@ -1,5 +1,5 @@
 -- The pending changes always fit, and are never as many as a batch has room for.
-use Rattle.std.proofs.Common.{◌≡◌, ℕ, ◌+◌, ◌*◌, ◌<◌, ◌≤◌, Bool, true, false, cond, not, ◌||◌, List, [], ◌∷◌, ◌++◌, Option, Some, None, length, map, sym, refl, ap, ◌∙◌, subst, arith, inl, inr}
+use Rattle.std.proofs.Common.{◌≡◌, ℕ, ◌+◌, ◌*◌, ◌^◌, ◌<◌, ◌≤◌, Bool, true, false, cond, not, ◌||◌, List, [], ◌∷◌, ◌++◌, Option, Some, None, length, map, sym, refl, ap, ◌∙◌, subst, arith, inl, inr}
 use Rattle.std.specs.Prelude.{is_some, filter}
 use Rattle.std.specs.List.{list_any, list_all}
 use Rattle.std.proofs.lemmas.Bool.{cases_Bool, not-true, and_parts, and_from, or_parts, or_cases, or_left, or_right, false≢true, false_from_ne_true}
@@ -13,6 +13,7 @@ use Rattle.group_terms.specs.Changes.{member_of, is_pending, leaver, leavers, jo
 use Rattle.group_terms.specs.declared.changes.Change.{Change}
 use Rattle.group_terms.specs.declared.changes.Change.TheVariants.{Out, In}
 use Rattle.group_model.specs.Places.{Holders, is_held_by, is_member, member_count, vacated, names_once, Fits}
+use Rattle.group_model.specs.Refusals.{leaves_taken}
 use Rattle.group_model.proofs.StayedLemmas.{same_name-is}
 
 same_name-sym : (m n : Name) → same_name m n ≡ false → same_name n m ≡ false
@@ -144,7 +145,7 @@ all_more p (n ∷ names) m h last =
 
 module _ (holders : Holders) (queue : List Change) (m : Name) (fits : Fits holders queue) (free : is_pending queue m ≡ false) where
   -- a join of somebody who is no member, where a leaf is left
-  pub Fits-join : is_member holders m ≡ false → member_count holders + length (joiners queue) < length holders + length (leavers queue) → Fits holders (queue ++ In m ∷ [])
+  Fits-join : is_member holders m ≡ false → member_count holders + length (joiners queue) < length holders + length (leavers queue) → Fits holders (queue ++ In m ∷ [])
   Fits-join stranger room =
       let out : leavers (queue ++ In m ∷ []) ≡ leavers queue = filter_map-append leaver queue (In m ∷ []) ∙ append-nil (leavers queue) in
       let into : joiners (queue ++ In m ∷ []) ≡ joiners queue ++ m ∷ [] = filter_map-append joiner queue (In m ∷ []) in
@@ -166,6 +167,16 @@ module _ (holders : Holders) (queue : List Change) (m : Name) (fits : Fits holde
         once = queue_once holders queue m (Out m) refl fits free;
         room = rw (out, into) (omega (arith, fits.room, length-append (leavers queue) (m ∷ [])));
       }
+
+-- a join of somebody who is no member, in a tree that is not full
+module _ (depth : ℕ) (holders : Holders) (queue : List Change) (fits : Fits holders queue) (m : Name) where
+  leaf_left : length holders ≡ 2 ^ depth → (leaves_taken depth holders queue ≡ 2 ^ depth → ⊥)
+      → member_count holders + length (joiners queue) < length holders + length (leavers queue)
+  leaf_left each left = omega (arith, fits.room, leavers_few holders queue fits, left, each)
+
+  pub Fits-granted_join : length holders ≡ 2 ^ depth → is_member holders m ≡ false → is_pending queue m ≡ false
+      → (leaves_taken depth holders queue ≡ 2 ^ depth → ⊥) → Fits holders (queue ++ In m ∷ [])
+  Fits-granted_join each stranger free left = Fits-join holders queue m fits free stranger (leaf_left each left)
 
 -- a batch that fits has two changes for each leaf at the most
 pub changes_few : (holders : Holders) (batch : List Change) → Fits holders batch → length batch ≤ 2 * length holders

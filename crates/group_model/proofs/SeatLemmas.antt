@@ -186,7 +186,7 @@ ltb_more a b = elim (cases_Bool (ltb a b)) [
   | inr past ↦ false_from_ne_true (ltb (1 + a) (suc b)) (λ less. absurd (omega (arith, ltb-true (1 + a) (suc b) less, ltb-false a b past))) ∙ sym past
 ]
 
-first_passes : {A : Type 0} (p : A → Bool) (xs : List A) → ltb (position_or_len p xs) (length xs) ≡ list_any p xs
+pub first_passes : {A : Type 0} (p : A → Bool) (xs : List A) → ltb (position_or_len p xs) (length xs) ≡ list_any p xs
 first_passes p [] = refl
 first_passes p (x ∷ xs) = elim (p x) as (λ b. ltb (cond (not b) (1 + position_or_len p xs) 0) (suc (length xs)) ≡ (b || list_any p xs)) [
   | true ↦ lt-ltb 0 (suc (length xs)) (omega arith)
@@ -201,7 +201,7 @@ record IsLeftOf (before now : Holders) : Type 0 where
   same : length now ≡ length before
   each : (j : ℕ) → (get_or now j None ≡ get_or before j None) ⊎ (get_or now j None ≡ None)
 
-vacated_get : (now : Holders) (m : Name) (j : ℕ) → get_or (vacated now m) j None ≡ cond (is_held_by m (get_or now j None)) None (get_or now j None)
+pub vacated_get : (now : Holders) (m : Name) (j : ℕ) → get_or (vacated now m) j None ≡ cond (is_held_by m (get_or now j None)) None (get_or now j None)
 vacated_get now m j = get_or-map_at (λ holder. cond (is_held_by m holder) None holder) now j None refl
 
 vacated_stranger : (now : Holders) (m : Name) → ((j : ℕ) → is_held_by m (get_or now j None) ≡ false) → vacated now m ≡ now

@@ -5,8 +5,8 @@ use Rattle.group_terms.specs.declared.changes.Change.{Change}
 use Rattle.group_model.specs.declared.entries.Answer.{Answer}
 use Rattle.group_model.specs.declared.entries.Entry.{Entry}
 use Rattle.group_model.specs.declared.entries.SymReply.{SymReply}
+use Rattle.group_model.specs.Answers.{found_by}
 use Rattle.group_model.specs.Derivations.{replies_in, wraps_in}
-use Rattle.group_model.specs.Legal.{found_by}
 use Rattle.group_model.specs.Places.{IsValid, holders_at, is_member}
 use Rattle.group_model.specs.Replies.{reply_at, replies_to}
 use Rattle.group_model.specs.Wraps.{wraps_at}

@@ -1,4 +1,4 @@
--- What follows of the definitions, said of every list of batches and of every history. The functions of `laws.rt` prove each of these.
+-- What follows of the definitions, said of every list of batches. The functions of `laws.rt` prove each of these.
 use Rattle.std.specs.Prelude.{◌≡◌, ℕ, ◌+◌, ◌*◌, ◌^◌, ◌<◌, ◌≤◌, ◌&&◌, ◌||◌, not, true, false, None, Some, if◌then◌else◌}
 use Rattle.std.specs.Prelude.{List, [], ◌∷◌, ◌++◌, length, take, slice_index_or}
 use Rattle.std.specs.List.{list_any}
@@ -7,15 +7,12 @@ use Rattle.group_terms.specs.Names.{Name, same_name}
 use Rattle.group_terms.specs.declared.changes.Change.{Change}
 use Rattle.group_terms.specs.declared.changes.Change.TheVariants.{Out, In}
 use Rattle.group_values.specs.Values.{Rises}
-use Rattle.group_model.specs.declared.entries.Entry.{Entry}
 use Rattle.group_model.specs.Places.{Holders, is_held_by, is_member, member_count, place_in}
 use Rattle.group_model.specs.Places.{holders_of, holders_at, Fits, IsValid}
 use Rattle.group_model.specs.Drawn.{drawn_at}
 use Rattle.group_model.specs.Fresh.{last_change}
 use Rattle.group_model.specs.Stayed.{has_stayed, sequence_at}
 use Rattle.group_model.specs.Wraps.{wraps_at, is_nil}
-use Rattle.group_model.specs.Groups.{Reading, Group, no_group, after_entry, present_group, IsSound}
-use Rattle.group_model.specs.Legal.{IsStep, IsLegalHistory}
 use Rattle.group_model.specs.Refusals.{leaves_taken}
 
 -- Each leaf of the tree has its place among the holders, after every list.
@@ -103,20 +100,6 @@ GrantedLeavesFit =
     (holders : Holders) (queue : List Change) (m : Name) → Fits holders queue → is_member holders m ≡ true → is_pending queue m ≡ false
     → Fits holders (queue ++ Out m ∷ [])
 
--- Before it is opened a group is sound.
-abbrev pub SoundAtFirst : Type 0
-SoundAtFirst = (readings : List Reading) → IsSound (no_group readings)
-
--- Each step leaves a sound group sound.
-abbrev pub StepsKeepSound : Type 0
-StepsKeepSound =
-    (group : Group) (before : List Entry) (entry : Entry) → IsSound group → IsStep group before entry → IsSound (after_entry group entry)
-
--- A legal history leaves a sound group: its batches are a valid list, and what waits fits.
-abbrev pub HistoriesAreSound : Type 0
-HistoriesAreSound =
-    (readings : List Reading) (entries : List Entry) → IsLegalHistory readings entries → IsSound (present_group readings entries)
-
 -- all of them
 pub record Laws : Type 0 where
   pub each_leaf : EachLeafHasItsPlace
@@ -134,6 +117,3 @@ pub record Laws : Type 0 where
   pub changes_few : ChangesAreFew
   pub joins_fit : GrantedJoinsFit
   pub leaves_fit : GrantedLeavesFit
-  pub sound_first : SoundAtFirst
-  pub sound_after : StepsKeepSound
-  pub sound_histories : HistoriesAreSound

@@ -1,14 +1,12 @@
 -- Which leaf is whose, and which keys are new, are definitions of the leaves alone.
 pub use Rattle.tree_leaves.specs.Fresh
 pub use Rattle.tree_leaves.specs.Places
+pub mod Answers
 pub mod Derivations
 pub mod Drawn
-pub mod Groups
 pub mod Growth
 pub mod Histories
 pub mod Laws
-pub mod Legal
-pub mod Openings
 pub mod Present
 pub mod Private
 pub mod Refusals
@@ -17,4 +15,5 @@ pub mod Seen
 pub mod Servers
 pub mod Stayed
 pub mod Steps
+pub mod WrapCounts
 pub mod Wraps

@@ -1,9 +1,11 @@
-//! What the definitions mean, said of lists of batches and of histories.
+//! What the definitions mean, said of lists of batches.
 ghost use Rattle.group_model.specs.Growth.{RepliesGoToMembers};
 ghost use Rattle.group_model.specs.Laws.{EachLeafHasItsPlace, HoldersStay, LastChangesStay, PlacesAreHeld, NoLeafIsShared};
 ghost use Rattle.group_model.specs.Laws.{NoNameHasTwoLeaves, PlacesStay, BatchesSayWhoIsMember, WrapsUseTwoNumbers, DrawnPositionsRise};
-ghost use Rattle.group_model.specs.Laws.{NoChangeFits, LeaversAreFew, ChangesAreFew, GrantedJoinsFit, GrantedLeavesFit};
-ghost use Rattle.group_model.specs.Laws.{SoundAtFirst, StepsKeepSound, HistoriesAreSound, Laws};
+ghost use Rattle.group_model.specs.Laws.{NoChangeFits, LeaversAreFew, ChangesAreFew, GrantedJoinsFit, GrantedLeavesFit, Laws};
+ghost use Rattle.group_model.specs.WrapCounts.{WrapsAreFew, RemovalsWrapTwice};
+
+use group_terms::a_mark_is_that_of_a_child;
 
 /// Each leaf of the tree has its place among the holders, at every epoch.
 pub fn each_leaf_has_its_place()
@@ -51,6 +53,14 @@ pub fn a_batch_that_wraps_uses_two_numbers()
     ensures { WrapsUseTwoNumbers }
 {}
 
+/// A batch encrypts no more than its number of changes bounds. A removal from a full tree of depth d encrypts 2d - 1 keys of the tree, and the traffic key.
+pub fn a_batch_encrypts_few()
+    ensures few { WrapsAreFew }
+    ensures removal { RemovalsWrapTwice }
+{
+    a_mark_is_that_of_a_child();
+}
+
 /// The positions for whose keys a batch draws values come by rising number, each once.
 pub fn drawn_positions_rise()
     ensures { DrawnPositionsRise }
@@ -69,13 +79,6 @@ pub fn granted_changes_fit()
     ensures leaves { GrantedLeavesFit }
 {}
 
-/// The batches of a legal history are a valid list, and what waits fits. That holds before it is opened, and each step keeps it.
-pub fn a_history_leaves_a_sound_group()
-    ensures first { SoundAtFirst }
-    ensures step { StepsKeepSound }
-    ensures history { HistoriesAreSound }
-{}
-
 /// All of these laws.
 pub fn laws_hold()
     ensures { Laws }
@@ -91,5 +94,4 @@ pub fn laws_hold()
     drawn_positions_rise();
     a_batch_that_fits_has_few_changes();
     granted_changes_fit();
-    a_history_leaves_a_sound_group();
 }

@@ -12,11 +12,10 @@ pub use group_terms::{
 };
 pub use history::History;
 pub use laws::{
-    a_batch_says_who_is_a_member, a_batch_that_fits_has_few_changes,
-    a_batch_that_wraps_uses_two_numbers, a_history_leaves_a_sound_group, drawn_positions_rise,
-    each_leaf_has_its_place, first_epochs_stay, granted_changes_fit, laws_hold,
-    members_never_share_a_leaf, no_name_has_two_leaves, places_are_held,
-    places_stay_while_members_stay, replies_go_to_members,
+    a_batch_encrypts_few, a_batch_says_who_is_a_member, a_batch_that_fits_has_few_changes,
+    a_batch_that_wraps_uses_two_numbers, drawn_positions_rise, each_leaf_has_its_place,
+    first_epochs_stay, granted_changes_fit, laws_hold, members_never_share_a_leaf,
+    no_name_has_two_leaves, places_are_held, places_stay_while_members_stay, replies_go_to_members,
 };
 pub use present::PresentTree;
 pub use steps::TreeStep;

@@ -29,6 +29,7 @@ use Rattle.group_model.specs.declared.steps.TreeStep.{TreeStep}
 use Rattle.group_keys.specs.Drawn.{AreDrawn, IsLastDrawn}
 use Rattle.kd_wire.specs.declared.sealing.WrapJob.{WrapJob}
 use Rattle.push_msg.specs.Texts.{IsPushText, membership_push, traffic_push}
+use Rattle.push_msg.specs.Written.{KindFits}
 use Rattle.group_pushes.specs.Pairs.{AreJobsOf, IsJobOf, IsPairIfStayed, IsPairOf}
 use Rattle.group_pushes.specs.Private.Jobs.{AreArraysAfter, AreJobsAfter, IsJobAfter, IsKeyAfter, IsLastValue}
 use Rattle.group_pushes.proofs.DrawnLemmas.{drawn_before, drawn_rise}
@@ -228,11 +229,11 @@ module _ (tree : Present) (step : TreeStep) (list : List Made) (changes : List C
         → length kept.nodes ≡ 2 ^ (tree.depth + 1)
         → pair.wraps ≡ wraps_at tree.depth batches (length whole) → pair.wraps ≡ between ++ last ∷ [] → pair.first ≡ step.sequence - 1
         → AreArraysAfter kept values between arrays → slice_get kept.nodes 1 ≡ Some old_root → IsLastValue kept values 1 root
-        → length old_root.iv ≡ iv_octets → length root.iv ≡ iv_octets
+        → length old_root.iv ≡ iv_octets → length root.iv ≡ iv_octets → KindFits (g.kind_of signer)
         → IsPushText (g.signature signer) (g.size_of signer) old_root (membership_push (record { spi = spi; sequence = pair.first }) (g.kind_of signer) arrays) pair.membership
         → IsPushText (g.signature signer) (g.size_of signer) root (traffic_push (record { spi = spi; sequence = step.sequence }) values.traffic) pair.traffic
         → IsPairIfStayed g signer tree.depth spi whole (Some pair)
-    a_pair g signer spi pair between last arrays old_root root room are parts first arrays_are old_is root_is old_iv iv membership traffic =
+    a_pair g signer spi pair between last arrays old_root root room are parts first arrays_are old_is root_is old_iv iv kind membership traffic =
         let stayed = some_stayed tree.depth batches (length whole) pair.wraps between last are parts in
         let later : 0 < length list = stayed_later tree.depth batches (length list) (ap (stayed_at tree.depth batches) (sym long) ∙ stayed.0) in
         let rises : Rises (ids_of values.nodes) = drawn_rise tree.depth list made drawn in
@@ -250,6 +251,7 @@ module _ (tree : Present) (step : TreeStep) (list : List Made) (changes : List C
         let is_pair : IsPairOf g signer tree.depth spi whole pair = record {
           first = number ∙ sequence_is;
           wraps = are;
+          kind = kind;
           arrays = arrays;
           are_arrays = (arrays_are.jobs, subst (λ wraps. AreJobsOf whole wraps arrays_are.jobs) stayed.1 (are_jobs tree.depth list changes values kept keeps rises between arrays_are.jobs known arrays_are.are_jobs), arrays_are.are_texts);
           old_root = old_root;

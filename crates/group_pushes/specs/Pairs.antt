@@ -13,6 +13,7 @@ use Rattle.group_model.specs.declared.entries.PushPair.{PushPair}
 use Rattle.kd_wire.specs.Texts.{AreUpdateTexts}
 use Rattle.kd_wire.specs.declared.sealing.WrapJob.{WrapJob}
 use Rattle.push_msg.specs.Texts.{IsPushText, membership_push, traffic_push}
+use Rattle.push_msg.specs.Written.{KindFits}
 
 -- A job seals the key that a wrap gives under the one that it names, each with the value that its batch made. The key that seals has an IV of a whole
 -- block.
@@ -34,10 +35,11 @@ abbrev pub AreArraysOf : List Made → List Wrap → List ℕ → Type 0
 AreArraysOf list wraps arrays = (jobs : List WrapJob) × AreJobsOf list wraps jobs × AreUpdateTexts jobs arrays
 
 -- The pair of the last of these batches, with this SPI: the two numbers after the last one before it, what it encrypts, and both datagrams. The root's
--- old key and its new one have IVs of a whole block.
+-- old key and its new one have IVs of a whole block, and the signer's signatures are of a kind that can be written.
 pub record IsPairOf {G : Type 0} (g : SignerGhosts G) (signer : G) (depth : ℕ) (spi : List ℕ) (list : List Made) (pair : PushPair) : Type 0 where
   pub first : pair.first + 1 ≡ sequence_at depth (batches_made list) (length list)
   pub wraps : pair.wraps ≡ wraps_at depth (batches_made list) (length list)
+  pub kind : KindFits (g.kind_of signer)
   pub arrays : List ℕ
   pub are_arrays : AreArraysOf list (node_wraps depth (batches_made list) (length list)) arrays
   pub old_root : NodeValue

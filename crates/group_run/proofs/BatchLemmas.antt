@@ -14,7 +14,7 @@ use Rattle.group_terms.specs.declared.changes.Change.{Change}
 use Rattle.group_terms.specs.declared.values.BatchValues.{BatchValues}
 use Rattle.group_values.specs.Drawing.{blocks_for}
 use Rattle.group_values.specs.Values.{Made, batches_made}
-use Rattle.group_model.specs.Legal.{IsOutputOf, is_disk_fault}
+use Rattle.group_model.specs.Answers.{IsOutputOf, is_disk_fault}
 use Rattle.group_model.specs.Replies.{replies_to, says_of}
 use Rattle.group_model.specs.Servers.{IsPreparation, IsStoring, Server, after_draws, blocks_to_draw, coming_batch, coming_positions, coming_values}
 use Rattle.group_model.specs.Servers.{drawn_unless, in_doubt, refusal_to_batch, with_batch}

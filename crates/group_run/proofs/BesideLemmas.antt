@@ -2,7 +2,7 @@
 use Rattle.std.proofs.Common.{◌≡◌, ℕ, true, false, None, refl}
 use Rattle.gd_disk.specs.declared.disks.Disk.{Ghosts}
 use Rattle.group_terms.specs.Faults.{Rose}
-use Rattle.group_model.specs.Legal.{is_disk_fault}
+use Rattle.group_model.specs.Answers.{is_disk_fault}
 use Rattle.group_model.specs.declared.entries.Answer.TheVariants.{Refused}
 use Rattle.group_model.specs.declared.entries.Refusal.{Refusal}
 use Rattle.group_model.specs.declared.entries.Refusal.TheVariants.{NeedsReopen, NotMember, AlreadyPending, TreeFull, BatchFull, Spent, DiskFault, NotAJournal, NoMemory}

@@ -12,7 +12,7 @@ use Rattle.group_terms.specs.Names.{Name, same_name}
 use Rattle.group_terms.specs.declared.changes.Change.{Change}
 use Rattle.group_terms.specs.declared.changes.Change.TheVariants.{In, Out}
 use Rattle.group_values.specs.Values.{batches_made}
-use Rattle.group_model.specs.Legal.{answer_to_join, answer_to_leave, unless_refused}
+use Rattle.group_model.specs.Answers.{answer_to_join, answer_to_leave, unless_refused}
 use Rattle.group_model.specs.Places.{Holders, holders_of, is_member}
 use Rattle.group_model.specs.Refusals.{leaves_taken, why_no_join}
 use Rattle.group_model.specs.Servers.{IsJoin, IsLeave, Server, halted, members_now, with_change}

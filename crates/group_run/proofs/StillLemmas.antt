@@ -4,7 +4,7 @@ use Rattle.gd_disk.specs.Moments.{Keeps}
 use Rattle.gd_disk.specs.declared.disks.Disk.{Ghosts as DiskGhosts}
 use Rattle.gd_edges.specs.declared.draws.Draws.{Ghosts as DrawGhosts}
 use Rattle.group_terms.specs.declared.changes.Change.{Change}
-use Rattle.group_model.specs.Legal.{disk_failed_by, found_by}
+use Rattle.group_model.specs.Answers.{disk_failed_by, found_by}
 use Rattle.group_model.specs.Servers.{Server}
 use Rattle.group_model.specs.declared.entries.Answer.{Answer}
 use Rattle.group_model.specs.declared.entries.Asked.{Asked}

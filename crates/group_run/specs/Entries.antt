@@ -1,6 +1,6 @@
 -- The entries that are noted.
 use Rattle.std.specs.Prelude.{ℕ}
-use Rattle.group_model.specs.Legal.{disk_failed_by, found_by}
+use Rattle.group_model.specs.Answers.{disk_failed_by, found_by}
 use Rattle.group_model.specs.declared.entries.Answer.{Answer}
 use Rattle.group_model.specs.declared.entries.Asked.{Asked}
 use Rattle.group_model.specs.declared.entries.Entry.{Entry}

@@ -1,6 +1,6 @@
 //! Entries of a history.
 ghost use Rattle.std.specs.Prelude.{◌≡◌};
-ghost use Rattle.group_model.specs.Legal.{disk_failed_by, found_by, is_disk_fault};
+ghost use Rattle.group_model.specs.Answers.{disk_failed_by, found_by, is_disk_fault};
 ghost use Rattle.group_run.specs.Entries.{noted};
 
 use group_model::{Answer, Asked, Entry, Outside, Refusal};

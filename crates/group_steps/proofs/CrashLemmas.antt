@@ -17,9 +17,8 @@ use Rattle.group_steps.specs.Crashes.{CrashesLeaveMoments, HasAtLeast, IsOfMomen
 use Rattle.group_steps.specs.Disks.{HasJournal}
 use Rattle.group_steps.specs.Runs.{Run}
 use Rattle.group_steps.specs.Steps.{AreRunSteps, IsRunStep}
-use Rattle.group_steps.proofs.HistoryLemmas.{shown_still}
 use Rattle.group_steps.proofs.JournalLemmas.{IsMeanwhile, StepLeaves, list_begins, leaves_answered}
-use Rattle.group_steps.proofs.OpeningLemmas.{some_file}
+use Rattle.group_steps.proofs.SureLemmas.{shown_still, some_file}
 
 -- a file of a server has the batches of each server whose batches were the front of its own
 has_front : (head : Head) (server : Server) (list : List Made) (later : List Made) (c : List ℕ) → server.list ≡ list ++ later

@@ -1,71 +1,42 @@
 -- A group grows by what the steps of its run send and tell.
-use Rattle.std.proofs.Common.{◌≡◌, ◌∙◌, ◌⊎◌, ◌&&◌, ℕ, ◌+◌, ◌≤◌, Bool, true, false, cond, List, [], ◌∷◌, ◌++◌, Option, None, Some, length, map, sym, refl, ap, subst, arith, inl, inr}
+use Rattle.std.proofs.Common.{◌≡◌, ◌∙◌, ◌⊎◌, ◌&&◌, ℕ, ◌≤◌, Bool, true, false, cond, List, [], ◌∷◌, ◌++◌, Option, None, Some, length}
+use Rattle.std.proofs.Common.{sym, refl, ap, subst, arith, inl, inr}
 use Rattle.std.specs.Prelude.{Contains, MatchBool}
 use Rattle.std.specs.Option.{unwrap_or}
 use Rattle.std.proofs.lemmas.Bool.{false≢true}
-use Rattle.std.proofs.lemmas.List.{length-append, length-map, map-append}
-use Rattle.std.proofs.lemmas.List.Sums.{fold-append}
+use Rattle.std.proofs.lemmas.List.{length-append}
 use Rattle.gd_disk.specs.declared.disks.Disk.{Ghosts as DiskGhosts}
 use Rattle.gd_edges.specs.declared.signers.Signer.{Ghosts as SignerGhosts}
 use Rattle.gd_edges.specs.declared.verifiers.Verifier.{Ghosts as VerifierGhosts}
-use Rattle.group_terms.specs.Names.{Name}
-use Rattle.group_terms.specs.declared.changes.Change.{Change}
 use Rattle.group_terms.specs.declared.keys.KeyName.TheVariants.{Node, Traffic}
 use Rattle.group_values.specs.Values.{Made, batches_made}
+use Rattle.group_model.specs.Answers.{BeginsWithOpening, found_by, is_open, opens}
 use Rattle.group_model.specs.Derivations.{pairs_resent, replies_in, wraps_in}
 use Rattle.group_model.specs.Growth.{Adds, AddsAll, Begins, IsReplyOf, Leaves, RepliesGoToMembers}
 use Rattle.group_model.specs.Laws.{Laws}
-use Rattle.group_model.specs.Legal.{BeginsWithOpening, found_by, is_open, opens}
-use Rattle.group_model.specs.Places.{FitInTurn, Fits, IsValid, holders_after, holders_of, no_holders}
+use Rattle.group_model.specs.Places.{holders_of}
 use Rattle.group_model.specs.Replies.{replies_to}
-use Rattle.group_model.specs.Seen.{seen_group}
-use Rattle.group_model.specs.Servers.{members_now}
 use Rattle.group_model.specs.Stayed.{stayed_at}
 use Rattle.group_model.specs.Wraps.{node_wraps, wraps_at}
 use Rattle.group_model.specs.declared.entries.Answer.{Answer}
-use Rattle.group_model.specs.declared.entries.Answer.TheVariants.{Batched, Opened, Refused}
+use Rattle.group_model.specs.declared.entries.Answer.TheVariants.{Refused}
 use Rattle.group_model.specs.declared.entries.Asked.{Asked}
 use Rattle.group_model.specs.declared.entries.Asked.TheVariants.{Create, Begin}
 use Rattle.group_model.specs.declared.entries.Entry.{Entry}
 use Rattle.group_model.specs.declared.entries.Outside.{Outside}
 use Rattle.group_model.specs.declared.entries.PushPair.{PushPair}
 use Rattle.group_model.specs.declared.entries.Refusal.{Refusal}
-use Rattle.group_model.specs.declared.entries.SymReply.{SymReply}
 use Rattle.group_pushes.specs.Pairs.{IsPairIfStayed, IsPairOf}
-use Rattle.gcks_core.specs.Stored.{AreDueFrom}
-use Rattle.group_steps.specs.Batches.{IsStored, list_next, made_next}
+use Rattle.group_steps.specs.Batches.{IsStored, made_next}
 use Rattle.group_steps.specs.Kinds.{IsQuiet}
-use Rattle.group_steps.specs.Laws.{LeavesValidList, asks_again, is_opened_again}
-use Rattle.group_steps.specs.Openings.{FindsGroup, Found, IsBeginning, IsCreation, IsGroupFound}
+use Rattle.group_steps.specs.Laws.{asks_again}
+use Rattle.group_steps.specs.Openings.{FindsGroup, Found, IsBeginning, IsCreation}
 use Rattle.group_steps.specs.Runs.{Run, no_run}
 use Rattle.group_steps.specs.Steps.{AreRunSteps, IsAnswered, IsRunStep}
 use Rattle.group_steps.specs.TrueSteps.{AreTrueSteps, ReadsTrue, TrueStepsGrow, batches_in}
-use Rattle.group_steps.proofs.FitLemmas.{fit_more}
 use Rattle.group_steps.proofs.KindLemmas.{each_kind, says_nothing}
-
--- ---- what is sound
-
--- The batches of a run are a valid list, what waits fits behind them, and the tree is as deep as the head of the journal says.
-pub record IsSoundRun {D : Type 0} (run : Run D) : Type 0 where
-  pub at : run.head.depth ≡ run.server.depth
-  pub valid : IsValid run.server.depth (batches_in run)
-  pub fits : Fits (members_now run.server) run.server.queue
-
-length_made : (list : List Made) → length (batches_made list) ≡ length list
-length_made list = length-map list (λ (made : Made). made.changes)
-
-batches_more : (list : List Made) (made : Made) → batches_made (list ++ made ∷ []) ≡ batches_made list ++ made.changes ∷ []
-batches_more list made = map-append (λ (made : Made). made.changes) list (made ∷ [])
-
--- batches that are due one after the other are a valid list
-valid_from : (depth limit : ℕ) (before : List (List Change)) (list : List Made) → AreDueFrom depth limit before list
-    → FitInTurn (holders_of depth before) (batches_made list)
-valid_from depth limit before [] due = tt
-valid_from depth limit before (made ∷ list) due = (
-  due.0.fits,
-  subst (λ holders. FitInTurn holders (batches_made list)) (fold-append holders_after (no_holders depth) before (made.changes ∷ []))
-      (valid_from depth limit (before ++ made.changes ∷ []) list due.1),
-)
+use Rattle.group_steps.proofs.SoundLemmas.{IsSoundRun, batches_more, length_made, longer_valid}
+use Rattle.group_steps.proofs.SoundLemmas.{sound_all, sound_found, sound_none, sound_opened, sound_quiet, sound_stored}
 
 -- the pair that is sent again is that of the last batch
 resent_are : {G : Type 0} (g : SignerGhosts G) (signer : G) (depth : ℕ) (spi : List ℕ) (list : List Made) (resent : Option PushPair)
@@ -79,41 +50,13 @@ resent_are g signer depth spi list resent = by (stayed_at depth (batches_made li
     by true is pair = ap pairs_resent pair.1 ∙ pair.2.wraps
     by false is none =
         ap pairs_resent none
-        ∙ sym (ap (λ b. cond b (node_wraps depth (batches_made list) (length list) ++ record { by = Node 1 (length list); gives = Traffic (length list) } ∷ []) []) is)
-
-module _ {D : Type 0} (laws : Laws) where
-  sound_quiet : (run : Run D) (answer : Answer) (next : Run D) → IsSoundRun run → IsQuiet run answer next → IsSoundRun next
-  sound_quiet run answer next sound quiet = record {
-    at = ap (λ head. head.depth) quiet.head ∙ sound.at ∙ sym quiet.depth;
-    valid = subst (λ depth. IsValid depth (batches_in next)) (sym quiet.depth) (subst (λ list. IsValid run.server.depth (batches_made list)) (sym quiet.list) sound.valid);
-    fits = subst (λ depth. Fits (holders_of depth (batches_in next)) next.server.queue) (sym quiet.depth)
-        (subst (λ list. Fits (holders_of run.server.depth (batches_made list)) next.server.queue) (sym quiet.list) (quiet.fits sound.fits));
-  }
-
-  module _ {G : Type 0} (d : DiskGhosts D) (g : SignerGhosts G) (signer : G) (block : ℕ → List ℕ) where
-    longer_valid : (run : Run D) → IsSoundRun run → IsValid run.server.depth (batches_in run ++ run.server.queue ∷ [])
-    longer_valid run sound = fit_more (no_holders run.server.depth) (batches_in run) run.server.queue sound.valid sound.fits
-
-    sound_stored : (run : Run D) (answer : Answer) (outside : Outside) (next : Run D) → IsSoundRun run → IsStored d g signer block run answer outside next → IsSoundRun next
-    sound_stored run answer outside next sound stored =
-        subst IsSoundRun (sym stored.now) (record {
-          at = sound.at;
-          valid = subst (IsValid run.server.depth) (sym (batches_more run.server.list (made_next d g signer block run))) (longer_valid run sound);
-          fits = laws.no_change_fits (holders_of run.server.depth (batches_made (list_next d g signer block run)));
-        })
-
-    sound_found : (run : Run D) (found : Found) (answer : Answer) (outside : Outside) (next : Run D) → FindsGroup d g signer run found answer outside next → IsSoundRun next
-    sound_found run found answer outside next finds =
-        subst IsSoundRun (sym finds.now) (record {
-          at = refl;
-          valid = valid_from found.head.depth found.head.limit [] found.list finds.group.due;
-          fits = laws.no_change_fits (holders_of found.head.depth (batches_made found.list));
-        })
+        ∙ sym (ap (λ b.
+        cond b (node_wraps depth (batches_made list) (length list) ++ record { by = Node 1 (length list); gives = Traffic (length list) } ∷ []) []) is)
 
 -- ---- one step
 
-module _ {D G V : Type 0} (laws : Laws) (to_members : RepliesGoToMembers) (d : DiskGhosts D) (g : SignerGhosts G) (signer : G) (v : VerifierGhosts V) (verifier : V)
-    (block : ℕ → List ℕ) where
+module _ {D G V : Type 0} (laws : Laws) (to_members : RepliesGoToMembers) (d : DiskGhosts D) (g : SignerGhosts G) (signer : G)
+    (v : VerifierGhosts V) (verifier : V) (block : ℕ → List ℕ) where
   -- a run of a group with a tree, from some epoch on
   record IsReady (first : ℕ) (run : Run D) : Type 0 where
     sound : IsSoundRun run
@@ -134,7 +77,7 @@ module _ {D G V : Type 0} (laws : Laws) (to_members : RepliesGoToMembers) (d : D
       };
       depth = quiet.depth;
       ready = record {
-        sound = sound_quiet laws run answer next ready.sound quiet;
+        sound = sound_quiet laws d g signer v verifier block run answer next ready.sound quiet;
         some = omega (arith, ready.some, quiet.depth);
         late = omega (arith, ready.late, ap (λ list. length (batches_made list)) quiet.list);
       };
@@ -143,33 +86,36 @@ module _ {D G V : Type 0} (laws : Laws) (to_members : RepliesGoToMembers) (d : D
     goes_stored : IsStored d g signer block run answer outside next → GoesOn first run answer next
     goes_stored stored =
         let list = ap (λ (given : Run D). given.server.list) stored.now in
-        let is : batches_in next ≡ batches_in run ++ run.server.queue ∷ [] = ap batches_made list ∙ batches_more run.server.list (made_next d g signer block run) in
-        let depth = ap (λ (given : Run D). given.server.depth) stored.now in
         let more = batches_more run.server.list (made_next d g signer block run) in
+        let is : batches_in next ≡ batches_in run ++ run.server.queue ∷ [] = ap batches_made list ∙ more in
+        let depth = ap (λ (given : Run D). given.server.depth) stored.now in
         let long = length-append (batches_in run) (run.server.queue ∷ []) in
         record {
           adds = record {
             grows = inr (
               run.server.queue,
               is,
-              ap wraps_in stored.answers ∙ stored.puts_out.says.wraps ∙ ap (λ batches. wraps_at run.server.depth batches (length batches)) (sym (ap batches_made list)),
+              ap wraps_in stored.answers ∙ stored.puts_out.says.wraps
+                  ∙ ap (λ batches. wraps_at run.server.depth batches (length batches)) (sym (ap batches_made list)),
             );
             tells = λ reply c.
                 subst (λ batches. IsReplyOf run.server.depth first batches reply) (sym is)
-                (to_members run.server.depth first (batches_in run) run.server.queue reply ready.some ready.late (longer_valid laws d g signer block run ready.sound)
+                (to_members run.server.depth first (batches_in run) run.server.queue reply ready.some ready.late
+                (longer_valid laws d g signer v verifier block run ready.sound)
                 (subst (λ batches. Contains (replies_to run.server.depth batches run.server.queue) reply) more
                 (subst (λ replies. Contains replies reply) (ap replies_in stored.answers ∙ stored.puts_out.says.replies) c)));
           };
           depth = depth;
           ready = record {
-            sound = sound_stored laws d g signer block run answer outside next ready.sound stored;
+            sound = sound_stored laws d g signer v verifier block run answer outside next ready.sound stored;
             some = omega (arith, ready.some, depth);
             late = omega (arith, ready.late, ap length is, long);
           };
         }
 
     -- what an opening sends again, and what it tells
-    sends_again : (found : Found) → FindsGroup d g signer run found answer outside next → wraps_in answer ≡ wraps_at next.server.depth (batches_in next) (length (batches_in next))
+    sends_again : (found : Found) → FindsGroup d g signer run found answer outside next
+        → wraps_in answer ≡ wraps_at next.server.depth (batches_in next) (length (batches_in next))
     sends_again found finds =
         ap wraps_in finds.answers ∙ resent_are g signer found.head.depth found.head.spi found.list finds.resent finds.pair
         ∙ ap (wraps_at found.head.depth (batches_made found.list)) (sym (length_made found.list))
@@ -178,7 +124,7 @@ module _ {D G V : Type 0} (laws : Laws) (to_members : RepliesGoToMembers) (d : D
     goes_again : (found : Found) → FindsGroup d g signer run found answer outside next → (next.head ≡ run.head)
         → (next.server.list ≡ run.server.list) ⊎ ((made : Made) × (next.server.list ≡ run.server.list ++ made ∷ [])) → GoesOn first run answer next
     goes_again found finds head list =
-        let sound = sound_found laws d g signer block run found answer outside next finds in
+        let sound = sound_found laws d g signer v verifier block run found answer outside next finds in
         let depth : next.server.depth ≡ run.server.depth = sym sound.at ∙ ap (λ head. head.depth) head ∙ ready.sound.at in
         let sends : wraps_in answer ≡ wraps_at run.server.depth (batches_in next) (length (batches_in next)) =
         sends_again found finds ∙ ap (λ depth. wraps_at depth (batches_in next) (length (batches_in next))) depth in
@@ -197,7 +143,13 @@ module _ {D G V : Type 0} (laws : Laws) (to_members : RepliesGoToMembers) (d : D
             some = omega (arith, ready.some, depth);
             late = elim list [
               | inl same ↦ omega (arith, ready.late, ap (λ list. length (batches_made list)) same)
-              | inr one ↦ omega (arith, ready.late, ap length (ap batches_made one.1 ∙ batches_more run.server.list one.0), length-append (batches_in run) (one.0.changes ∷ []))
+              | inr one ↦
+                  omega (
+                    arith,
+                    ready.late,
+                    ap length (ap batches_made one.1 ∙ batches_more run.server.list one.0),
+                    length-append (batches_in run) (one.0.changes ∷ []),
+                  )
             ];
           };
         }
@@ -219,8 +171,8 @@ module _ {D G V : Type 0} (laws : Laws) (to_members : RepliesGoToMembers) (d : D
         )
   ]
 
-  adds_all : (first depth : ℕ) (opening : Entry) (before : List Entry) (run : Run D) (entries : List Entry) (after : Run D) → IsReady first run → run.server.depth ≡ depth
-      → AreTrueSteps d g signer v verifier block (opening ∷ before) run entries after
+  adds_all : (first depth : ℕ) (opening : Entry) (before : List Entry) (run : Run D) (entries : List Entry) (after : Run D)
+      → IsReady first run → run.server.depth ≡ depth → AreTrueSteps d g signer v verifier block (opening ∷ before) run entries after
       → AddsAll depth first (batches_in run) entries (batches_in after) × (after.server.depth ≡ depth)
   adds_all first depth opening before run [] after ready same steps = (ap batches_in steps, ap (λ (given : Run D). given.server.depth) steps ∙ same)
   adds_all first depth opening before run (entry ∷ entries) after ready same steps =
@@ -266,7 +218,7 @@ module _ {D G V : Type 0} (laws : Laws) (to_members : RepliesGoToMembers) (d : D
       → IsReady (length (batches_in next)) next × Begins next.server.depth (batches_in next) answer
   found_first start found answer outside next finds = (
     record {
-      sound = sound_found laws d g signer block start found answer outside next finds;
+      sound = sound_found laws d g signer v verifier block start found answer outside next finds;
       some = omega (arith, finds.group.head.fits.shallow, ap (λ (given : Run D). given.server.depth) finds.now);
       late = omega arith;
     },
@@ -279,7 +231,8 @@ module _ {D G V : Type 0} (laws : Laws) (to_members : RepliesGoToMembers) (d : D
     },
   )
 
-  begun : (start : Run D) (answer : Answer) (outside : Outside) (next : Run D) → batches_in start ≡ [] → IsBeginning d g signer start answer outside next → IsFirst answer next
+  begun : (start : Run D) (answer : Answer) (outside : Outside) (next : Run D) → batches_in start ≡ []
+      → IsBeginning d g signer start answer outside next → IsFirst answer next
   begun start answer outside next none beginning = elim beginning.ends [
     | inl begins ↦ inl (found_first start begins.found answer outside next begins.finds)
     | inr fails ↦ none_first start answer next _ fails.why none fails.answers fails.now refl
@@ -298,44 +251,6 @@ module _ {D G V : Type 0} (laws : Laws) (to_members : RepliesGoToMembers) (d : D
   since_of opening first before next entries after ready begins steps =
       let all = adds_all (length (batches_in next)) next.server.depth first before next entries after ready refl steps in
       subst (λ depth. Leaves depth (opening ∷ entries) (batches_in after)) (sym all.1) (batches_in next, begins, all.0)
-
-  -- ---- what the steps leave, whatever openings read
-
-  sound_step : (opening : Entry) (before : List Entry) (run : Run D) (entry : Entry) (next : Run D) → IsSoundRun run
-      → IsRunStep d g signer v verifier block (opening ∷ before) run entry next → IsSoundRun next
-  sound_step opening before run entry next sound step = elim (each_kind laws d g signer v verifier block opening before run entry next step) [
-    | inl quiet ↦ sound_quiet laws run entry.answer next sound quiet
-    | inr (inl stored) ↦ sound_stored laws d g signer block run entry.answer entry.outside next sound stored
-    | inr (inr found) ↦ sound_found laws d g signer block run found.0 entry.answer entry.outside next found.2
-  ]
-
-  sound_all : (opening : Entry) (before : List Entry) (run : Run D) (entries : List Entry) (after : Run D) → IsSoundRun run
-      → AreRunSteps d g signer v verifier block (opening ∷ before) run entries after → IsSoundRun after
-  sound_all opening before run [] after sound steps = subst IsSoundRun (sym steps) sound
-  sound_all opening before run (entry ∷ entries) after sound steps =
-      sound_all opening (before ++ entry ∷ []) steps.0 entries after (sound_step opening before run entry steps.0 sound steps.1) steps.2
-
-  sound_none : (disk : D) (name : Name) (limit place : ℕ) → IsSoundRun (no_run disk name limit place)
-  sound_none disk name limit place = record { at = refl; valid = tt; fits = laws.no_change_fits (holders_of 0 []) }
-
-  sound_opened : (start : Run D) (asked : Asked) (answer : Answer) (outside : Outside) (next : Run D) → IsSoundRun start → opens asked ≡ true
-      → IsAnswered d g signer v verifier block [] asked start answer outside next → IsSoundRun next
-  sound_opened start (Create depth) answer outside next sound first step = elim step.1.ends [
-    | inl makes ↦ subst IsSoundRun (sym makes.now) (record { at = refl; valid = tt; fits = laws.no_change_fits (holders_of depth []) })
-    | inr fails ↦ subst IsSoundRun (sym fails.now) (record { at = sound.at; valid = sound.valid; fits = sound.fits })
-  ]
-  sound_opened start Begin answer outside next sound first step = elim step.1.ends [
-    | inl begins ↦ sound_found laws d g signer block start begins.found answer outside next begins.finds
-    | inr fails ↦ subst IsSoundRun (sym fails.now) (record { at = sound.at; valid = sound.valid; fits = sound.fits })
-  ]
-  sound_opened start asked answer outside next sound first step = absurd (false≢true first)
-
-  pub valid_list : LeavesValidList d g signer v verifier block
-  valid_list disk name limit place [] after history = subst (λ (given : Run D). IsValid given.server.depth (batches_in given)) (sym history.steps) tt
-  valid_list disk name limit place (entry ∷ entries) after history =
-      (sound_all entry [] history.steps.0 entries after
-      (sound_opened (no_run disk name limit place) entry.asked entry.answer entry.outside history.steps.0 (sound_none disk name limit place) history.begins.0 history.steps.1.answered)
-      history.steps.2).valid
 
   -- ---- from an opening on
 
@@ -359,12 +274,13 @@ module _ {D G V : Type 0} (laws : Laws) (to_members : RepliesGoToMembers) (d : D
         | inr closed ↦ absurd (false≢true (sym closed.0 ∙ granted))
       ]
   grow_from start sound none (first ∷ before) opening later run next mid begins so_far step granted goes_on =
-      let sound_first = sound_opened start first.asked first.answer first.outside so_far.0 sound begins.0 so_far.1.answered in
-      let sound_run = sound_all first [] so_far.0 before run sound_first so_far.2 in
+      let sound_first = sound_opened laws d g signer v verifier block start first.asked first.answer first.outside so_far.0 sound begins.0 so_far.1.answered in
+      let sound_run = sound_all laws d g signer v verifier block first [] so_far.0 before run sound_first so_far.2 in
       let opened = again_step first before run opening next sound_run granted step in
       since_of opening first (before ++ opening ∷ []) next later mid opened.0 opened.1 goes_on
 
   pub grow : TrueStepsGrow d g signer v verifier block
   grow disk name limit place opening later mid true_since =
-      grow_from (no_run disk name limit place) (sound_none disk name limit place) refl true_since.before opening later true_since.run true_since.next mid
+      grow_from (no_run disk name limit place) (sound_none laws d g signer v verifier block disk name limit place) refl true_since.before opening
+      later true_since.run true_since.next mid
       true_since.begins true_since.so_far true_since.step true_since.granted true_since.goes_on

@@ -1,5 +1,6 @@
 -- What each step of a run does to the journal of its group.
-use Rattle.std.proofs.Common.{◌≡◌, ◌∙◌, ◌⊎◌, ℕ, true, Bool, List, [], ◌∷◌, ◌++◌, Option, None, Some, refl, sym, ap, subst, inl, inr}
+use Rattle.std.proofs.Common.{◌≡◌, ◌∙◌, ◌⊎◌, ℕ, true, false, Bool, List, [], ◌∷◌, ◌++◌, Option, None, Some, refl, sym, ap, subst, inl, inr}
+use Rattle.std.specs.Prelude.{MatchBool}
 use Rattle.std.proofs.lemmas.List.{append-nil}
 use Rattle.gd_disk.specs.Disks.{Knows}
 use Rattle.gd_disk.specs.MomentLaws.{started, weaker}
@@ -33,7 +34,11 @@ use Rattle.group_steps.specs.Openings.{FailsToReopen, IsOpeningAgain, Reopens}
 use Rattle.group_steps.specs.Runs.{Run}
 use Rattle.group_steps.specs.Sent.{SentPush, last_push}
 use Rattle.group_steps.specs.Steps.{IsAnswered}
-use Rattle.group_steps.proofs.MemberLemmas.{either_case}
+
+-- one of two, by a test
+either_case : (b : Bool) (P Q R : Type 0) → MatchBool b P Q → (P → R) → (Q → R) → R
+either_case true P Q R given first second = first given
+either_case false P Q R given first second = second given
 
 -- batches that a journal may have begin with those of the server
 pub list_begins : (server : Server) (list : List Made) → MayHave server list → (later : List Made) × (list ≡ server.list ++ later)

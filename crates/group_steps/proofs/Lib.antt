@@ -1,17 +1,10 @@
-pub mod BatchLemmas
-pub mod ChangeLemmas
 pub mod CountLemmas
 pub mod CrashLemmas
 pub mod FitLemmas
 pub mod GrowthLemmas
-pub mod HistoryLemmas
 pub mod JournalLemmas
 pub mod KindLemmas
-pub mod MemberLemmas
 pub mod MomentLemmas
-pub mod NamedLemmas
 pub mod OpenedLemmas
-pub mod OpeningLemmas
 pub mod SoundLemmas
-pub mod StepLemmas
 pub mod SureLemmas

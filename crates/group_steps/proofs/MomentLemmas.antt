@@ -3,7 +3,7 @@ use Rattle.std.proofs.Common.{◌≡◌, ◌⊎◌, ℕ, List, [], ◌∷◌, �
 use Rattle.gd_disk.specs.declared.disks.Disk.{Ghosts as DiskGhosts}
 use Rattle.gd_edges.specs.declared.signers.Signer.{Ghosts as SignerGhosts}
 use Rattle.gd_edges.specs.declared.verifiers.Verifier.{Ghosts as VerifierGhosts}
-use Rattle.group_model.specs.Legal.{BeginsWithOpening}
+use Rattle.group_model.specs.Answers.{BeginsWithOpening}
 use Rattle.group_model.specs.declared.entries.Entry.{Entry}
 use Rattle.group_steps.specs.Moments.{MomentsEndHistories}
 use Rattle.group_steps.specs.Steps.{EndsWithoutMemory}
@@ -16,7 +16,7 @@ nothing_or : (P : Type 0) (front later : List Entry) → (front ++ later ≡ [])
 nothing_or P front later (inl none) = inl (none_before front later none)
 nothing_or P front later (inr is) = inr is
 
-pub begins_front : (front later : List Entry) → BeginsWithOpening (front ++ later) → BeginsWithOpening front
+begins_front : (front later : List Entry) → BeginsWithOpening (front ++ later) → BeginsWithOpening front
 begins_front [] later is = tt
 begins_front (first ∷ front) later is = (is.0, nothing_or _ front later is.1)
 

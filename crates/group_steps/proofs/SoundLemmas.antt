@@ -1,74 +1,125 @@
--- The batches of a run are a valid list, and what waits behind them fits.
-use Rattle.std.proofs.Common.{ℕ, List, [], ◌∷◌, ◌++◌, refl, sym, subst, inl, inr}
+-- The batches of a run are a valid list, and what waits behind them fits: each kind of step keeps that, and a first request begins with it.
+use Rattle.std.proofs.Common.{◌≡◌, ◌∙◌, ℕ, true, List, [], ◌∷◌, ◌++◌, length, sym, refl, ap, subst, inl, inr}
 use Rattle.std.proofs.lemmas.Bool.{false≢true}
+use Rattle.std.proofs.lemmas.List.{length-map, map-append}
+use Rattle.std.proofs.lemmas.List.Sums.{fold-append}
 use Rattle.gd_disk.specs.declared.disks.Disk.{Ghosts as DiskGhosts}
 use Rattle.gd_edges.specs.declared.signers.Signer.{Ghosts as SignerGhosts}
 use Rattle.gd_edges.specs.declared.verifiers.Verifier.{Ghosts as VerifierGhosts}
-use Rattle.group_values.specs.Values.{batches_made}
-use Rattle.group_model.specs.Groups.{IsSound}
-use Rattle.group_model.specs.Laws.{NoChangeFits, SoundAtFirst, StepsKeepSound}
-use Rattle.group_model.specs.Places.{holders_of}
+use Rattle.group_terms.specs.Names.{Name}
+use Rattle.group_terms.specs.declared.changes.Change.{Change}
+use Rattle.group_values.specs.Values.{Made, batches_made}
+use Rattle.group_model.specs.Answers.{opens}
+use Rattle.group_model.specs.Laws.{Laws}
+use Rattle.group_model.specs.Places.{FitInTurn, Fits, IsValid, holders_after, holders_of, no_holders}
+use Rattle.group_model.specs.Servers.{members_now}
 use Rattle.group_model.specs.declared.entries.Answer.{Answer}
 use Rattle.group_model.specs.declared.entries.Asked.{Asked}
-use Rattle.group_model.specs.declared.entries.Asked.TheVariants.{Reopen}
+use Rattle.group_model.specs.declared.entries.Asked.TheVariants.{Create, Begin}
 use Rattle.group_model.specs.declared.entries.Entry.{Entry}
 use Rattle.group_model.specs.declared.entries.Outside.{Outside}
-use Rattle.group_steps.specs.Laws.{LeavesValidList, group_of}
-use Rattle.group_steps.specs.Openings.{IsOpeningAgain}
+use Rattle.gcks_core.specs.Stored.{AreDueFrom}
+use Rattle.group_steps.specs.Batches.{IsStored, list_next, made_next}
+use Rattle.group_steps.specs.Kinds.{IsQuiet}
+use Rattle.group_steps.specs.Laws.{LeavesValidList}
+use Rattle.group_steps.specs.Openings.{FindsGroup, Found}
 use Rattle.group_steps.specs.Runs.{Run, no_run}
-use Rattle.group_steps.specs.Steps.{AreRunSteps, IsAnswered}
-use Rattle.group_steps.proofs.NamedLemmas.{Goes, IsAtHead}
-use Rattle.group_steps.proofs.OpeningLemmas.{valid_found}
-use Rattle.group_steps.proofs.StepLemmas.{goes_answered}
+use Rattle.group_steps.specs.Steps.{AreRunSteps, IsAnswered, IsRunStep}
+use Rattle.group_steps.specs.TrueSteps.{batches_in}
+use Rattle.group_steps.proofs.FitLemmas.{fit_more}
+use Rattle.group_steps.proofs.KindLemmas.{each_kind}
 
--- a run whose batches are valid, and whose tree is as deep as its head says
-abbrev pub IsSoundRun : {D : Type 0} → Run D → Type 0
-IsSoundRun run = IsAtHead run × IsSound (group_of run.server [])
+-- The batches of a run are a valid list, what waits fits behind them, and the tree is as deep as the head of the journal says.
+pub record IsSoundRun {D : Type 0} (run : Run D) : Type 0 where
+  pub at : run.head.depth ≡ run.server.depth
+  pub valid : IsValid run.server.depth (batches_in run)
+  pub fits : Fits (members_now run.server) run.server.queue
 
-module _ (none_fits : NoChangeFits) (keep : StepsKeepSound) where
-  -- a step that goes by key names
-  sound_by : {D : Type 0} (run : Run D) (before : List Entry) (asked : Asked) (answer : Answer) (outside : Outside) (next : Run D)
-      → IsSound (group_of run.server []) → Goes run [] before asked answer outside next → IsSoundRun next
-  sound_by run before asked answer outside next sound goes = (
-    goes.head,
-    subst IsSound goes.left
-        (keep (group_of run.server goes.unread) before (record { asked = asked; outside = outside; answer = answer })
-        (record { valid = sound.valid; fits = sound.fits }) (record { answered = goes.due; beside = goes.beside })),
-  )
+pub length_made : (list : List Made) → length (batches_made list) ≡ length list
+length_made list = length-map list (λ (made : Made). made.changes)
 
-  module _ {D G V : Type 0} (d : DiskGhosts D) (g : SignerGhosts G) (signer : G) (v : VerifierGhosts V) (verifier : V)
-      (block : ℕ → List ℕ) where
-    -- whatever an opening found is a valid list, and no change waits
-    sound_again : (run : Run D) (answer : Answer) (outside : Outside) (next : Run D) → IsSoundRun run
-        → IsOpeningAgain d g signer run answer outside next → IsSoundRun next
-    sound_again run answer outside next sound again = elim again.ends [
-      | inl reopens ↦
-          let found = reopens.found in
-          subst IsSoundRun (sym reopens.finds.now) (
-            refl,
-            record {
-              valid = valid_found found reopens.finds.group;
-              fits = none_fits (holders_of found.head.depth (batches_made found.list));
-            },
-          )
-      | inr fails ↦ subst IsSoundRun (sym fails.now) (sound.0, record { valid = sound.1.valid; fits = sound.1.fits })
-    ]
+pub batches_more : (list : List Made) (made : Made) → batches_made (list ++ made ∷ []) ≡ batches_made list ++ made.changes ∷ []
+batches_more list made = map-append (λ (made : Made). made.changes) list (made ∷ [])
 
-    sound_answered : (run : Run D) (before : List Entry) (asked : Asked) (answer : Answer) (outside : Outside) (next : Run D)
-        → IsSoundRun run
-        → IsAnswered d g signer v verifier block before asked run answer outside next → IsSoundRun next
-    sound_answered run before Reopen answer outside next sound step = sound_again run answer outside next sound step
-    sound_answered run before asked answer outside next sound step =
-        sound_by run before asked answer outside next sound.1
-        (goes_answered d g signer v verifier block run [] before sound.0 asked answer outside next (λ no. absurd (false≢true no)) step)
+-- batches that are due one after the other are a valid list
+valid_from : (depth limit : ℕ) (before : List (List Change)) (list : List Made) → AreDueFrom depth limit before list
+    → FitInTurn (holders_of depth before) (batches_made list)
+valid_from depth limit before [] due = tt
+valid_from depth limit before (made ∷ list) due = (
+  due.0.fits,
+  subst (λ holders. FitInTurn holders (batches_made list)) (fold-append holders_after (no_holders depth) before (made.changes ∷ []))
+      (valid_from depth limit (before ++ made.changes ∷ []) list due.1),
+)
 
-    sound_after : (before : List Entry) (run : Run D) (entries : List Entry) (after : Run D) → IsSoundRun run
-        → AreRunSteps d g signer v verifier block before run entries after → IsSoundRun after
-    sound_after before run [] after sound steps = subst IsSoundRun (sym steps) sound
-    sound_after before run (entry ∷ entries) after sound steps =
-        sound_after (before ++ entry ∷ []) steps.0 entries after
-        (sound_answered run before entry.asked entry.answer entry.outside steps.0 sound steps.1.answered) steps.2
+module _ {D G V : Type 0} (laws : Laws) (d : DiskGhosts D) (g : SignerGhosts G) (signer : G) (v : VerifierGhosts V) (verifier : V)
+    (block : ℕ → List ℕ) where
+  -- ---- each kind of step
 
-    pub valid_list : SoundAtFirst → LeavesValidList d g signer v verifier block
-    valid_list first disk name limit place entries after history =
-        (sound_after [] (no_run disk name limit place) entries after (refl, first []) history.steps).1.valid
+  pub sound_quiet : (run : Run D) (answer : Answer) (next : Run D) → IsSoundRun run → IsQuiet run answer next → IsSoundRun next
+  sound_quiet run answer next sound quiet = record {
+    at = ap (λ head. head.depth) quiet.head ∙ sound.at ∙ sym quiet.depth;
+    valid = subst (λ depth. IsValid depth (batches_in next)) (sym quiet.depth)
+        (subst (λ list. IsValid run.server.depth (batches_made list)) (sym quiet.list) sound.valid);
+    fits = subst (λ depth. Fits (holders_of depth (batches_in next)) next.server.queue) (sym quiet.depth)
+        (subst (λ list. Fits (holders_of run.server.depth (batches_made list)) next.server.queue) (sym quiet.list) (quiet.fits sound.fits));
+  }
+
+  pub longer_valid : (run : Run D) → IsSoundRun run → IsValid run.server.depth (batches_in run ++ run.server.queue ∷ [])
+  longer_valid run sound = fit_more (no_holders run.server.depth) (batches_in run) run.server.queue sound.valid sound.fits
+
+  pub sound_stored : (run : Run D) (answer : Answer) (outside : Outside) (next : Run D) → IsSoundRun run
+      → IsStored d g signer block run answer outside next → IsSoundRun next
+  sound_stored run answer outside next sound stored =
+      subst IsSoundRun (sym stored.now) (record {
+        at = sound.at;
+        valid = subst (IsValid run.server.depth) (sym (batches_more run.server.list (made_next d g signer block run))) (longer_valid run sound);
+        fits = laws.no_change_fits (holders_of run.server.depth (batches_made (list_next d g signer block run)));
+      })
+
+  pub sound_found : (run : Run D) (found : Found) (answer : Answer) (outside : Outside) (next : Run D)
+      → FindsGroup d g signer run found answer outside next → IsSoundRun next
+  sound_found run found answer outside next finds =
+      subst IsSoundRun (sym finds.now) (record {
+        at = refl;
+        valid = valid_from found.head.depth found.head.limit [] found.list finds.group.due;
+        fits = laws.no_change_fits (holders_of found.head.depth (batches_made found.list));
+      })
+
+  -- ---- a history, whatever its openings found
+
+  pub sound_none : (disk : D) (name : Name) (limit place : ℕ) → IsSoundRun (no_run disk name limit place)
+  sound_none disk name limit place = record { at = refl; valid = tt; fits = laws.no_change_fits (holders_of 0 []) }
+
+  pub sound_opened : (start : Run D) (asked : Asked) (answer : Answer) (outside : Outside) (next : Run D) → IsSoundRun start → opens asked ≡ true
+      → IsAnswered d g signer v verifier block [] asked start answer outside next → IsSoundRun next
+  sound_opened start (Create depth) answer outside next sound first step = elim step.1.ends [
+    | inl makes ↦ subst IsSoundRun (sym makes.now) (record { at = refl; valid = tt; fits = laws.no_change_fits (holders_of depth []) })
+    | inr fails ↦ subst IsSoundRun (sym fails.now) (record { at = sound.at; valid = sound.valid; fits = sound.fits })
+  ]
+  sound_opened start Begin answer outside next sound first step = elim step.1.ends [
+    | inl begins ↦ sound_found start begins.found answer outside next begins.finds
+    | inr fails ↦ subst IsSoundRun (sym fails.now) (record { at = sound.at; valid = sound.valid; fits = sound.fits })
+  ]
+  sound_opened start asked answer outside next sound first step = absurd (false≢true first)
+
+  sound_step : (first : Entry) (before : List Entry) (run : Run D) (entry : Entry) (next : Run D) → IsSoundRun run
+      → IsRunStep d g signer v verifier block (first ∷ before) run entry next → IsSoundRun next
+  sound_step first before run entry next sound step = elim (each_kind laws d g signer v verifier block first before run entry next step) [
+    | inl quiet ↦ sound_quiet run entry.answer next sound quiet
+    | inr (inl stored) ↦ sound_stored run entry.answer entry.outside next sound stored
+    | inr (inr found) ↦ sound_found run found.0 entry.answer entry.outside next found.2
+  ]
+
+  pub sound_all : (first : Entry) (before : List Entry) (run : Run D) (entries : List Entry) (after : Run D) → IsSoundRun run
+      → AreRunSteps d g signer v verifier block (first ∷ before) run entries after → IsSoundRun after
+  sound_all first before run [] after sound steps = subst IsSoundRun (sym steps) sound
+  sound_all first before run (entry ∷ entries) after sound steps =
+      sound_all first (before ++ entry ∷ []) steps.0 entries after (sound_step first before run entry steps.0 sound steps.1) steps.2
+
+  pub valid_list : LeavesValidList d g signer v verifier block
+  valid_list disk name limit place [] after history = subst (λ (given : Run D). IsValid given.server.depth (batches_in given)) (sym history.steps) tt
+  valid_list disk name limit place (entry ∷ entries) after history =
+      let next = history.steps.0 in
+      let sound = sound_opened (no_run disk name limit place) entry.asked entry.answer entry.outside next (sound_none disk name limit place)
+      history.begins.0 history.steps.1.answered in
+      (sound_all entry [] next entries after sound history.steps.2).valid

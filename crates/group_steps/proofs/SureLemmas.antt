@@ -7,7 +7,7 @@ use Rattle.gd_disk.specs.Moments.{Keeps, shown}
 use Rattle.gd_disk.specs.declared.disks.Disk.{Ghosts as DiskGhosts}
 use Rattle.gd_edges.specs.declared.signers.Signer.{Ghosts as SignerGhosts}
 use Rattle.gd_edges.specs.declared.verifiers.Verifier.{Ghosts as VerifierGhosts}
-use Rattle.group_model.specs.Legal.{is_open}
+use Rattle.group_model.specs.Answers.{is_open}
 use Rattle.group_model.specs.declared.entries.Answer.{Answer}
 use Rattle.group_model.specs.declared.entries.Asked.{Asked}
 use Rattle.group_model.specs.declared.entries.Asked.TheVariants.{Reopen}
@@ -30,18 +30,21 @@ pub some_file : (octets : Option (List ℕ)) → IsSome octets → (file : List 
 some_file None some = absurd (false≢true some)
 some_file (Some file) some = (file, refl)
 
-module _ {D G V : Type 0} (d : DiskGhosts D) (g : SignerGhosts G) (signer : G) (v : VerifierGhosts V) (verifier : V) (block : ℕ → List ℕ) where
-  shown_still : (old new : D) → Keeps d old new → IsSome (shown d old) → IsSome (shown d new)
+module _ {D : Type 0} (d : DiskGhosts D) where
+  pub shown_still : (old new : D) → Keeps d old new → IsSome (shown d old) → IsSome (shown d new)
   shown_still old new keeps = known_still (d.honest old) (d.honest new) (d.image old) (d.image new) keeps.honest keeps.exposed
 
+  -- what is sure of a history is sure of its first entry, and of the others
   sure_first : (disk : D) (entry : Entry) (entries : List Entry) → IsSure d disk (entry ∷ entries) → is_opened_again entry ≡ true → IsSome (shown d disk)
   sure_first disk entry entries (inl some) again = some
-  sure_first disk entry entries (inr none) again = absurd (false≢true (sym (or_parts (is_opened_again entry) (list_any is_opened_again entries) none).0 ∙ again))
+  sure_first disk entry entries (inr none) again =
+      absurd (false≢true (sym (or_parts (is_opened_again entry) (list_any is_opened_again entries) none).0 ∙ again))
 
   sure_later : (old new : D) (entry : Entry) (entries : List Entry) → Keeps d old new → IsSure d old (entry ∷ entries) → IsSure d new entries
   sure_later old new entry entries keeps (inl some) = inl (shown_still old new keeps some)
   sure_later old new entry entries keeps (inr none) = inr (or_parts (is_opened_again entry) (list_any is_opened_again entries) none).1
 
+module _ {D G V : Type 0} (d : DiskGhosts D) (g : SignerGhosts G) (signer : G) (v : VerifierGhosts V) (verifier : V) (block : ℕ → List ℕ) where
   true_again : (run : Run D) (answer : Answer) (outside : Outside) (next : Run D) → IsSome (shown d run.disk) → is_open answer ≡ true
       → IsOpeningAgain d g signer run answer outside next → IsSame run (record { head = next.head; list = next.server.list })
   true_again run answer outside next some opened again = elim again.ends [
@@ -67,8 +70,9 @@ module _ {D G V : Type 0} (d : DiskGhosts D) (g : SignerGhosts G) (signer : G) (
           steps.1,
           λ again. (
               let both = and_parts (asks_again entry.asked) (is_open entry.answer) again in
-              true_answered before run entry.asked entry.answer entry.outside next (sure_first run.disk entry entries sure again) both.0 both.1 steps.1.answered
+              true_answered before run entry.asked entry.answer entry.outside next
+              (sure_first d run.disk entry entries sure again) both.0 both.1 steps.1.answered
               ),
         ),
-        sure_true (before ++ entry ∷ []) next entries after steps.2 (sure_later run.disk next.disk entry entries steps.1.keeps sure),
+        sure_true (before ++ entry ∷ []) next entries after steps.2 (sure_later d run.disk next.disk entry entries steps.1.keeps sure),
       )

@@ -4,8 +4,9 @@ use Rattle.gd_disk.specs.declared.disks.Disk.{Ghosts as DiskGhosts}
 use Rattle.gd_edges.specs.declared.signers.Signer.{Ghosts as SignerGhosts}
 use Rattle.group_values.specs.Drawing.{blocks_for}
 use Rattle.group_values.specs.Values.{Made, batches_made}
-use Rattle.group_model.specs.Legal.{IsOutputOf}
-use Rattle.group_model.specs.Servers.{Server, after_draws, blocks_to_draw, coming_batch, coming_positions, coming_values, in_doubt, refusal_to_batch, with_batch}
+use Rattle.group_model.specs.Answers.{IsOutputOf}
+use Rattle.group_model.specs.Servers.{Server, after_draws, blocks_to_draw, coming_batch, coming_positions, coming_values}
+use Rattle.group_model.specs.Servers.{in_doubt, refusal_to_batch, with_batch}
 use Rattle.group_model.specs.declared.entries.Answer.{Answer}
 use Rattle.group_model.specs.declared.entries.Answer.TheVariants.{Batched, Refused}
 use Rattle.group_model.specs.declared.entries.Output.{Output}

@@ -3,8 +3,8 @@ use Rattle.std.specs.Prelude.{◌≡◌, ℕ, Bool, List, Decides, if◌then◌e
 use Rattle.group_terms.specs.Names.{Name}
 use Rattle.group_terms.specs.declared.changes.Change.TheVariants.{In, Out}
 use Rattle.group_terms.specs.declared.keys.KeyName.TheVariants.{Traffic}
+use Rattle.group_model.specs.Answers.{answer_to_join, answer_to_leave}
 use Rattle.group_model.specs.Derivations.{CanDerive, held_names, pairs_sent}
-use Rattle.group_model.specs.Legal.{answer_to_join, answer_to_leave}
 use Rattle.group_model.specs.Seen.{seen_group}
 use Rattle.group_model.specs.Servers.{Server, halted, members_now, present_batches, with_change}
 use Rattle.group_model.specs.declared.entries.Answer.{Answer}

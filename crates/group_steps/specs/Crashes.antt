@@ -6,7 +6,7 @@ use Rattle.gd_disk.specs.declared.disks.Disk.{Ghosts as DiskGhosts}
 use Rattle.gd_edges.specs.declared.signers.Signer.{Ghosts as SignerGhosts}
 use Rattle.gd_edges.specs.declared.verifiers.Verifier.{Ghosts as VerifierGhosts}
 use Rattle.group_values.specs.Values.{Made}
-use Rattle.group_model.specs.Legal.{is_open, opens}
+use Rattle.group_model.specs.Answers.{is_open, opens}
 use Rattle.group_model.specs.Servers.{in_doubt, refusal_to_batch}
 use Rattle.group_model.specs.declared.entries.Asked.TheVariants.{Batch}
 use Rattle.group_model.specs.declared.entries.Entry.{Entry}

@@ -1,16 +1,17 @@
 -- The steps of a run: what is answered to each request, what the outside did meanwhile, and the run after it. What a step does not name stays as it is.
-use Rattle.std.specs.Prelude.{◌≡◌, ◌⊎◌, ℕ, false, List, [], ◌∷◌, ◌++◌}
+use Rattle.std.specs.Prelude.{◌≡◌, ◌⊎◌, ℕ, false, List, [], ◌∷◌}
 use Rattle.gd_disk.specs.Moments.{Keeps}
 use Rattle.gd_disk.specs.declared.disks.Disk.{Ghosts as DiskGhosts}
 use Rattle.gd_edges.specs.declared.signers.Signer.{Ghosts as SignerGhosts}
 use Rattle.gd_edges.specs.declared.verifiers.Verifier.{Ghosts as VerifierGhosts}
-use Rattle.group_model.specs.Legal.{BeginsWithOpening, ran_out}
+use Rattle.group_model.specs.Answers.{BeginsWithOpening, ran_out}
 use Rattle.group_model.specs.declared.entries.Answer.{Answer}
 use Rattle.group_model.specs.declared.entries.Asked.{Asked}
 use Rattle.group_model.specs.declared.entries.Asked.TheVariants.{Create, Begin, Join, Leave, Batch, Halt, Reopen, Show, Keep, Deliver, DeliverAll, Key, Derive}
 use Rattle.group_model.specs.declared.entries.Entry.{Entry}
 use Rattle.group_model.specs.declared.entries.Outside.{Outside}
 use Rattle.group_steps.specs.Batches.{IsBatching}
+use Rattle.group_steps.specs.Chains.{Along}
 use Rattle.group_steps.specs.Changes.{IsHalting, IsJoining, IsLeaving, IsQuestion, IsShowing}
 use Rattle.group_steps.specs.Disks.{Counts}
 use Rattle.group_steps.specs.Members.{IsDelivery, IsKeeping, IsNoDelivery, IsShowingKey}
@@ -52,9 +53,7 @@ module _ {D G V : Type 0} (d : DiskGhosts D) (g : SignerGhosts G) (signer : G) (
 
   -- each entry is a step, from the run that those before it made
   abbrev pub AreRunSteps : List Entry → Run D → List Entry → Run D → Type 0
-  AreRunSteps before run [] after = after ≡ run
-  AreRunSteps before run (entry ∷ entries) after =
-      (next : Run D) × IsRunStep before run entry next × AreRunSteps (before ++ entry ∷ []) next entries after
+  AreRunSteps = Along IsRunStep
 
   -- a history from the opening on, and the run after it; where the opening failed, or memory ran out, nothing is after that
   pub record IsHistory (start : Run D) (entries : List Entry) (after : Run D) : Type 0 where

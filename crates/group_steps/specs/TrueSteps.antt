@@ -6,8 +6,8 @@ use Rattle.gd_edges.specs.declared.verifiers.Verifier.{Ghosts as VerifierGhosts}
 use Rattle.group_terms.specs.Names.{Name}
 use Rattle.group_terms.specs.declared.changes.Change.{Change}
 use Rattle.group_values.specs.Values.{batches_made}
+use Rattle.group_model.specs.Answers.{BeginsWithOpening, is_open}
 use Rattle.group_model.specs.Growth.{Leaves}
-use Rattle.group_model.specs.Legal.{BeginsWithOpening, is_open}
 use Rattle.group_model.specs.declared.entries.Entry.{Entry}
 use Rattle.group_steps.specs.Chains.{Along}
 use Rattle.group_steps.specs.Laws.{IsSure, is_opened_again}

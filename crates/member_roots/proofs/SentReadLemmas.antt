@@ -74,8 +74,7 @@ module _ (laws : ReadLaws) {G : Type 0} (g : SignerGhosts G) (signer : G) (depth
   }
 
   -- the update arrays of a membership push, and what is read of it
-  module _ (sent : ℕ) (group : IsKeyedGroup depth spi list) (kind_fits : KindFits (g.kind_of signer))
-      (at : IsPairAt g signer depth spi list (sent + 1) pair) where
+  module _ (sent : ℕ) (group : IsKeyedGroup depth spi list) (at : IsPairAt g signer depth spi list (sent + 1) pair) where
     abbrev wraps : List Wrap
     wraps = node_wraps depth (batches_made list) (sent + 1)
 
@@ -115,7 +114,7 @@ module _ (laws : ReadLaws) {G : Type 0} (g : SignerGhosts G) (signer : G) (depth
         laws.membership (g.signature signer) (g.size_of signer) (g.kind_of signer) (record { spi = spi; sequence = pair.first }) at.is_pair.old_root
         (map array_of sealed_jobs.0) at.is_pair.arrays pair.membership
         (record { spi = group.spi_size; octets = group.spi_octets; sequence = omega (arith, fits) })
-        (node_fits list 1 sent at.is_pair.old_root group.fit old_root) kind_fits
+        (node_fits list 1 sent at.is_pair.old_root group.fit old_root) at.is_pair.kind
         (laws.are_octets jobs at.is_pair.arrays at.is_pair.are_arrays.2) (omega (arith, few, size))
         (subst (λ text. AreUpdates (map array_of sealed_jobs.0) text) (sym sealed_jobs.1.is_text) (laws.are_updates sealed_jobs.0 sealed_jobs.1.push))
         at.is_pair.membership
@@ -172,7 +171,7 @@ module _ (laws : ReadLaws) {G : Type 0} (g : SignerGhosts G) (signer : G) (depth
   -- Of the membership push of the epoch after one a push is read under the root's key of that one, and gives the keys of what that epoch encrypts.
   pub membership_is_read : {V : Type 0} (v : VerifierGhosts V) (verifier : V) (sent : ℕ) → IsKeyedGroup depth spi list → Checks g signer v verifier → IsPairAt g signer depth spi list (sent + 1) pair
       → GivesWraps v verifier spi list sent pair.first (node_wraps depth (batches_made list) (sent + 1)) pair.membership
-  membership_is_read v verifier sent group checks at = gives_wraps sent group checks.fits at v verifier checks
+  membership_is_read v verifier sent group checks at = gives_wraps sent group at v verifier checks
 
   -- Of the traffic push of an epoch a push is read under the root's key of that epoch, and gives its traffic key.
   pub traffic_is_read : {V : Type 0} (v : VerifierGhosts V) (verifier : V) (epoch : ℕ) → IsKeyedGroup depth spi list → Checks g signer v verifier → IsPairAt g signer depth spi list epoch pair
@@ -184,9 +183,8 @@ module _ (laws : ReadLaws) {G : Type 0} (g : SignerGhosts G) (signer : G) (depth
       → IsReadAs (g.signature signer) (g.kind_of signer) root push body datagram → HasHeaderFor push.spi datagram
   own_header root push body datagram is = record { head = is.reads.head; is = is.reads.opens.has_header; for_spi = is.reads.opens.for_spi }
 
-  pub membership_header : (sent : ℕ) → IsKeyedGroup depth spi list → KindFits (g.kind_of signer) → IsPairAt g signer depth spi list (sent + 1) pair
-      → HasHeaderFor spi pair.membership
-  membership_header sent group kind_fits at = own_header _ _ _ pair.membership (read_as sent group kind_fits at).2
+  pub membership_header : (sent : ℕ) → IsKeyedGroup depth spi list → IsPairAt g signer depth spi list (sent + 1) pair → HasHeaderFor spi pair.membership
+  membership_header sent group at = own_header _ _ _ pair.membership (read_as sent group at).2
 
   pub traffic_header : (epoch : ℕ) → IsKeyedGroup depth spi list → IsPairAt g signer depth spi list epoch pair → HasHeaderFor spi pair.traffic
   traffic_header epoch group at = own_header _ _ _ pair.traffic (traffic_as epoch group at)

@@ -15,7 +15,6 @@ use Rattle.group_pushes.specs.Fits.{MadeFits}
 use Rattle.group_pushes.specs.Pairs.{IsPairOf}
 use Rattle.push_msg.specs.Pushes.{Reads}
 use Rattle.push_msg.specs.Readings.{PushRead}
-use Rattle.push_msg.specs.Written.{KindFits}
 
 -- ---- the group
 
@@ -35,7 +34,6 @@ pub record IsKeyedGroup (depth : ℕ) (spi : List ℕ) (list : List Made) : Type
 -- the verifier checks signatures of the signer's kind, and accepts each that the signer gives a digest, which has 32 octets (FIPS 180-4)
 pub record Checks {G V : Type 0} (g : SignerGhosts G) (signer : G) (v : VerifierGhosts V) (verifier : V) : Type 0 where
   pub kind : v.kind_of verifier ≡ g.kind_of signer
-  pub fits : KindFits (g.kind_of signer)
   pub accepts : (digest : List ℕ) → length digest ≡ 32 → v.accepts verifier digest (g.signature signer digest) ≡ true
 
 -- the pair of an epoch of the group over which somebody stayed

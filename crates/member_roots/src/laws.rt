@@ -9,7 +9,6 @@ ghost use Rattle.group_keys.specs.Replies.{IsKeyedOf};
 ghost use Rattle.group_model.specs.Places.{holders_at, holders_of, is_member};
 ghost use Rattle.group_model.specs.Wraps.{node_wraps};
 ghost use Rattle.group_model.specs.declared.entries.PushPair.{PushPair};
-ghost use Rattle.push_msg.specs.Written.{KindFits};
 ghost use Rattle.member_store.specs.declared.answers.Taken.{Taken};
 ghost use Rattle.member_store.specs.declared.answers.Taken.TheVariants.{Root, Traffic};
 ghost use Rattle.member_store.specs.Steps.{AreDueAcceptances, IsAcceptance, IsRefused};
@@ -90,7 +89,7 @@ pub fn a_sent_push_is_read<G: Signer, V: Verifier>()
         IsKeyedGroup depth spi list → Checks G.Signer signer V.Verifier verifier → IsPairAt G.Signer signer depth spi list epoch pair →
         GivesTraffic V.Verifier verifier spi list epoch (pair.first + 1) pair.traffic }
     ensures membership_header { (signer : G) (depth sent : ℕ) (spi : List ℕ) (list : List Made) (pair : PushPair) →
-        IsKeyedGroup depth spi list → KindFits (G.kind_of signer) → IsPairAt G.Signer signer depth spi list (sent + 1) pair →
+        IsKeyedGroup depth spi list → IsPairAt G.Signer signer depth spi list (sent + 1) pair →
         HasHeaderFor spi pair.membership }
     ensures traffic_header { (signer : G) (depth epoch : ℕ) (spi : List ℕ) (list : List Made) (pair : PushPair) →
         IsKeyedGroup depth spi list → IsPairAt G.Signer signer depth spi list epoch pair → HasHeaderFor spi pair.traffic }
@@ -176,7 +175,7 @@ pub fn a_member_that_left_finds_no_path<G: Signer, V: Verifier>()
 pub fn a_push_under_another_root_is_malformed<G: Signer, V: Verifier>()
     ensures membership { (signer : G) (verifier : V) (depth epoch sent : ℕ) (spi : List ℕ) (list : List Made) (m : Name) (pair : PushPair)
         (store next : Store) (result : Result Taken PushRefusal) →
-        IsKeyedGroup depth spi list → KindFits (G.kind_of signer) → IsPairAt G.Signer signer depth spi list (sent + 1) pair →
+        IsKeyedGroup depth spi list → IsPairAt G.Signer signer depth spi list (sent + 1) pair →
         IsForOneRoot spi (V.kind_of verifier) list pair.membership sent → IsAtRoot depth spi list epoch m store → sent ≢ epoch →
         IsAcceptance V.Verifier verifier store pair.membership result next →
         (at : ℕ) × IsRefused store (Malformed at) result next }

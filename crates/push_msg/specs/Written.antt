@@ -10,7 +10,7 @@ use Rattle.push_msg.specs.Pushes.{Reads, digest_of}
 use Rattle.push_msg.specs.Readings.{PushRead}
 use Rattle.push_msg.specs.Texts.{Push}
 
--- a head, a KEK and a kind of signatures that can be written
+-- a head and a KEK that can be written
 pub record HeadFits (head : PushHead) : Type 0 where
   pub spi : length head.spi ≡ rekey_spi_octets
   pub octets : AreOctets head.spi
@@ -20,6 +20,7 @@ pub record KekFits (kek : NodeValue) : Type 0 where
   pub iv : AreBytes 16 kek.iv
   pub key : AreBytes 16 kek.key
 
+-- A kind of signatures can be written: its two numbers in the policy of the KEK have 16 bits each (RFC 6407 section 5.3).
 pub record KindFits (kind : SignKind) : Type 0 where
   pub algorithm : kind.algorithm < 65536
   pub key_bits : kind.key_bits < 65536

@@ -1,6 +1,7 @@
 //! Writing a push.
 ghost use Rattle.std.specs.Prelude.{◌≤◌, length, IfOk};
 ghost use Rattle.push_msg.specs.Texts.{membership_push, traffic_push, IsPushText};
+ghost use Rattle.push_msg.specs.Written.{KindFits};
 
 use crate::drafts::{begin, finish, plain_size};
 use gd_edges::Signer;
@@ -28,8 +29,9 @@ pub fn write_membership<G: Signer>(
     signer: &G,
 ) -> Result<Octets, NoMemory>
     requires { length arrays.now ≤ 64000 }
-    ensures { IfOk result (λ datagram. IsPushText (G.signature signer.now) (G.size_of signer.now) kek.now
+    ensures text { IfOk result (λ datagram. IsPushText (G.signature signer.now) (G.size_of signer.now) kek.now
         (membership_push head.now (G.kind_of signer.now) arrays.now) datagram) }
+    ensures kind { IfOk result (λ datagram. KindFits (G.kind_of signer.now)) }
 {
     spi_fits(&head.spi);
     let policy = SaPolicy {

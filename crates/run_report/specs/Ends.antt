@@ -1,7 +1,7 @@
 -- How a report breaks off, and how a run ends.
 use Rattle.std.specs.Prelude.{◌≡◌, ◌⊎◌, ℕ, List, [], ◌∷◌, MatchResult, Result, if◌then◌else◌}
 use Rattle.gd_edges.specs.Shown.{Shown}
-use Rattle.group_model.specs.Legal.{ran_out}
+use Rattle.group_model.specs.Answers.{ran_out}
 use Rattle.group_model.specs.declared.entries.Answer.{Answer}
 use Rattle.group_model.specs.declared.entries.Entry.{Entry}
 use Rattle.script_text.specs.Report.{entry_text}

@@ -1,6 +1,6 @@
 //! How a run ends: its last line, and what is left of it.
 ghost use Rattle.std.specs.Prelude.{◌≡◌, []};
-ghost use Rattle.group_model.specs.Legal.{ran_out};
+ghost use Rattle.group_model.specs.Answers.{ran_out};
 ghost use Rattle.run_report.specs.declared.endings.Ending.TheVariants.{NoGroup};
 ghost use Rattle.run_report.specs.Ends.{RefusalEnds, ScriptEnds, UnopenedEnds, due_after};
 ghost use Rattle.run_report.specs.Reports.{LastLineEnds};

@@ -61,15 +61,3 @@ module _ (depth : ℕ) (list later : List Made) where
     stayed = stayed_early stayed;
     is_pair = subst (λ (given : List Made). IsPairOf g signer depth spi given pair) (sym (take-append_seam list later)) is;
   }
-
-  -- the pair of any of its epochs
-  pub pair_later : {G : Type 0} (g : SignerGhosts G) (signer : G) (spi : List ℕ) (epoch : ℕ) (pair : PushPair)
-      → IsPairAt g signer depth spi list epoch pair → IsPairAt g signer depth spi (list ++ later) epoch pair
-  pair_later g signer spi epoch pair at =
-      let few : epoch ≤ length list = at.early in
-      record {
-        early = omega (arith, few, early);
-        stayed =
-            (λ i. somebody_stayed (holders_early (epoch - 1) (omega (arith, few)) i) (holders_early epoch few i)) ∙ at.stayed;
-        is_pair = subst (λ (given : List Made). IsPairOf g signer depth spi given pair) (sym (take-append-le epoch list later few)) at.is_pair;
-      }

@@ -9,14 +9,16 @@ use Rattle.group_terms.specs.Names.{Name}
 use Rattle.group_model.specs.declared.entries.Answer.{Answer}
 use Rattle.group_model.specs.declared.entries.Entry.{Entry}
 use Rattle.group_peers.specs.Peers.{store_of}
+use Rattle.group_steps.specs.Kinds.{EachStepIsOfAKind}
 use Rattle.group_steps.specs.Members.{Gives, IsGiven}
 use Rattle.group_steps.specs.Runs.{Run}
 use Rattle.group_steps.specs.Sent.{SentPush, last_push}
-use Rattle.member_roots.specs.Roots.{IsStoreOf}
+use Rattle.member_roots.specs.Groups.{IsKeyedGroup}
 use Rattle.member_store.specs.Stores.{Store}
-use Rattle.store_steps.specs.Follow.{HasThen, IsGivenPush, StoresAreOfTheGroup}
+use Rattle.store_steps.specs.Follow.{HasThen, IsGivenPush, IsOurs, OpenedGroupsHaveKeys}
 use Rattle.store_steps.proofs.HistoryLemmas.{sent_after}
-use Rattle.store_steps.proofs.PeerLemmas.{found, found_anew, has_peer}
+use Rattle.store_steps.proofs.OpenedLemmas.{keyed_with}
+use Rattle.store_steps.proofs.PeerLemmas.{found_anew, has_peer}
 use Rattle.store_steps.proofs.SentLemmas.{IsPushAt, last_at}
 
 -- a push that is there
@@ -32,35 +34,38 @@ gave v verifier had last store push m run answer next has is gives =
     subst (λ last. Gives v verifier (Some store) last m run answer next) is
     (subst (λ had. Gives v verifier had last m run answer next) has gives)
 
--- the push, which is one of the group, with its number; the store, which is too; and that the one was given to the other
+-- the push, which is one of the group, with its number; the store, which is too; that the one was given to the other; and that the group has keys
 pub record Known {D G V : Type 0} (g : SignerGhosts G) (signer : G) (v : VerifierGhosts V) (verifier : V) (run : Run D) (m : Name)
     (store : Store) (number : ℕ) (answer : Answer) (next : Run D) : Type 0 where
   pub push : SentPush
   pub numbered : push.number ≡ number
   pub at : IsPushAt g signer run.server.depth run.head.spi run.server.list push
   pub had : store_of run.peers m ≡ Some store
-  pub is : IsStoreOf run.server.depth run.head.spi run.server.list m store
+  pub is : IsOurs run m store
   pub given : IsGiven v verifier m store push run answer next
+  pub group : IsKeyedGroup run.server.depth run.head.spi run.server.list
 
 pub known : {D G V : Type 0} (d : DiskGhosts D) (g : SignerGhosts G) (signer : G) (v : VerifierGhosts V) (verifier : V) (block : ℕ → List ℕ)
-    (before : List Entry) (run : Run D) (m : Name) (store : Store) (number : ℕ) (answer : Answer) (next : Run D)
-    → StoresAreOfTheGroup d g signer v verifier block → IsGivenPush d g signer v verifier block before run m store number answer next
+    → EachStepIsOfAKind d g signer v verifier block → OpenedGroupsHaveKeys d g signer v verifier block → (before : List Entry) (run : Run D) (m : Name)
+    (store : Store) (number : ℕ) (answer : Answer) (next : Run D) → IsGivenPush d g signer v verifier block before run m store number answer next
     → Known g signer v verifier run m store number answer next
-known d g signer v verifier block before run m store number answer next follow due =
-    let keyed = due.keyed in
+known d g signer v verifier block kinds have before run m store number answer next due =
+    let history = due.history in
     let push = some_push (last_push before number) due.sent in
-    let sent =
-    sent_after d g signer v verifier block run keyed.disk keyed.name keyed.limit keyed.place before keyed.history keyed.sure in
+    let sent = sent_after d g signer v verifier block kinds run before history in
     let last = last_at g signer run.server.depth run.head.spi run.server.list before number push.0 sent push.1 in
     record {
       push = push.0;
       numbered = last.1;
       at = last.0;
       had = due.had;
-      is = found (IsStoreOf run.server.depth run.head.spi run.server.list) run.peers m store (follow before run keyed) due.had;
+      is = due.ours;
       given =
           gave v verifier (store_of run.peers m) (last_push before number) store push.0 m run answer next due.had push.1
           due.step.answered.gives;
+      group =
+          keyed_with d g signer v verifier block have history.disk history.name history.limit history.place before run history.history m
+          (has_peer run.peers m store due.had);
     }
 
 -- the store that answered is found then

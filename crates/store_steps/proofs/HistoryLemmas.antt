@@ -1,185 +1,117 @@
--- Along a history each store is one of the group.
-use Rattle.std.proofs.Common.{◌≡◌, ◌∙◌, ◌↔◌, ℕ, true, false, Bool, List, [], ◌∷◌, ◌++◌, Option, None, refl, sym, subst, inl, inr}
-use Rattle.std.specs.Prelude.{IsSome, if◌then◌else◌}
-use Rattle.std.specs.List.{list_any}
-use Rattle.std.proofs.lemmas.Bool.{false≢true, or_parts}
-use Rattle.std.proofs.lemmas.List.{append_assoc, append-nil}
+-- Along a history whose openings read true each push that was sent is one of the group, and so is each store.
+use Rattle.std.proofs.Common.{ℕ, List, [], ◌∷◌, ◌++◌, refl, sym, subst}
 use Rattle.std.proofs.lemmas.List.Elements.{All-nil}
-use Rattle.gd_disk.specs.Moments.{Keeps, shown}
 use Rattle.gd_disk.specs.declared.disks.Disk.{Ghosts as DiskGhosts}
 use Rattle.gd_edges.specs.declared.signers.Signer.{Ghosts as SignerGhosts}
 use Rattle.gd_edges.specs.declared.verifiers.Verifier.{Ghosts as VerifierGhosts}
-use Rattle.group_terms.specs.Names.{Name}
-use Rattle.group_model.specs.Legal.{opens}
-use Rattle.group_model.specs.declared.entries.Answer.{Answer}
-use Rattle.group_model.specs.declared.entries.Asked.{Asked}
-use Rattle.group_model.specs.declared.entries.Asked.TheVariants.{Begin, Create}
 use Rattle.group_model.specs.declared.entries.Entry.{Entry}
-use Rattle.group_model.specs.declared.entries.Outside.{Outside}
 use Rattle.group_peers.specs.declared.members.Peer.{Peer}
-use Rattle.group_steps.specs.Laws.{IsSure, is_opened_again}
-use Rattle.group_steps.specs.Openings.{IsBeginning, IsCreation}
+use Rattle.group_steps.specs.ChainLaws.{along_keeps}
+use Rattle.group_steps.specs.Chains.{Along}
+use Rattle.group_steps.specs.Kinds.{EachStepIsOfAKind}
 use Rattle.group_steps.specs.Runs.{Run, no_run}
-use Rattle.group_steps.specs.Steps.{AreRunSteps, IsAnswered, IsHistory, IsRunStep}
+use Rattle.group_steps.specs.Steps.{IsRunStep}
+use Rattle.group_steps.specs.TrueSteps.{AreTrueSteps}
+use Rattle.store_steps.specs.Follow.{IsTrueHistory}
 use Rattle.store_steps.specs.Stores.{AreStores, IsPeerOf}
-use Rattle.store_steps.proofs.GrowLemmas.{Grows, IsAtHead, grows_answered, grows_none, grows_on, head_still}
-use Rattle.store_steps.proofs.OpenedLemmas.{peers_first}
-use Rattle.store_steps.proofs.PushLemmas.{sends_answered}
+use Rattle.store_steps.proofs.FirstLemmas.{IsFirst, first_of, head_first, peers_first}
+use Rattle.store_steps.proofs.GrowLemmas.{Grows, IsAtHead, grows_kind, grows_none, grows_on, head_still}
+use Rattle.store_steps.proofs.PushLemmas.{Sends, sends_first, sends_kind}
 use Rattle.store_steps.proofs.SentLemmas.{AreSent, IsPushAt, sent_by, sent_more}
 use Rattle.store_steps.proofs.StepLemmas.{AreOurs, Laws, ours_answered}
 
--- what is known of a disk that is as honest, and exposes its octets as before
-known_still : (was now : Bool) (had has : Option (List ℕ)) → now ≡ was → (IsSome has ↔ IsSome had) → IsSome (if was then had else None)
-    → IsSome (if now then has else None)
-known_still true true had has same exposed known = exposed.1 known
-known_still true false had has same exposed known = absurd (false≢true same)
-known_still false now had has same exposed known = absurd (false≢true known)
-
-module _ {D : Type 0} (d : DiskGhosts D) where
-  shown_still : (old new : D) → Keeps d old new → IsSome (shown d old) → IsSome (shown d new)
-  shown_still old new keeps = known_still (d.honest old) (d.honest new) (d.image old) (d.image new) keeps.honest keeps.exposed
-
-  -- what is sure of a history is sure of its first entry
-  sure_first : (disk : D) (entry : Entry) (entries : List Entry) → IsSure d disk (entry ∷ entries) → is_opened_again entry ≡ true
-      → IsSome (shown d disk)
-  sure_first disk entry entries (inl some) again = some
-  sure_first disk entry entries (inr none) again =
-      absurd (false≢true (sym (or_parts (is_opened_again entry) (list_any is_opened_again entries) none).0 ∙ again))
-
-  -- and of the others
-  pub sure_later : (old new : D) (entry : Entry) (entries : List Entry) → Keeps d old new → IsSure d old (entry ∷ entries) → IsSure d new entries
-  sure_later old new entry entries keeps (inl some) = inl (shown_still old new keeps some)
-  sure_later old new entry entries keeps (inr none) = inr (or_parts (is_opened_again entry) (list_any is_opened_again entries) none).1
-
 module _ {D G V : Type 0} (d : DiskGhosts D) (g : SignerGhosts G) (signer : G) (v : VerifierGhosts V) (verifier : V)
-    (block : ℕ → List ℕ) where
-  -- ---- the first request
+    (block : ℕ → List ℕ) (kinds : EachStepIsOfAKind d g signer v verifier block) (after : Run D) where
+  -- a step between two runs that grow to that at the end; a pair that it sends is that of the last batch
+  record IsStepTo (before : List Entry) (run : Run D) (entry : Entry) (next : Run D) : Type 0 where
+    step : IsRunStep d g signer v verifier block before run entry next
+    grows : Grows run after
+    rest : Grows next after
+    sends : Sends g signer entry.answer next
 
-  head_created : (depth : ℕ) (run : Run D) (answer : Answer) (outside : Outside) (next : Run D) → IsAtHead run
-      → IsCreation d block depth run answer outside next → IsAtHead next
-  head_created depth run answer outside next at creation = elim creation.ends [
-    | inl makes ↦ subst IsAtHead (sym makes.now) refl
-    | inr fails ↦ subst IsAtHead (sym fails.now) at
-  ]
+  -- one entry more was made, whose run grows to that at the end
+  more_sent : (before : List Entry) (entry : Entry) (next : Run D) → AreSent g signer after before → Grows next after
+      → Sends g signer entry.answer next → AreSent g signer after (before ++ entry ∷ [])
+  more_sent before entry next sent grows sends =
+      sent_more g signer after.server.depth after.head.spi after.server.list before entry sent (sent_by g signer next after grows entry.answer sends)
 
-  head_begun : (run : Run D) (answer : Answer) (outside : Outside) (next : Run D) → IsAtHead run
-      → IsBeginning d g signer run answer outside next → IsAtHead next
-  head_begun run answer outside next at beginning = elim beginning.ends [
-    | inl begins ↦ subst IsAtHead (sym begins.finds.now) refl
-    | inr fails ↦ subst IsAtHead (sym fails.now) at
-  ]
-
-  pub head_opened : (run : Run D) (before : List Entry) (asked : Asked) (answer : Answer) (outside : Outside) (next : Run D) → opens asked ≡ true
-      → IsAtHead run → IsAnswered d g signer v verifier block before asked run answer outside next → IsAtHead next
-  head_opened run before (Create depth) answer outside next first at step = head_created depth run answer outside next at step.1
-  head_opened run before Begin answer outside next first at step = head_begun run answer outside next at step.1
-  head_opened run before asked answer outside next first at step = absurd (false≢true first)
-
-  -- ---- those after it
-
-  pub grows_step : (first : Entry) (before : List Entry) (run : Run D) (entry : Entry) (entries : List Entry) (next : Run D) → IsAtHead run
-      → IsSure d run.disk (entry ∷ entries) → IsRunStep d g signer v verifier block (first ∷ before) run entry next → Grows run next
-  grows_step first before run entry entries next at sure step =
-      grows_answered d g signer v verifier block run at first before entry.asked entry.answer entry.outside next
-      (sure_first d run.disk entry entries sure) step.answered
-
-  pub grows_after : (first : Entry) (before : List Entry) (run : Run D) (entries : List Entry) (after : Run D) → IsAtHead run
-      → IsSure d run.disk entries → AreRunSteps d g signer v verifier block (first ∷ before) run entries after → Grows run after
-  grows_after first before run [] after at sure steps = subst (Grows run) (sym steps) (grows_none run)
-  grows_after first before run (entry ∷ entries) after at sure steps =
+  -- true steps after the first request are such steps
+  steps_to : (first : Entry) (before : List Entry) (run : Run D) (entries : List Entry) → IsAtHead run
+      → AreTrueSteps d g signer v verifier block (first ∷ before) run entries after
+      → Grows run after × Along IsStepTo (first ∷ before) run entries after
+  steps_to first before run [] at steps = (subst (Grows run) (sym steps) (grows_none run), steps)
+  steps_to first before run (entry ∷ entries) at steps =
       let next = steps.0 in
-      let grows = grows_step first before run entry entries next at sure steps.1 in
-      grows_on run next after grows
-      (grows_after first (before ++ entry ∷ []) next entries after (head_still run next at grows)
-      (sure_later d run.disk next.disk entry entries steps.1.keeps sure) steps.2)
+      let kind = kinds first before run entry next steps.1.0 in
+      let grows = grows_kind d g signer v verifier block run entry next at kind steps.1.1 in
+      let rest = steps_to first (before ++ entry ∷ []) next entries (head_still run next at grows) steps.2 in
+      let all = grows_on run next after grows rest.0 in
+      let step : IsStepTo (first ∷ before) run entry next = record {
+        step = steps.1.0;
+        grows = all;
+        rest = rest.0;
+        sends = sends_kind g signer d block run v verifier entry next kind;
+      } in
+      (all, (next, step, rest.1))
 
-  -- one more entry, whose run grows to that at the end
-  sent_step : (after : Run D) (before : List Entry) (run : Run D) (entry : Entry) (next : Run D) → AreSent g signer after before
-      → Grows next after → IsRunStep d g signer v verifier block before run entry next → AreSent g signer after (before ++ entry ∷ [])
-  sent_step after before run entry next sent grows step =
-      sent_more g signer after.server.depth after.head.spi after.server.list before entry sent
-      (sent_by g signer next after grows entry.answer
-      (sends_answered g signer d v verifier block run before entry.asked entry.answer entry.outside next step.answered))
+  first_by : (entry : Entry) (entries : List Entry) (history : IsTrueHistory d g signer v verifier block (entry ∷ entries) after)
+      → IsFirst d g signer block (no_run history.disk history.name history.limit history.place) entry.answer entry.outside history.reads.0
+  first_by entry entries history =
+      first_of d g signer block (no_run history.disk history.name history.limit history.place) v verifier [] entry.asked entry.answer entry.outside
+      history.reads.0 history.history.begins.0 history.reads.1.0.answered
 
-  -- ---- from the first request on
+  -- a history begins with an opening, and goes on by such steps
+  begin : (entry : Entry) (entries : List Entry) (history : IsTrueHistory d g signer v verifier block (entry ∷ entries) after)
+      → AreSent g signer after (entry ∷ []) × Along IsStepTo (entry ∷ []) history.reads.0 entries after
+  begin entry entries history =
+      let start = no_run history.disk history.name history.limit history.place in
+      let next = history.reads.0 in
+      let first = first_by entry entries history in
+      let at = head_first d g signer block start entry.answer entry.outside next refl first in
+      let rest = steps_to entry [] next entries at history.reads.2 in (
+        more_sent [] entry next (All-nil (IsPushAt g signer after.server.depth after.head.spi after.server.list)) rest.0
+            (sends_first g signer d block start entry.answer entry.outside next first),
+        rest.1,
+      )
 
-  -- a history begins with an opening; after that its group grows to that at the end
-  pub record Begins (entry : Entry) (entries : List Entry) (next after : Run D) : Type 0 where
-    pub at : IsAtHead next
-    pub sure : IsSure d next.disk entries
-    pub steps : AreRunSteps d g signer v verifier block (entry ∷ []) next entries after
-    pub sent : AreSent g signer after (entry ∷ [])
+  -- ---- pushes
 
-  pub begins : (disk : D) (name : Name) (limit place : ℕ) (entry : Entry) (entries : List Entry) (after : Run D)
-      → (history : IsHistory d g signer v verifier block (no_run disk name limit place) (entry ∷ entries) after)
-      → IsSure d disk (entry ∷ entries) → Begins entry entries history.steps.0 after
-  begins disk name limit place entry entries after history sure =
-      let run = no_run disk name limit place in
-      let next = history.steps.0 in
-      let step = history.steps.1 in
-      let at = head_opened run [] entry.asked entry.answer entry.outside next history.begins.0 refl step.answered in
-      let sure_next = sure_later d disk next.disk entry entries step.keeps sure in
-      let rest = grows_after entry [] next entries after at sure_next history.steps.2 in
-      record {
-        at = at;
-        sure = sure_next;
-        steps = history.steps.2;
-        sent = sent_step after [] run entry next (All-nil (IsPushAt g signer after.server.depth after.head.spi after.server.list)) rest step;
-      }
+  keeps_sent : (before : List Entry) (run : Run D) (entry : Entry) (next : Run D) → AreSent g signer after before → IsStepTo before run entry next
+      → AreSent g signer after (before ++ entry ∷ [])
+  keeps_sent before run entry next sent step = more_sent before entry next sent step.rest step.sends
 
-  -- all that is sent later on
-  sent_follow : (after : Run D) (first : Entry) (before : List Entry) (run : Run D) (entries : List Entry) → IsAtHead run
-      → IsSure d run.disk entries → AreRunSteps d g signer v verifier block (first ∷ before) run entries after
-      → AreSent g signer after (first ∷ before) → AreSent g signer after (first ∷ before ++ entries)
-  sent_follow after first before run [] at sure steps sent =
-      subst (λ before. AreSent g signer after (first ∷ before)) (sym (append-nil before)) sent
-  sent_follow after first before run (entry ∷ entries) at sure steps sent =
-      let next = steps.0 in
-      let grows = grows_step first before run entry entries next at sure steps.1 in
-      let at_next = head_still run next at grows in
-      let sure_next = sure_later d run.disk next.disk entry entries steps.1.keeps sure in
-      let rest = grows_after first (before ++ entry ∷ []) next entries after at_next sure_next steps.2 in
-      subst (λ before. AreSent g signer after (first ∷ before)) (append_assoc before (entry ∷ []) entries)
-      (sent_follow after first (before ++ entry ∷ []) next entries at_next sure_next steps.2
-      (sent_step after (first ∷ before) run entry next sent rest steps.1))
+  pub sent_after : (entries : List Entry) → IsTrueHistory d g signer v verifier block entries after → AreSent g signer after entries
+  sent_after [] history = All-nil (IsPushAt g signer after.server.depth after.head.spi after.server.list)
+  sent_after (entry ∷ entries) history =
+      let first = begin entry entries history in
+      along_keeps IsStepTo (λ before run. AreSent g signer after before) keeps_sent (entry ∷ []) history.reads.0 entries after first.0 first.1
 
-  pub sent_after : (after : Run D) (disk : D) (name : Name) (limit place : ℕ) (entries : List Entry)
-      → IsHistory d g signer v verifier block (no_run disk name limit place) entries after → IsSure d disk entries
-      → AreSent g signer after entries
-  sent_after after disk name limit place [] history sure =
-      All-nil (IsPushAt g signer after.server.depth after.head.spi after.server.list)
-  sent_after after disk name limit place (entry ∷ entries) history sure =
-      let first = begins disk name limit place entry entries after history sure in
-      sent_follow after entry [] history.steps.0 entries first.at first.sure first.steps first.sent
+  -- ---- stores
 
-  module _ (after : Run D) (laws : Laws g signer v verifier after.server.depth after.head.spi after.server.list) where
+  module _ (laws : Laws g signer v verifier after.server.depth after.head.spi after.server.list) where
     abbrev Ours : List Peer → Type 0
     Ours = AreOurs d g signer v verifier block after laws
 
-    follow : (first : Entry) (before : List Entry) (run : Run D) (entries : List Entry) → IsAtHead run → IsSure d run.disk entries
-        → AreRunSteps d g signer v verifier block (first ∷ before) run entries after → AreSent g signer after (first ∷ before)
-        → Ours run.peers → Ours after.peers
-    follow first before run [] at sure steps sent all = subst (λ (given : Run D). Ours given.peers) (sym steps) all
-    follow first before run (entry ∷ entries) at sure steps sent all =
-        let next = steps.0 in
-        let grows = grows_step first before run entry entries next at sure steps.1 in
-        let at_next = head_still run next at grows in
-        let sure_next = sure_later d run.disk next.disk entry entries steps.1.keeps sure in
-        let rest = grows_after first (before ++ entry ∷ []) next entries after at_next sure_next steps.2 in
-        follow first (before ++ entry ∷ []) next entries at_next sure_next steps.2
-        (sent_step after (first ∷ before) run entry next sent rest steps.1)
-        (ours_answered d g signer v verifier block after laws run all (first ∷ before) entry.asked entry.answer entry.outside next sent
-        (grows_on run next after grows rest) steps.1.answered)
+    no_peers : Ours []
+    no_peers = All-nil (IsPeerOf after.server.depth after.head.spi after.server.list)
 
-    pub stores_after : (disk : D) (name : Name) (limit place : ℕ) (entries : List Entry)
-        → IsHistory d g signer v verifier block (no_run disk name limit place) entries after → IsSure d disk entries → AreStores after
-    stores_after disk name limit place [] history sure =
-        subst (λ (given : Run D). Ours given.peers) (sym history.steps)
-        (All-nil (IsPeerOf after.server.depth after.head.spi after.server.list))
-    stores_after disk name limit place (entry ∷ entries) history sure =
-        let run = no_run disk name limit place in
-        let first = begins disk name limit place entry entries after history sure in
-        follow entry [] history.steps.0 entries first.at first.sure first.steps first.sent
-        (subst Ours
-        (sym (peers_first d g signer v verifier block run [] entry.asked entry.answer entry.outside history.steps.0 history.begins.0
-        history.steps.1.answered)) (All-nil (IsPeerOf after.server.depth after.head.spi after.server.list)))
+    -- so far all pushes are of the group at the end, and all stores
+    abbrev SoFar : List Entry → Run D → Type 0
+    SoFar before run = AreSent g signer after before × Ours run.peers
+
+    keeps_stores : (before : List Entry) (run : Run D) (entry : Entry) (next : Run D) → SoFar before run → IsStepTo before run entry next
+        → SoFar (before ++ entry ∷ []) next
+    keeps_stores before run entry next far step = (
+      keeps_sent before run entry next far.0 step,
+      ours_answered d g signer v verifier block after laws run far.1 before entry.asked entry.answer entry.outside next far.0 step.grows
+          step.step.answered,
+    )
+
+    pub stores_after : (entries : List Entry) → IsTrueHistory d g signer v verifier block entries after → AreStores after
+    stores_after [] history = subst (λ (given : Run D). Ours given.peers) (sym history.reads) no_peers
+    stores_after (entry ∷ entries) history =
+        let start = no_run history.disk history.name history.limit history.place in
+        let next = history.reads.0 in
+        let first = begin entry entries history in
+        let alone = peers_first d g signer block start entry.answer entry.outside next (first_by entry entries history) in
+        (along_keeps IsStepTo SoFar keeps_stores (entry ∷ []) next entries after (first.0, subst Ours (sym alone) no_peers) first.1).1

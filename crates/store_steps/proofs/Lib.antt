@@ -1,9 +1,8 @@
+pub mod FirstLemmas
 pub mod FrontLemmas
 pub mod GivenLemmas
 pub mod GrowLemmas
 pub mod HistoryLemmas
-pub mod KeyedLemmas
-pub mod MomentLemmas
 pub mod NumberLemmas
 pub mod OpenedLemmas
 pub mod PeerLemmas

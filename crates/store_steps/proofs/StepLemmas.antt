@@ -1,6 +1,6 @@
 -- Each step of a run leaves stores of its group.
-use Rattle.std.proofs.Common.{◌≡◌, ℕ, ◌+◌, ◌≤◌, true, List, Option, None, Some, length, take, refl, sym, subst, inl, inr}
-use Rattle.std.specs.Prelude.{Result}
+use Rattle.std.proofs.Common.{◌≡◌, ℕ, ◌+◌, ◌≤◌, true, false, Bool, List, Option, None, Some, length, take, refl, sym, subst, inl, inr}
+use Rattle.std.specs.Prelude.{MatchBool, Result}
 use Rattle.std.specs.List.{All}
 use Rattle.gd_disk.specs.declared.disks.Disk.{Ghosts as DiskGhosts}
 use Rattle.gd_edges.specs.declared.signers.Signer.{Ghosts as SignerGhosts}
@@ -36,9 +36,14 @@ use Rattle.group_steps.specs.Sent.{SentPush, last_push}
 use Rattle.group_steps.specs.Steps.{IsAnswered}
 use Rattle.store_steps.specs.Stores.{IsPeerOf}
 use Rattle.store_steps.proofs.FrontLemmas.{early, keyed_early, member_early}
-use Rattle.store_steps.proofs.GrowLemmas.{Grows, either_case, moved}
+use Rattle.store_steps.proofs.GrowLemmas.{Grows, moved}
 use Rattle.store_steps.proofs.PeerLemmas.{found, with_one, with_other}
 use Rattle.store_steps.proofs.SentLemmas.{AreSent, IsPushAt, last_at}
+
+-- one of two, by a test
+either_case : (b : Bool) (P Q R : Type 0) → MatchBool b P Q → (P → R) → (Q → R) → R
+either_case true P Q R given first second = first given
+either_case false P Q R given first second = second given
 
 -- what a member is told at an epoch makes a store of the group
 abbrev pub RepliesMake : ℕ → List ℕ → List Made → Type 0

@@ -1,12 +1,12 @@
 -- What follows of the steps of a run for the stores of its members (RFC 6407 section 4), said of every history.
-use Rattle.std.specs.Prelude.{◌≡◌, ℕ, ◌+◌, ◌<◌, ◌≤◌, true, false, List, [], ◌∷◌, ◌++◌, length, Some, IsSome}
+use Rattle.std.specs.Prelude.{◌≡◌, ◌≢◌, ◌⊎◌, ℕ, ◌+◌, ◌<◌, ◌≤◌, true, false, List, [], ◌∷◌, length, Some, IsSome}
 use Rattle.gd_disk.specs.declared.disks.Disk.{Ghosts as DiskGhosts}
 use Rattle.gd_edges.specs.declared.signers.Signer.{Ghosts as SignerGhosts}
 use Rattle.gd_edges.specs.declared.verifiers.Verifier.{Ghosts as VerifierGhosts}
 use Rattle.group_terms.specs.Names.{Name}
 use Rattle.group_terms.specs.declared.pushes.PushRefusal.{PushRefusal}
-use Rattle.group_values.specs.Values.{batches_made}
-use Rattle.group_model.specs.Legal.{is_open}
+use Rattle.group_terms.specs.declared.pushes.PushRefusal.TheVariants.{Malformed, NoPath, Stale}
+use Rattle.group_model.specs.Answers.{is_open}
 use Rattle.group_model.specs.Places.{Holders, holders_at, is_member}
 use Rattle.group_model.specs.Stayed.{sequence_at, stayed_at}
 use Rattle.group_model.specs.declared.entries.Answer.{Answer}
@@ -15,34 +15,67 @@ use Rattle.group_model.specs.declared.entries.Asked.TheVariants.{Deliver, Keep}
 use Rattle.group_model.specs.declared.entries.Entry.{Entry}
 use Rattle.group_model.specs.declared.entries.Outside.{Outside}
 use Rattle.group_peers.specs.Peers.{store_of}
-use Rattle.group_steps.specs.Laws.{IsSure}
 use Rattle.group_steps.specs.Runs.{Run, no_run}
 use Rattle.group_steps.specs.Sent.{last_push}
-use Rattle.group_steps.specs.Steps.{AreRunSteps, IsHistory, IsRunStep}
+use Rattle.group_steps.specs.Steps.{IsHistory, IsRunStep}
+use Rattle.group_steps.specs.TrueSteps.{AreTrueSteps, batches_in}
 use Rattle.member_roots.specs.Groups.{Checks, IsKeyedGroup}
-use Rattle.member_roots.specs.Roots.{HasKeysOf, HasTrafficOf, IsAtRoot}
-use Rattle.member_store.specs.Stores.{Store, root_epoch}
+use Rattle.member_roots.specs.Roots.{HasKeysOf, IsStoreOf}
+use Rattle.member_store.specs.Stores.{Store, leaf_of, root_epoch}
 use Rattle.store_steps.specs.Stores.{AreForOneRoot, AreStores}
 
 module _ {D : Type 0} where
   -- the number of the last push up to an epoch, and who has which leaf then
   abbrev pub number_at : Run D → ℕ → ℕ
-  number_at run epoch = sequence_at run.server.depth (batches_made run.server.list) epoch
+  number_at run epoch = sequence_at run.server.depth (batches_in run) epoch
 
   abbrev pub holders_in : Run D → ℕ → Holders
-  holders_in run epoch = holders_at run.server.depth (batches_made run.server.list) epoch
+  holders_in run epoch = holders_at run.server.depth (batches_in run) epoch
 
   -- a member has a store of which this holds
   abbrev pub HasThen : Run D → Name → (Store → Type 0) → Type 0
   HasThen run m P = (now : Store) × (store_of run.peers m ≡ Some now) × P now
 
+  -- a store is one that m may have in the group of a run, up to date or not
+  abbrev pub IsOurs : Run D → Name → Store → Type 0
+  IsOurs run m store = IsStoreOf run.server.depth run.head.spi run.server.list m store
+
+  -- it has all keys that m has at an epoch
+  abbrev pub HasKeysThen : Run D → ℕ → Name → Store → Type 0
+  HasKeysThen run epoch m store = HasKeysOf run.server.depth run.head.spi run.server.list epoch m store
+
+  -- ---- which push a number is that of
+
+  -- the membership push of the epoch after this one, sent under the root of this one
+  abbrev pub IsMembershipPush : Run D → ℕ → ℕ → Type 0
+  IsMembershipPush run number root = (number ≡ number_at run root + 1) × (stayed_at run.server.depth (batches_in run) (root + 1) ≡ true)
+
+  -- the traffic push of this epoch, sent under its root
+  abbrev pub IsTrafficPush : Run D → ℕ → ℕ → Type 0
+  IsTrafficPush run number root = (number ≡ number_at run root) × (stayed_at run.server.depth (batches_in run) root ≡ true)
+
+  -- Why a store refuses a push: it leads past its member; its number is not greater than that of the store, which the last reply or push set; or it was sent
+  -- under another root, and is malformed there at some place.
+  abbrev pub IsWhy : Run D → Store → ℕ → PushRefusal → Type 0
+  IsWhy run store number why =
+      (IsMembershipPush run number (root_epoch store) × (why ≡ NoPath (leaf_of store.path)))
+      ⊎ ((IsTrafficPush run number (root_epoch store) × (why ≡ Stale store.sequence number))
+      ⊎ ((root : ℕ) × (root ≢ root_epoch store) × (IsMembershipPush run number root ⊎ IsTrafficPush run number root)
+      × (at : ℕ) × (why ≡ Malformed at)))
+
 module _ {D G V : Type 0} (d : DiskGhosts D) (g : SignerGhosts G) (signer : G) (v : VerifierGhosts V) (verifier : V) (block : ℕ → List ℕ) where
-  -- a run after the first entries of a history
-  pub record IsMoment (start : Run D) (entries : List Entry) (after : Run D) (front : List Entry) (mid : Run D) : Type 0 where
-    pub later : List Entry
-    pub is : entries ≡ front ++ later
-    pub so_far : AreRunSteps d g signer v verifier block [] start front mid
-    pub goes_on : AreRunSteps d g signer v verifier block front mid later after
+  -- Of no push that the group of a run sends under the root of one epoch is a push read under that of another one: supposed of cipher and drawn keys.
+  abbrev pub AreApart : Run D → Type 0
+  AreApart run = AreForOneRoot g signer (v.kind_of verifier) run.server.depth run.head.spi run.server.list
+
+  -- a history of which each opening again found the group that there was
+  pub record IsTrueHistory (entries : List Entry) (after : Run D) : Type 0 where
+    pub disk : D
+    pub name : Name
+    pub limit : ℕ
+    pub place : ℕ
+    pub history : IsHistory d g signer v verifier block (no_run disk name limit place) entries after
+    pub reads : AreTrueSteps d g signer v verifier block [] (no_run disk name limit place) entries after
 
   -- A group that was made or found has keys: values that fit, an SPI of 16 octets, and epochs and numbers of 32 bits.
   abbrev pub OpenedGroupsHaveKeys : Type 0
@@ -51,76 +84,50 @@ module _ {D G V : Type 0} (d : DiskGhosts D) (g : SignerGhosts G) (signer : G) (
       → IsHistory d g signer v verifier block (no_run disk name limit place) (first ∷ later) after → is_open first.answer ≡ true
       → IsKeyedGroup after.server.depth after.head.spi after.server.list
 
-  -- A history whose openings found the group that there was. The verifier checks what the signer signs, and of no push is a push read under the root
-  -- of another epoch than that under which it was sent.
-  pub record IsKeyedHistory (entries : List Entry) (after : Run D) : Type 0 where
-    pub disk : D
-    pub name : Name
-    pub limit : ℕ
-    pub place : ℕ
-    pub history : IsHistory d g signer v verifier block (no_run disk name limit place) entries after
-    pub sure : IsSure d disk entries
-    pub checks : Checks g signer v verifier
-    pub for_one : AreForOneRoot g signer (v.kind_of verifier) after.server.depth after.head.spi after.server.list
-
-  -- Each store is one of the group: the keys of a member's path are those of some epoch, and its traffic key is that of this epoch or an earlier one, whatever
-  -- pushes came, in whatever order and how often.
+  -- Where keys are apart, each store is one of the group, whatever pushes came, in whatever order and how often.
   abbrev pub StoresAreOfTheGroup : Type 0
-  StoresAreOfTheGroup = (entries : List Entry) (after : Run D) → IsKeyedHistory entries after → AreStores after
+  StoresAreOfTheGroup = (entries : List Entry) (after : Run D) → IsTrueHistory entries after → Checks g signer v verifier → AreApart after → AreStores after
 
-  -- Each moment of such a history is the end of one, from the first request on.
-  abbrev pub MomentsAreKeyed : Type 0
-  MomentsAreKeyed =
-      (entries : List Entry) (after : Run D) (keyed : IsKeyedHistory entries after) (first : Entry) (front : List Entry) (mid : Run D)
-      → IsMoment (no_run keyed.disk keyed.name keyed.limit keyed.place) entries after (first ∷ front) mid
-      → IsKeyedHistory (first ∷ front) mid
-
-  -- What a member is told after a history is never older than what its store has: it is kept, and the member has the keys of the present epoch then (RFC 6407
-  -- section 3.2).
+  -- What a member is told is kept, if it has no store yet or one of the group, and it has all keys of the present epoch then (RFC 6407 section 3.2).
   abbrev pub RepliesAreKept : Type 0
   RepliesAreKept =
-      (before : List Entry) (run : Run D) (m : Name) (answer : Answer) (outside : Outside) (next : Run D)
-      → IsKeyedHistory before run
+      (disk : D) (name : Name) (limit place : ℕ) (before : List Entry) (run : Run D) (m : Name) (answer : Answer) (outside : Outside) (next : Run D)
+      → IsHistory d g signer v verifier block (no_run disk name limit place) before run
+      → ((store : Store) → store_of run.peers m ≡ Some store → IsOurs run m store)
       → IsRunStep d g signer v verifier block before run (record { asked = Keep m; outside = outside; answer = answer }) next
-      → (answer ≡ Kept (length run.server.list))
-      × HasThen next m (λ (now : Store). HasKeysOf run.server.depth run.head.spi run.server.list (length run.server.list) m now)
+      → (answer ≡ Kept (length run.server.list)) × HasThen next m (HasKeysThen run (length run.server.list) m)
 
-  -- After a history a member with this store is given the last push of a number; one at least was sent.
+  -- a member with this store, which is one of the group, is given the last push of a number, of which one at least was sent
   pub record IsGivenPush (before : List Entry) (run : Run D) (m : Name) (store : Store) (number : ℕ) (answer : Answer) (next : Run D) : Type 0 where
-    pub keyed : IsKeyedHistory before run
+    pub history : IsTrueHistory before run
     pub had : store_of run.peers m ≡ Some store
+    pub ours : IsOurs run m store
     pub sent : IsSome (last_push before number)
     pub outside : Outside
-    pub step : IsRunStep d g signer v verifier block before run
-        (record { asked = Deliver m number; outside = outside; answer = answer }) next
+    pub step : IsRunStep d g signer v verifier block before run (record { asked = Deliver m number; outside = outside; answer = answer }) next
 
-  -- A member takes the membership push of the epoch after that of its store's root, if it stays over that epoch, and is then at the new root: whatever traffic
-  -- pushes it missed, and however late the push comes.
+  -- It takes the membership push of the epoch after that of its root, if it stays over that epoch, and is at that root then, whatever it missed before.
   abbrev pub MembershipPushesAreTaken : Type 0
   MembershipPushesAreTaken =
-      (before : List Entry) (run : Run D) (m : Name) (store : Store) (answer : Answer) (next : Run D)
+      (before : List Entry) (run : Run D) (m : Name) (store : Store) (answer : Answer) (next : Run D) → Checks g signer v verifier
       → IsGivenPush before run m store (number_at run (root_epoch store) + 1) answer next
       → is_member (holders_in run (root_epoch store + 1)) m ≡ true
       → (answer ≡ TookRoot (root_epoch store + 1))
-      × HasThen next m (λ (now : Store). IsAtRoot run.server.depth run.head.spi run.server.list (root_epoch store + 1) m now)
+      × HasThen next m (λ (now : Store). IsOurs run m now × (root_epoch now ≡ root_epoch store + 1))
 
-  -- It takes the traffic push of the epoch of its store's root, if the store has accepted none of that number, and has that traffic key then.
+  -- It takes the traffic push of the epoch of its root, if its number is greater than the store's, and has all keys of that epoch then.
   abbrev pub TrafficPushesAreTaken : Type 0
   TrafficPushesAreTaken =
-      (before : List Entry) (run : Run D) (m : Name) (store : Store) (answer : Answer) (next : Run D)
+      (before : List Entry) (run : Run D) (m : Name) (store : Store) (answer : Answer) (next : Run D) → Checks g signer v verifier
       → IsGivenPush before run m store (number_at run (root_epoch store)) answer next
-      → stayed_at run.server.depth (batches_made run.server.list) (root_epoch store) ≡ true
-      → store.sequence < number_at run (root_epoch store)
-      → (answer ≡ TookTraffic (root_epoch store))
-      × HasThen next m (λ (now : Store). HasTrafficOf run.server.list (root_epoch store) now)
+      → stayed_at run.server.depth (batches_in run) (root_epoch store) ≡ true → store.sequence < number_at run (root_epoch store)
+      → (answer ≡ TookTraffic (root_epoch store)) × HasThen next m (HasKeysThen run (root_epoch store) m)
 
-  -- Any other push is refused, and leaves the store as it was: the membership push of the next epoch to a member that does not stay over it, the traffic push of
-  -- that of its root which it accepted before, and each push that was sent under another root.
+  -- Where keys are apart, it refuses any other push that was sent, for the reason that there is, and its store stays.
   abbrev pub OthersAreRefused : Type 0
   OthersAreRefused =
-      (before : List Entry) (run : Run D) (m : Name) (store : Store) (number : ℕ) (answer : Answer) (next : Run D)
-      → IsGivenPush before run m store number answer next
+      (before : List Entry) (run : Run D) (m : Name) (store : Store) (number : ℕ) (answer : Answer) (next : Run D) → Checks g signer v verifier
+      → AreApart run → IsGivenPush before run m store number answer next
       → (number ≡ number_at run (root_epoch store) + 1 → is_member (holders_in run (root_epoch store + 1)) m ≡ false)
-      → (number ≡ number_at run (root_epoch store) → stayed_at run.server.depth (batches_made run.server.list) (root_epoch store) ≡ true
-      → number ≤ store.sequence)
-      → (why : PushRefusal) × (answer ≡ PushRefused why) × HasThen next m (λ (now : Store). now ≡ store)
+      → (IsTrafficPush run number (root_epoch store) → number ≤ store.sequence)
+      → (why : PushRefusal) × (answer ≡ PushRefused why) × IsWhy run store number why × HasThen next m (λ (now : Store). now ≡ store)

@@ -1,12 +1,12 @@
 //! What follows of the steps of a run for stores.
 ghost use Rattle.std.specs.Prelude.{ℕ, List};
-ghost use Rattle.store_steps.specs.Follow.{MembershipPushesAreTaken, MomentsAreKeyed, OpenedGroupsHaveKeys, OthersAreRefused, RepliesAreKept};
+ghost use Rattle.store_steps.specs.Follow.{MembershipPushesAreTaken, OpenedGroupsHaveKeys, OthersAreRefused, RepliesAreKept};
 ghost use Rattle.store_steps.specs.Follow.{StoresAreOfTheGroup, TrafficPushesAreTaken};
 
 use gd_disk::Disk;
 use gd_edges::{Signer, Verifier};
 use group_model::first_epochs_stay;
-use group_steps::a_history_is_legal_by_names;
+use group_steps::{a_history_leaves_a_valid_list, each_step_is_of_a_kind};
 use member_roots::{
     a_due_push_is_taken, a_later_reply_is_not_older, a_member_that_left_finds_no_path,
     a_push_under_another_root_is_malformed, a_repeated_push_is_stale, a_reply_is_at_its_root,
@@ -17,36 +17,32 @@ use member_roots::{
 pub fn an_opened_group_has_keys<D: Disk, G: Signer, V: Verifier>()
     ensures { (signer : G) (verifier : V) (block : ℕ → List ℕ) → OpenedGroupsHaveKeys D.Disk G.Signer signer V.Verifier verifier block }
 {
-    a_history_is_legal_by_names::<D, G, V>();
+    a_history_leaves_a_valid_list::<D, G, V>();
+    each_step_is_of_a_kind::<D, G, V>();
 }
 
-/// Along a history each store is one of the group.
+/// After a history that reads true each store is one of the group, where keys are apart.
 pub fn each_store_is_one_of_the_group<D: Disk, G: Signer, V: Verifier>()
     ensures { (signer : G) (verifier : V) (block : ℕ → List ℕ) → StoresAreOfTheGroup D.Disk G.Signer signer V.Verifier verifier block }
 {
     an_opened_group_has_keys::<D, G, V>();
+    each_step_is_of_a_kind::<D, G, V>();
     a_reply_is_at_its_root();
     a_store_at_a_root_has_its_epoch();
     a_sent_push_leaves_a_store_of_its_group::<G, V>();
 }
 
-/// Each moment of a keyed history is the end of one. So what holds after each history holds at each moment.
-pub fn each_moment_is_of_a_keyed_history<D: Disk, G: Signer, V: Verifier>()
-    ensures { (signer : G) (verifier : V) (block : ℕ → List ℕ) → MomentsAreKeyed D.Disk G.Signer signer V.Verifier verifier block }
-{}
-
-/// After a history a member keeps what it is told, which is never older than what it has, and has the keys of the present epoch then.
+/// After a history a member keeps what it is told, which is never older than a store of the group, and has all keys of the present epoch then.
 pub fn a_reply_is_kept_in_a_history<D: Disk, G: Signer, V: Verifier>()
     ensures { (signer : G) (verifier : V) (block : ℕ → List ℕ) → RepliesAreKept D.Disk G.Signer signer V.Verifier verifier block }
 {
     an_opened_group_has_keys::<D, G, V>();
     a_reply_is_at_its_root();
     a_later_reply_is_not_older();
-    each_store_is_one_of_the_group::<D, G, V>();
 }
 
-/// After a history a member takes the push that is due to its store: the membership push of the epoch after that of its root, over which it
-/// stays, and the traffic push of that of its root, if it accepted none of that number.
+/// After a history that reads true a member takes the push that is due to its store of the group: the membership push of the epoch after that
+/// of its root, over which it stays, and the traffic push of that of its root, if it accepted none of that number.
 pub fn a_due_push_is_taken_in_a_history<D: Disk, G: Signer, V: Verifier>()
     ensures membership { (signer : G) (verifier : V) (block : ℕ → List ℕ) →
         MembershipPushesAreTaken D.Disk G.Signer signer V.Verifier verifier block }
@@ -55,17 +51,19 @@ pub fn a_due_push_is_taken_in_a_history<D: Disk, G: Signer, V: Verifier>()
 {
     first_epochs_stay();
     an_opened_group_has_keys::<D, G, V>();
-    each_store_is_one_of_the_group::<D, G, V>();
+    each_step_is_of_a_kind::<D, G, V>();
     a_due_push_is_taken::<G, V>();
+    a_store_at_a_root_has_its_epoch();
 }
 
-/// After a history a member refuses any other push, and its store stays.
+/// After a history that reads true a member with a store of the group refuses any other push, where keys are apart: the refusal says why, and
+/// the store stays.
 pub fn any_other_push_is_refused_in_a_history<D: Disk, G: Signer, V: Verifier>()
     ensures { (signer : G) (verifier : V) (block : ℕ → List ℕ) → OthersAreRefused D.Disk G.Signer signer V.Verifier verifier block }
 {
     first_epochs_stay();
     an_opened_group_has_keys::<D, G, V>();
-    each_store_is_one_of_the_group::<D, G, V>();
+    each_step_is_of_a_kind::<D, G, V>();
     a_repeated_push_is_stale::<G, V>();
     a_member_that_left_finds_no_path::<G, V>();
     a_push_under_another_root_is_malformed::<G, V>();

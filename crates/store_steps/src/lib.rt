@@ -3,8 +3,7 @@
 
 pub use laws::{
     a_due_push_is_taken_in_a_history, a_reply_is_kept_in_a_history, an_opened_group_has_keys,
-    any_other_push_is_refused_in_a_history, each_moment_is_of_a_keyed_history,
-    each_store_is_one_of_the_group,
+    any_other_push_is_refused_in_a_history, each_store_is_one_of_the_group,
 };
 
 mod laws;

@@ -1,5 +1,5 @@
 -- What earlier runs gave and sent is part of the same world.
-use Rattle.std.proofs.Common.{◌≡◌, ℕ, List, ◌++◌, map, take, subst, inl, inr}
+use Rattle.std.proofs.Common.{ℕ, List, ◌++◌, map, take, subst, inl, inr}
 use Rattle.std.specs.Prelude.{Contains}
 use Rattle.std.specs.List.{flat_map}
 use Rattle.std.proofs.lemmas.List.Concat.{flat_map-append}

@@ -1,4 +1,3 @@
-pub mod AnswerLemmas
 pub mod ClosureLemmas
 pub mod ContainLemmas
 pub mod DerivationLemmas
@@ -7,16 +6,12 @@ pub mod EpochLemmas
 pub mod ExtendLemmas
 pub mod FirstLemmas
 pub mod GraphLemmas
-pub mod KindLemmas
 pub mod KnowledgeLemmas
 pub mod LeafLemmas
-pub mod LongerLemmas
 pub mod MarkLemmas
 pub mod MemberLemmas
 pub mod PlaceLemmas
 pub mod PrefixLemmas
 pub mod SecrecyLemmas
-pub mod SentLemmas
 pub mod ServeLemmas
-pub mod TellLemmas
 pub mod ToldLemmas

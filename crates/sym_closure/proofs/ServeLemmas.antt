@@ -1,19 +1,15 @@
 -- What a history tells of who derives which traffic key.
-use Rattle.std.proofs.Common.{◌≡◌, ℕ, ◌+◌, ◌≤◌, Bool, true, false, cond, ltb, leb, ◌&&◌, List, [], ◌∷◌, length, map, sym, refl, ap, ◌∙◌, subst, arith, inl, inr}
+use Rattle.std.proofs.Common.{◌≡◌, ℕ, ◌≤◌, Bool, true, false, cond, ltb, leb, ◌&&◌, List, [], ◌∷◌, map, sym, refl, subst, arith}
 use Rattle.std.specs.Prelude.{Contains}
 use Rattle.std.specs.List.{filter, flat_map, list_any}
 use Rattle.std.proofs.lemmas.Bool.{ltb-true, false≢true}
-use Rattle.std.proofs.lemmas.List.{append-nil}
 use Rattle.std.proofs.lemmas.List.Elements.{Contains-append_right}
 use Rattle.std.proofs.lemmas.Slice.Eq.{bytes_eq-Decides}
 use Rattle.group_terms.specs.Names.{Name, same_name}
 use Rattle.group_terms.specs.declared.changes.Change.{Change}
-use Rattle.group_terms.specs.declared.keys.KeyName.{KeyName}
 use Rattle.group_terms.specs.declared.keys.KeyName.TheVariants.{Traffic, Phase}
-use Rattle.group_terms.specs.declared.keys.Wrap.{Wrap}
 use Rattle.group_model.specs.Places.{IsValid}
 use Rattle.group_model.specs.Wraps.{wraps_at}
-use Rattle.group_model.specs.Growth.{IsReplyOf}
 use Rattle.group_model.specs.Derivations.{CanDerive, names_to, replies_in, replies_sent, held_names, pairs_in, pairs_sent}
 use Rattle.group_model.specs.declared.entries.Entry.{Entry}
 use Rattle.group_model.specs.declared.entries.SymReply.{SymReply}
@@ -21,8 +17,8 @@ use Rattle.group_model.specs.Laws.{Laws}
 use Rattle.key_ways.specs.Laws.{Laws as Ways}
 use Rattle.sym_closure.specs.Firsts.{AreAmong}
 use Rattle.sym_closure.specs.Worlds.{epochs_of, world, holdings, wraps_since}
-use Rattle.sym_closure.specs.Secrecy.{first_epoch, HasMember, IsMemberThrough}
-use Rattle.sym_closure.specs.Serving.{HistoriesServeMembers, IsPartOfWorld, OnlyMembersDerive, RepliedMembersDerive, RepliedMembersDeriveBySent, SendsItsWraps, ServesMembers}
+use Rattle.sym_closure.specs.Secrecy.{first_epoch}
+use Rattle.sym_closure.specs.Serving.{HistoriesServeMembers, OnlyMembersDerive, RepliedMembersDerive, ServesMembers}
 use Rattle.sym_closure.proofs.FirstLemmas.{no_item}
 use Rattle.sym_closure.proofs.ContainLemmas.{Contains-from_filter, Contains-flat_map, Contains-from_flat_map, passes_in}
 use Rattle.sym_closure.proofs.DerivationLemmas.{CanDerive-among}

@@ -1,5 +1,5 @@
--- Who can derive which key (forward and backward access control, RFC 6407 section 7.4), and what a history has sent.
-use Rattle.std.specs.Prelude.{◌≡◌, ℕ, ◌+◌, ◌^◌, ◌<◌, ◌≤◌, true, false, List, [], ◌∷◌, ◌++◌, length, Contains, None, Some, slice_index_or}
+-- Who can derive which key (forward and backward access control, RFC 6407 section 7.4), said of every list of batches.
+use Rattle.std.specs.Prelude.{◌≡◌, ℕ, ◌+◌, ◌^◌, ◌<◌, ◌≤◌, true, false, List, [], ◌∷◌, length, Contains, None, Some, slice_index_or}
 use Rattle.std.specs.List.{list_any}
 use Rattle.std.specs.Option.{unwrap_or}
 use Rattle.group_terms.specs.Names.{Name}
@@ -8,17 +8,11 @@ use Rattle.group_terms.specs.declared.changes.Change.{Change}
 use Rattle.group_terms.specs.declared.keys.KeyName.{KeyName}
 use Rattle.group_terms.specs.declared.keys.KeyName.TheVariants.{Node, Traffic, Phase}
 use Rattle.group_model.specs.declared.entries.Entry.{Entry}
-use Rattle.group_model.specs.declared.entries.SymReply.{SymReply}
-use Rattle.group_model.specs.declared.entries.Asked.TheVariants.{Derive}
-use Rattle.group_model.specs.declared.entries.Answer.TheVariants.{Derived}
 use Rattle.group_model.specs.Places.{is_held_by, is_member, holders_at}
 use Rattle.group_model.specs.Fresh.{last_change}
-use Rattle.group_model.specs.Wraps.{wraps_at}
-use Rattle.group_model.specs.Groups.{Reading, depth_after, batches_after}
-use Rattle.group_model.specs.Legal.{found_by}
-use Rattle.group_model.specs.Derivations.{CanDerive, replies_sent, held_names, pairs_in, pairs_sent}
-use Rattle.sym_closure.specs.Firsts.{AreAmong}
-use Rattle.sym_closure.specs.Worlds.{epochs_of, keys_told, world, holdings, wraps_since}
+use Rattle.group_model.specs.Answers.{found_by}
+use Rattle.group_model.specs.Derivations.{CanDerive}
+use Rattle.sym_closure.specs.Worlds.{keys_told, world, holdings, wraps_since}
 
 module _ (depth : ℕ) (batches : List (List Change)) where
   -- No coalition derives the traffic key of an epoch at which none of them is a member, from all that they can ever be given, at epochs
@@ -82,37 +76,3 @@ module _ (depth : ℕ) (batches : List (List Change)) where
 abbrev pub first_epoch : List Entry → ℕ
 first_epoch [] = 0
 first_epoch (entry ∷ entries) = unwrap_or (found_by entry.answer) 0
-
--- Said of a history, what its openings read, and the batches that it leaves.
-module _ (readings : List Reading) (entries : List Entry) where
-  -- Of each epoch from the first one on some entry sent all the encryptions.
-  abbrev pub SendsItsWraps : Type 0
-  SendsItsWraps =
-      (epoch : ℕ) → Contains (epochs_of (batches_after readings entries)) epoch → first_epoch entries ≤ epoch
-      → (entry : Entry) × Contains entries entry × AreAmong (wraps_at (depth_after readings entries) (batches_after readings entries) epoch) (pairs_in entry.answer)
-
-  -- All that was sent is among what can ever be sent, and all that a coalition was given among what it can ever be given.
-  pub record IsPartOfWorld : Type 0 where
-    pub sent : AreAmong (pairs_sent entries) (world (depth_after readings entries) (batches_after readings entries))
-    pub held : (coalition : List Name) → AreAmong (held_names entries coalition) (holdings (depth_after readings entries) (batches_after readings entries) coalition)
-
-  -- From all that it was given, and all that was sent, no coalition derives the traffic key of an epoch at which none of them is a member.
-  abbrev pub NoOthersDeriveFrom : Type 0
-  NoOthersDeriveFrom =
-      (epoch : ℕ) (coalition : List Name) → list_any (is_member (holders_at (depth_after readings entries) (batches_after readings entries) epoch)) coalition ≡ false
-      → CanDerive (held_names entries coalition) (pairs_sent entries) (Traffic epoch) → ⊥
-
-  -- A member that was sent a reply derives from its keys the traffic key of each epoch through which it stayed a member since.
-  abbrev pub RepliedMembersDerive : Type 0
-  RepliedMembersDerive =
-      (reply : SymReply) (epoch : ℕ) → Contains (replies_sent entries) reply → reply.keyed_epoch ≤ epoch → epoch ≤ length (batches_after readings entries)
-      → IsMemberThrough (depth_after readings entries) (batches_after readings entries) reply.keyed_epoch epoch reply.member
-      → CanDerive reply.names (wraps_since (depth_after readings entries) (batches_after readings entries) reply.keyed_epoch epoch) (Traffic epoch)
-
-  -- A request whether some names derive the traffic key of an epoch is answered yes only where that epoch was made before, and one of
-  -- them is a member of it.
-  abbrev pub YesIsOfMembers : Type 0
-  YesIsOfMembers =
-      (before later : List Entry) (entry : Entry) (epoch : ℕ) (names : List Name) → entries ≡ before ++ entry ∷ later
-      → entry.asked ≡ Derive epoch names → entry.answer ≡ Derived true
-      → HasMember (depth_after readings before) (batches_after readings before) names epoch

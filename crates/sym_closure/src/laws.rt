@@ -1,16 +1,14 @@
-//! Who can derive which key, said of every list of batches and of every history.
+//! Who can derive which key, said of every list of batches and of the entries among which they came.
 ghost use Rattle.std.specs.Prelude.{ℕ, ◌≤◌, ◌++◌, List, take};
 ghost use Rattle.group_terms.specs.Names.{Name};
 ghost use Rattle.group_terms.specs.declared.changes.Change.{Change};
 ghost use Rattle.group_model.specs.declared.entries.Entry.{Entry};
 ghost use Rattle.group_model.specs.Places.{IsValid};
-ghost use Rattle.group_model.specs.Groups.{Reading};
-ghost use Rattle.group_model.specs.Legal.{IsLegalHistory};
 ghost use Rattle.sym_closure.specs.Firsts.{AreAmong};
 ghost use Rattle.sym_closure.specs.Knowledge.{Known, Knows};
 ghost use Rattle.sym_closure.specs.Serving.{EarlierRunsServeNobodyElse, HistoriesServeMembers};
 ghost use Rattle.sym_closure.specs.Worlds.{world, holdings};
-ghost use Rattle.sym_closure.specs.Secrecy.{NoOthersDerive, NobodyDerivesYet, DerivesOnlyWithinReach, MembersDerive, SendsItsWraps, IsPartOfWorld, NoOthersDeriveFrom, RepliedMembersDerive, YesIsOfMembers};
+ghost use Rattle.sym_closure.specs.Secrecy.{NoOthersDerive, NobodyDerivesYet, DerivesOnlyWithinReach, MembersDerive};
 
 use group_model::laws_hold;
 use key_ways::each_law_holds;
@@ -40,27 +38,6 @@ pub fn a_longer_list_has_a_larger_world()
     ensures held { (depth n : ℕ) (batches : List (List Change)) (coalition : List Name) → AreAmong (holdings depth (take n batches) coalition) (holdings depth batches coalition) }
 {
     laws_hold();
-}
-
-/// A history has sent the encryptions of each of its epochs, from that at which it was opened on. It has sent and given nothing that its
-/// batches cannot send and give.
-pub fn a_history_is_part_of_its_world()
-    ensures wraps { (readings : List Reading) (entries : List Entry) → IsLegalHistory readings entries → SendsItsWraps readings entries }
-    ensures part { (readings : List Reading) (entries : List Entry) → IsLegalHistory readings entries → IsPartOfWorld readings entries }
-{
-    laws_hold();
-}
-
-/// From what a history gave them and what it sent, no coalition derives the traffic key of an epoch at which none of them is a member.
-/// A member that was sent a reply derives those of the epochs through which it stays, by the encryptions since. The question
-/// whether names derive one is answered yes only for a member.
-pub fn a_history_serves_its_members_alone()
-    ensures others { (readings : List Reading) (entries : List Entry) → IsLegalHistory readings entries → NoOthersDeriveFrom readings entries }
-    ensures members { (readings : List Reading) (entries : List Entry) → IsLegalHistory readings entries → RepliedMembersDerive readings entries }
-    ensures yes { (readings : List Reading) (entries : List Entry) → IsLegalHistory readings entries → YesIsOfMembers readings entries }
-{
-    laws_hold();
-    each_law_holds();
 }
 
 /// Entries that leave a valid list of batches serve its members, and nobody else; nor do they with what earlier runs over the journal gave and sent.

@@ -7,8 +7,7 @@ pub use derivations::is_derivation;
 pub use group_model::Derivation;
 pub use histories::{held, sent_pairs};
 pub use laws::{
-    a_history_is_part_of_its_world, a_history_serves_its_members,
-    a_history_serves_its_members_alone, a_longer_list_has_a_larger_world, members_derive,
+    a_history_serves_its_members, a_longer_list_has_a_larger_world, members_derive,
     no_others_derive, what_is_known_stays_known,
 };
 pub use sent::Sent;

@@ -1,7 +1,7 @@
 -- How the report of one entry breaks off.
 use Rattle.std.specs.Prelude.{◌≡◌, true}
 use Rattle.gd_edges.specs.Shown.{Shown}
-use Rattle.group_model.specs.Legal.{ran_out}
+use Rattle.group_model.specs.Answers.{ran_out}
 use Rattle.group_model.specs.declared.entries.Entry.{Entry}
 use Rattle.script_text.specs.Report.{entry_text}
 use Rattle.run_report.specs.declared.stops.Stop.{Stop}

@@ -1,12 +1,13 @@
 use Rattle.std.proofs.Common.{false, [], refl, subst}
 use Rattle.std.proofs.KnownBytes.{Consumes-nil}
 use Rattle.std.proofs.lemmas.Bool.{false≢true}
-use Rattle.group_values.specs.Values.{batches_made}
+use Rattle.group_steps.specs.TrueSteps.{batches_in}
 use Rattle.console_run.specs.Causes.{Given}
 use Rattle.console_run.specs.Devices.{devices, keying}
 use Rattle.console_run.specs.Promises.{Promises, console_name, request_of, start_of, streams_of}
 use Rattle.console_run.proofs.PromiseLemmas.{leaves_moments, opens_group, ran_history, ran_whole}
-use Rattle.console_run.proofs.StoreLemmas.{stores_follow}
+use Rattle.console_run.proofs.ServeLemmas.{few_at, serves_along, true_at, valid_at}
+use Rattle.console_run.proofs.StoreLemmas.{keeps_replies, stores_follow}
 use Rattle.console_run.proofs.consoles.console.Goals as goal
 
 pub returns-in-Some-clause-run : goal.returns-in-Some-clause-run
@@ -25,10 +26,11 @@ returns-in-Some-clause-run g c =
     let disk = c.run_command.result.disk in
     let start = start_of command c.args.disk place in
     let streams = streams_of ran.given had left was now in
-    let list = batches_made ran.after.server.list in
     let history = ran_history on by (request_of command.opening) start (opens_group command.opening) streams ending entries ran.after ran.run in
-    let valid = c.a_history_is_legal_by_names.ensures.valid by.signer on.verifier by.block c.args.disk console_name command.limit place entries ran.after
-    history in
+    let lists = c.a_history_leaves_a_valid_list.ensures.valid by.signer on.verifier by.block in
+    let ends = c.each_moment_ends_a_history.ensures by.signer on.verifier by.block in
+    let sure = c.a_group_grows_by_what_is_sent.ensures.sure by.signer on.verifier by.block in
+    let valid = valid_at on by ends lists c.args.disk console_name command.limit place entries ran.after history in
     let counted = c.faults_are_counted.ensures.counted by.signer on.verifier by.block [] start entries ran.after history.steps in (
       ran.given,
       subst (λ asked. Promises on by asked streams place ending entries c.args.disk disk) c.in-Some.ensures.command (record {
@@ -42,29 +44,21 @@ returns-in-Some-clause-run g c =
               ending ran.run;
           history = history;
           valid = valid;
-          secrecy = c.no_others_derive.ensures.traffic ran.after.server.depth list;
-          to_come = c.no_others_derive.ensures.to_come ran.after.server.depth list;
-          members = λ deep. c.members_derive.ensures ran.after.server.depth list deep valid;
-          by_names = λ sure.
-              let legal = c.a_history_is_legal_by_names.ensures.legal by.signer on.verifier by.block in
-              let named = legal c.args.disk console_name command.limit place entries ran.after history sure in
-              record {
-                readings = named.0;
-                legal = named.1;
-                leaves = named.2;
-                world = c.a_history_is_part_of_its_world.ensures.part named.0 entries named.1;
-                others = c.a_history_serves_its_members_alone.ensures.others named.0 entries named.1;
-                wraps = c.a_history_is_part_of_its_world.ensures.wraps named.0 entries named.1;
-                members = c.a_history_serves_its_members_alone.ensures.members named.0 entries named.1;
-                yes = c.a_history_serves_its_members_alone.ensures.yes named.0 entries named.1;
-                own = c.questions_of_members_are_answered_yes.ensures named.0 entries named.1;
-              };
-          stores = λ sure apart.
-              stores_follow on by (c.each_store_is_one_of_the_group.ensures by.signer on.verifier by.block)
-              (c.each_moment_is_of_a_keyed_history.ensures by.signer on.verifier by.block)
+          secrecy = λ front mid moment. c.no_others_derive.ensures.traffic mid.server.depth (batches_in mid);
+          to_come = λ front mid moment. c.no_others_derive.ensures.to_come mid.server.depth (batches_in mid);
+          members = λ front mid moment deep. c.members_derive.ensures mid.server.depth (batches_in mid) deep (valid front mid moment);
+          few_wraps = few_at on by ends lists c.args.disk console_name command.limit place entries ran.after history c.a_batch_encrypts_few.ensures.few;
+          sure = true_at on by ends lists c.args.disk console_name command.limit place entries ran.after history sure;
+          serves = serves_along on by ends lists c.args.disk console_name command.limit place entries ran.after history
+              (c.a_group_grows_by_what_is_sent.ensures.grows by.signer on.verifier by.block) c.a_history_serves_its_members.ensures.serves sure
+              c.a_history_serves_its_members.ensures.earlier;
+          replies = keeps_replies on by ends c.args.disk console_name command.limit place entries ran.after history
+              (c.a_reply_is_kept_in_a_history.ensures by.signer on.verifier by.block);
+          stores = stores_follow on by ends c.args.disk console_name command.limit place entries ran.after history
               (c.a_due_push_is_taken_in_a_history.ensures.membership by.signer on.verifier by.block)
               (c.a_due_push_is_taken_in_a_history.ensures.traffic by.signer on.verifier by.block)
-              c.args.disk console_name command.limit place entries ran.after history sure apart;
+              (c.any_other_push_is_refused_in_a_history.ensures by.signer on.verifier by.block)
+              (c.each_store_is_one_of_the_group.ensures by.signer on.verifier by.block);
           crash = leaves_moments on by (c.a_crash_leaves_a_moment_of_the_history.ensures.opened by.signer on.verifier by.block)
               (c.a_crash_leaves_a_moment_of_the_history.ensures.crashes by.signer on.verifier by.block) start entries ran.after history;
           faults = rw (← ran.left_disk) counted;

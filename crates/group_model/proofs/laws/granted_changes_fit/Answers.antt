@@ -1,5 +1,4 @@
-use Rattle.group_model.proofs.HistoryLemmas.{Fits-granted_join}
-use Rattle.group_model.proofs.QueueLemmas.{Fits-leave}
+use Rattle.group_model.proofs.QueueLemmas.{Fits-granted_join, Fits-leave}
 use Rattle.group_model.proofs.laws.granted_changes_fit.Goals as goal
 
 pub returns-clause-joins : goal.returns-clause-joins

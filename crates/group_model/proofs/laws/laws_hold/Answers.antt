@@ -17,7 +17,4 @@ returns c = record {
   changes_few = c.a_batch_that_fits_has_few_changes.ensures.changes;
   joins_fit = c.granted_changes_fit.ensures.joins;
   leaves_fit = c.granted_changes_fit.ensures.leaves;
-  sound_first = c.a_history_leaves_a_sound_group.ensures.first;
-  sound_after = c.a_history_leaves_a_sound_group.ensures.step;
-  sound_histories = c.a_history_leaves_a_sound_group.ensures.history;
 }

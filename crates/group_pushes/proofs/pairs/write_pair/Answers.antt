@@ -54,10 +54,10 @@ returns g c list changes limit stands keeps drawn is_step =
     a_pair tree step list changes values limit stands drawn is_step laws kept keeps g.G.Signer signer c.args.spi.now pair between _ arrays c.keks.result.0 c.keks.result.1
     c.requires.room are (sym c.as_slice.ensures ∙ c.in-Some.ensures.cases.0) number
     (subst (AreArraysAfter kept values between) (sym c.as_slice-2.ensures) c.in_ok-arrays.ensures.arrays)
-    c.keks.ensures.old c.keks.ensures.new c.keks.ensures.old_iv c.keks.ensures.new_iv
+    c.keks.ensures.old c.keks.ensures.new c.keks.ensures.old_iv c.keks.ensures.new_iv c.in_ok-membership.ensures.kind
     (subst (λ head. IsPushText (g.G.Signer.signature signer) (g.G.Signer.size_of signer) c.keks.result.0
     (membership_push head (g.G.Signer.kind_of signer) arrays) c.in_ok-membership.membership)
-    (λ i. record { spi = ap (λ (head : PushHead). head.spi) c.heads.ensures.first i; sequence = c.heads.result.0.sequence }) c.in_ok-membership.ensures)
+    (λ i. record { spi = ap (λ (head : PushHead). head.spi) c.heads.ensures.first i; sequence = c.heads.result.0.sequence }) c.in_ok-membership.ensures.text)
     (subst (λ head. IsPushText (g.G.Signer.signature signer) (g.G.Signer.size_of signer) c.keks.result.1
     (traffic_push head values.traffic) c.in_ok-traffic.traffic)
     (c.heads.ensures.second ∙ ap (λ n. record { spi = c.args.spi.now; sequence = n }) c.sequence.ensures) c.in_ok-traffic.ensures)

@@ -26,7 +26,7 @@ returns-clause-membership g c signer verifier depth sent spi list m pair store n
           )
       | inr other ↦ (
           let refused = c.a_push_under_another_root_is_malformed.ensures.membership signer verifier depth (root_epoch store) sent spi list m pair store next result
-          group checks.fits from for_one is.root other step in
+          group from for_one is.root other step in
           subst (IsStoreOf depth spi list m) (sym refused.1.stays) is
           )
     ]

@@ -8,25 +8,24 @@ use Rattle.store_steps.proofs.OpenedLemmas.{keyed_or_alone}
 use Rattle.store_steps.proofs.laws.each_store_is_one_of_the_group.Goals as goal
 
 pub returns : goal.returns
-returns g c signer verifier block entries after keyed =
+returns g c signer verifier block entries after history checks apart =
     let depth = after.server.depth in
     let spi = after.head.spi in
     let list = after.server.list in
     let pushes = c.a_sent_push_leaves_a_store_of_its_group.ensures in
     elim (keyed_or_alone g.D.Disk g.G.Signer signer g.V.Verifier verifier block (c.an_opened_group_has_keys.ensures signer verifier block)
-    keyed.disk keyed.name keyed.limit keyed.place entries after keyed.history) [
-      | inl group ↦ stores_after g.D.Disk g.G.Signer signer g.V.Verifier verifier block after
+    history.disk history.name history.limit history.place entries after history.history) [
+      | inl group ↦ stores_after g.D.Disk g.G.Signer signer g.V.Verifier verifier block (c.each_step_is_of_a_kind.ensures signer verifier block) after
           (record {
             reply = λ epoch m told early member is.
                 c.a_store_at_a_root_has_its_epoch.ensures.of_group depth epoch spi list m (store_made told)
                 (c.a_reply_is_at_its_root.ensures depth epoch spi list m told group early member is).1;
             membership = λ sent m pair store next result at is step.
-                pushes.membership signer verifier depth sent spi list m pair store next result group keyed.checks at
-                (keyed.for_one.membership sent pair at) is step;
+                pushes.membership signer verifier depth sent spi list m pair store next result group checks at (apart.membership sent pair at) is step;
             traffic = λ sent m pair store next result at is step.
-                pushes.traffic signer verifier depth (sent + 1) spi list m pair store next result group keyed.checks at
-                (keyed.for_one.traffic (sent + 1) pair at) is step;
+                pushes.traffic signer verifier depth (sent + 1) spi list m pair store next result group checks at
+                (apart.traffic (sent + 1) pair at) is step;
           })
-          keyed.disk keyed.name keyed.limit keyed.place entries keyed.history keyed.sure
+          entries history
       | inr alone ↦ subst (All (IsPeerOf depth spi list)) (sym alone) (All-nil (IsPeerOf depth spi list))
     ]

@@ -1,0 +1,140 @@
+-- At each moment of the console's history, and along each stretch of it: what follows by the laws on histories.
+use Rattle.std.proofs.Common.{◌≡◌, ◌∙◌, ℕ, ◌+◌, ◌≤◌, true, Bool, List, [], ◌∷◌, ◌++◌, length, sym, refl, ap, subst, inl, inr}
+use Rattle.std.proofs.lemmas.List.{length-append, map-append}
+use Rattle.group_terms.specs.Names.{Name}
+use Rattle.group_terms.specs.declared.changes.Change.{Change}
+use Rattle.group_terms.specs.declared.keys.Wrap.{Wrap}
+use Rattle.group_values.specs.Values.{Made, batches_made}
+use Rattle.group_model.specs.Growth.{Leaves}
+use Rattle.group_model.specs.Places.{IsValid}
+use Rattle.group_model.specs.Servers.{coming_batch, coming_values}
+use Rattle.group_model.specs.WrapCounts.{WrapsAreFew, most_wraps}
+use Rattle.group_model.specs.Wraps.{wraps_at}
+use Rattle.group_model.specs.declared.entries.Answer.{Answer}
+use Rattle.group_model.specs.declared.entries.Answer.TheVariants.{Batched, Derived}
+use Rattle.group_model.specs.declared.entries.Asked.TheVariants.{Batch}
+use Rattle.group_model.specs.declared.entries.Entry.{Entry}
+use Rattle.group_model.specs.declared.entries.Output.{Output}
+use Rattle.group_model.specs.declared.entries.Outside.{Outside}
+use Rattle.group_steps.specs.Batches.{IsBatching}
+use Rattle.group_steps.specs.ChainLaws.{along_on}
+use Rattle.group_steps.specs.Changes.{IsQuestion}
+use Rattle.group_steps.specs.Laws.{IsSure, LeavesValidList}
+use Rattle.group_steps.specs.Moments.{MomentsEndHistories}
+use Rattle.group_steps.specs.Runs.{Run, no_run}
+use Rattle.group_steps.specs.TrueSteps.{SureStepsAreTrue, TrueStepsGrow, batches_in}
+use Rattle.sym_closure.specs.Serving.{EarlierRunsServeNobodyElse, HistoriesServeMembers, SaysWhoDerives, ServesMembers}
+use Rattle.console_run.specs.Devices.{Devices, HasMoment, HasStretch, HasTrueMoment, Keying, MakesHistory, Steps, TrueStepsAlong}
+use Rattle.console_run.specs.Serving.{ServesAlong}
+
+-- what is answered to a question
+abbrev derived : Answer → Bool
+derived (Derived said) = said
+derived answer = true
+
+-- a question of which the answer is due to what was given and sent, in a history that serves its members
+says_who : {D : Type 0} (depth : ℕ) (batches : List (List Change)) (before : List Entry) (epoch : ℕ) (names : List Name) (run : Run D) (answer : Answer)
+    (outside : Outside) (next : Run D) → ServesMembers depth batches before → IsQuestion before epoch names run answer outside next
+    → SaysWhoDerives depth batches before epoch names answer
+says_who depth batches before epoch names run answer outside next serves asked = record {
+  only = λ said. serves.only epoch names (asked.decides.0 (ap derived (sym asked.says.answers ∙ said)));
+  own = λ reply has ours begun within stayed.
+      asked.says.answers ∙ ap Derived (asked.decides.1 (serves.by_sent reply epoch has begun within stayed names ours));
+}
+
+-- what a batch puts out
+abbrev put_out : Answer → Output → Output
+put_out (Batched output) other = output
+put_out answer other = other
+
+module _ {D G V : Type 0} (on : Devices D G V) (by : Keying G)
+    (ends : MomentsEndHistories on.disks on.signers by.signer on.verifiers on.verifier by.block)
+    (lists : LeavesValidList on.disks on.signers by.signer on.verifiers on.verifier by.block)
+    (disk : D) (name : Name) (limit place : ℕ) (entries : List Entry) (after : Run D)
+    (history : MakesHistory on by (no_run disk name limit place) entries after) where
+  abbrev Moment : List Entry → Run D → Type 0
+  Moment front mid = HasMoment on by (no_run disk name limit place) entries after front mid
+
+  abbrev Stretch : List Entry → Entry → Run D → List Entry → Run D → Type 0
+  Stretch before opening next later mid = HasStretch on by (no_run disk name limit place) entries after before opening next later mid
+
+  -- ---- moments
+
+  pub history_at : (front : List Entry) (mid : Run D) → Moment front mid → MakesHistory on by (no_run disk name limit place) front mid
+  history_at front mid moment = ends (no_run disk name limit place) entries after front mid history moment
+
+  pub valid_at : (front : List Entry) (mid : Run D) → Moment front mid → IsValid mid.server.depth (batches_in mid)
+  valid_at front mid moment = lists disk name limit place front mid (history_at front mid moment)
+
+  pub true_at : SureStepsAreTrue on.disks on.signers by.signer on.verifiers on.verifier by.block → (front : List Entry) (mid : Run D) → Moment front mid
+      → IsSure on.disks disk front → HasTrueMoment on by (no_run disk name limit place) entries after front mid
+  true_at sure front mid moment is =
+      record { moment = moment; reads = sure [] (no_run disk name limit place) front mid moment.so_far is }
+
+  few_stored : WrapsAreFew → (front : List Entry) (mid : Run D) (answer : Answer) (output : Output) (outside : Outside) (next : Run D) → Moment front mid
+      → answer ≡ Batched output → IsBatching on.disks on.signers by.signer by.block mid answer outside next
+      → length output.wraps ≤ most_wraps mid.server.depth (length mid.server.queue)
+  few_stored few front mid answer output outside next moment says (inl stored) =
+      let batches = batches_in mid in
+      let made = coming_batch mid.server (coming_values mid.server by.block) in
+      let same : stored.output ≡ output = ap (λ (answer : Answer). put_out answer output) (sym stored.answers ∙ says) in
+      let more : batches_made (mid.server.list ++ made ∷ []) ≡ batches ++ mid.server.queue ∷ [] =
+      map-append (λ (made : Made). made.changes) mid.server.list (made ∷ []) in
+      let wraps : output.wraps ≡ wraps_at mid.server.depth (batches ++ mid.server.queue ∷ []) (length batches + 1) =
+      sym (ap (λ (output : Output). output.wraps) same) ∙ stored.puts_out.says.wraps
+      ∙ ap (λ (list : List (List Change)). wraps_at mid.server.depth list (length list)) more
+      ∙ ap (λ (n : ℕ). wraps_at mid.server.depth (batches ++ mid.server.queue ∷ []) n) (length-append batches (mid.server.queue ∷ [])) in
+      subst (λ (wraps : List Wrap). length wraps ≤ most_wraps mid.server.depth (length mid.server.queue)) (sym wraps)
+      (few mid.server.depth batches mid.server.queue (valid_at front mid moment))
+  few_stored few front mid answer output outside next moment says (inr (inl doubt)) = absurd (cc (doubt.answers, says))
+  few_stored few front mid answer output outside next moment says (inr (inr (inl refused))) = absurd (cc (refused.says.answers, says))
+  few_stored few front mid answer output outside next moment says (inr (inr (inr memory))) = absurd (cc (memory.answers, says))
+
+  pub few_at : WrapsAreFew → (front : List Entry) (mid : Run D) (output : Output) (outside : Outside) (next : Run D) → Moment front mid
+      → Steps on by front mid (record { asked = Batch; outside = outside; answer = Batched output }) next
+      → length output.wraps ≤ most_wraps mid.server.depth (length mid.server.queue)
+  few_at few front mid output outside next moment step = few_stored few front mid (Batched output) output outside next moment refl step.answered
+
+  -- ---- stretches
+
+  pub stretch_moment : (before : List Entry) (opening : Entry) (next : Run D) (later : List Entry) (mid : Run D) → Stretch before opening next later mid
+      → Moment (before ++ opening ∷ later) mid
+  stretch_moment before opening next later mid stretch = record {
+    later = stretch.rest;
+    is = stretch.parts;
+    so_far = along_on (Steps on by) [] before (opening ∷ later) (no_run disk name limit place) stretch.run mid stretch.so_far
+        (next, stretch.step, stretch.goes_on);
+    goes_on = stretch.ends;
+  }
+
+  module _ (grow : TrueStepsGrow on.disks on.signers by.signer on.verifiers on.verifier by.block) (serve : HistoriesServeMembers) where
+    leaves : (before : List Entry) (opening : Entry) (next : Run D) (later : List Entry) (mid : Run D) → Stretch before opening next later mid
+        → TrueStepsAlong on by (before ++ opening ∷ []) next later mid → Leaves mid.server.depth (opening ∷ later) (batches_in mid)
+    leaves before opening next later mid stretch reads = grow disk name limit place opening later mid (record {
+      before = before;
+      begins = (history_at (before ++ opening ∷ later) mid (stretch_moment before opening next later mid stretch)).begins;
+      run = stretch.run;
+      so_far = stretch.so_far;
+      next = next;
+      step = stretch.step;
+      granted = stretch.granted;
+      goes_on = reads;
+    })
+
+    serves_in : (before : List Entry) (opening : Entry) (next : Run D) (later : List Entry) (mid : Run D) → Stretch before opening next later mid
+        → TrueStepsAlong on by (before ++ opening ∷ []) next later mid → ServesMembers mid.server.depth (batches_in mid) (opening ∷ later)
+    serves_in before opening next later mid stretch reads =
+        serve mid.server.depth (batches_in mid) (opening ∷ later)
+        (valid_at (before ++ opening ∷ later) mid (stretch_moment before opening next later mid stretch)) (leaves before opening next later mid stretch reads)
+
+    pub serves_along : SureStepsAreTrue on.disks on.signers by.signer on.verifiers on.verifier by.block → EarlierRunsServeNobodyElse
+        → ServesAlong on by (no_run disk name limit place) entries after
+    serves_along sure earlier = record {
+      sure = λ before opening next later mid stretch is. sure (before ++ opening ∷ []) next later mid stretch.goes_on is;
+      serves = serves_in;
+      earlier = λ before opening next later mid stretch reads.
+          earlier mid.server.depth (batches_in mid) (opening ∷ later) (serves_in before opening next later mid stretch reads).world;
+      asked = λ opening next later mid stretch reads epoch names answer outside last step.
+          says_who mid.server.depth (batches_in mid) (opening ∷ later) epoch names mid answer outside last
+          (serves_in [] opening next later mid stretch reads) step.answered;
+    }

@@ -1,4 +1,0 @@
-pub mod ContainLemmas
-pub mod KeyedLemmas
-pub mod QuestionLemmas
-pub mod QuietLemmas
