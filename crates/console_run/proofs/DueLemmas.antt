@@ -14,17 +14,18 @@ use Rattle.group_model.specs.declared.entries.Answer.{Answer}
 use Rattle.group_model.specs.declared.entries.Asked.{Asked}
 use Rattle.group_model.specs.declared.entries.Asked.TheVariants as requests
 use Rattle.group_model.specs.declared.entries.Entry.{Entry}
-use Rattle.group_model.specs.declared.entries.Outside.{Outside}
 use Rattle.group_peers.specs.Peers.{is_named, store_of}
 use Rattle.group_peers.specs.declared.members.Peer.{Peer}
 use Rattle.group_run.specs.Deliveries.{ComesAfter, IsFirstDue, NoneIsDue}
 use Rattle.group_run.specs.Reflects.{Reflects}
 use Rattle.group_run.specs.Views.{View}
 use Rattle.group_run.specs.declared.deliveries.Delivery.{Delivery}
-use Rattle.group_steps.specs.Members.{Gives, IsDelivery}
-use Rattle.group_steps.specs.Runs.{Run, with_peers}
-use Rattle.group_steps.specs.Sent.{last_push}
-use Rattle.group_steps.specs.Steps.{IsAnswered}
+use Rattle.server_steps.specs.Hosts.{Host}
+use Rattle.member_store.specs.Stores.{Store}
+use Rattle.member_steps.specs.Members.{Members}
+use Rattle.member_steps.specs.Steps.{Gives, IsDelivery}
+use Rattle.group_steps.specs.Runs.{Run}
+use Rattle.group_steps.specs.Steps.{IsAnswered, push_sent}
 use Rattle.script_text.specs.declared.lines.Line.TheVariants as lines
 use Rattle.run_report.specs.declared.stops.Stop.{Stop}
 use Rattle.run_report.specs.declared.stops.Stop.TheVariants.{Memory}
@@ -62,44 +63,39 @@ fewer_due holders peers now before last delivery small first long number =
 
 -- ---- what a delivery leaves
 
--- the server stays as it is, and each member has its place
-record Stays {D : Type 0} (run next : Run D) : Type 0 where
-  server : next.server ≡ run.server
-  places : (place : ℕ) (peer : Peer) → slice_get run.peers place ≡ Some peer → (now : Peer) × (slice_get next.peers place ≡ Some now) × (now.name ≡ peer.name)
+-- each member has its place
+abbrev KeepsPlaces : Members → Members → Type 0
+KeepsPlaces members next =
+    (place : ℕ) (peer : Peer) → slice_get members.all place ≡ Some peer → (now : Peer) × (slice_get next.all place ≡ Some now) × (now.name ≡ peer.name)
 
-module _ {D : Type 0} (run next : Run D) where
-  stays_same : next ≡ run → Stays run next
-  stays_same same = subst (λ next. Stays run next) (sym same) (record { server = refl; places = λ place peer there. (peer, there, refl) })
+module _ (members next : Members) where
+  places_same : next ≡ members → KeepsPlaces members next
+  places_same same = subst (λ next. KeepsPlaces members next) (sym same) (λ place peer there. (peer, there, refl))
 
-  stays_changed : (change : Peer → Peer) → ((peer : Peer) → (change peer).name ≡ peer.name) → next ≡ with_peers run (map change run.peers) → Stays run next
-  stays_changed change named same = subst (λ next. Stays run next) (sym same) (record {
-    server = refl;
-    places = λ place peer there. (change peer, slice_get-map change run.peers place ∙ ap (option_map change) there, named peer);
-  })
+  places_changed : (change : Peer → Peer) → ((peer : Peer) → (change peer).name ≡ peer.name) → next ≡ record members { all = map change members.all }
+      → KeepsPlaces members next
+  places_changed change named same = subst (λ next. KeepsPlaces members next) (sym same)
+      (λ place peer there. (change peer, slice_get-map change members.all place ∙ ap (option_map change) there, named peer))
 
-  module _ {V : Type 0} (v : VerifierGhosts V) (verifier : V) (before : List Entry) (m : Name) (number : ℕ) (answer : Answer) (outside : Outside) where
-    stays_given : IsDelivery v verifier before m number run answer outside next → Stays run next
-    stays_given h =
-        let cases : Gives v verifier (store_of run.peers m) (last_push before number) m run answer next → Stays run next =
-        elim (store_of run.peers m) as (λ store. Gives v verifier store (last_push before number) m run answer next → Stays run next) [
-          | None ↦ λ gives. stays_same gives.1
-          | Some store ↦ elim (last_push before number) as (λ push. Gives v verifier (Some store) push m run answer next → Stays run next) [
-            | None ↦ λ gives. stays_same gives.1
-            | Some push ↦ λ gives.
-                stays_changed (λ (peer : Peer). cond (is_named m peer) (record peer { store = Some gives.now }) peer)
-                (λ peer. elim (is_named m peer) as
-                (λ b. (cond b (record peer { store = Some gives.now }) peer).name ≡ peer.name) [ true ↦ refl | false ↦ refl ])
-                gives.after
-          ]
-        ] in
-        cases h.gives
+  module _ {V : Type 0} (v : VerifierGhosts V) (verifier : V) (m : Name) (answer : Answer) where
+    given_one : (store : Option Store) (push : Option (List ℕ)) → Gives v verifier store push m members answer next → KeepsPlaces members next
+    given_one None push gives = places_same gives.1
+    given_one (Some store) None gives = places_same gives.1
+    given_one (Some store) (Some datagram) gives =
+        places_changed (λ (peer : Peer). cond (is_named m peer) (record peer { store = Some gives.now }) peer)
+        (λ peer. elim (is_named m peer) as
+        (λ b. (cond b (record peer { store = Some gives.now }) peer).name ≡ peer.name) [ true ↦ refl | false ↦ refl ])
+        gives.after
+
+    places_given : (push : Option (List ℕ)) → IsDelivery v verifier m push members answer next → KeepsPlaces members next
+    places_given push gives = given_one (store_of members.all m) push gives
 
 -- ---- the whole line
 
 module _ {D G V R : Type 0} (on : Devices D G V) (draws : DrawGhosts R) where
   -- the server does not have to be opened again, and this was given last
   abbrev pub goes_on : Option Delivery → List Entry → Run D → Type 0
-  goes_on last more run = (run.server.need ≡ false) × WasGivenLast run.peers more last
+  goes_on last more run = (run.host.server.need ≡ false) × WasGivenLast run.members.all more last
 
   -- pushes were given so far, and reported
   pub record IsGiving (last : Option Delivery) (old now : View D G R) (was seen : Shown) : Type 0 where
@@ -121,17 +117,17 @@ module _ {D G V R : Type 0} (on : Devices D G V) (draws : DrawGhosts R) where
 
     -- what the group has is what the run has
     of_run : (P : Holders → List Peer → List Entry → Type 0) (run : Run D) → Reflects on.disks draws middle run
-        → P middle.core.tree.holders middle.peers middle.entries → P (members_now run.server) run.peers (old.entries ++ more)
+        → P middle.core.tree.holders middle.members.all middle.entries → P (members_now run.host.server) run.members.all (old.entries ++ more)
     of_run P run reflects h =
         let stands = reflects.server.stands in
-        let holders : middle.core.tree.holders ≡ members_now run.server =
-        stands.tree.holders ∙ ap (λ depth. holders_of depth (present_batches run.server)) stands.tree_depth in
-        subst (λ holders. P holders run.peers (old.entries ++ more)) holders
-        (subst (λ peers. P middle.core.tree.holders peers (old.entries ++ more)) (sym reflects.peers)
-        (subst (λ entries. P middle.core.tree.holders middle.peers entries) giving.going.grown h))
+        let holders : middle.core.tree.holders ≡ members_now run.host.server =
+        stands.tree.holders ∙ ap (λ depth. holders_of depth (present_batches run.host.server)) stands.tree_depth in
+        subst (λ holders. P holders run.members.all (old.entries ++ more)) holders
+        (subst (λ (members : Members). P middle.core.tree.holders members.all (old.entries ++ more)) (sym reflects.members)
+        (subst (λ entries. P middle.core.tree.holders middle.members.all entries) giving.going.grown h))
 
     -- what a line asks where the server goes on
-    asks_due : (next : Option Asked) (run : Run D) → run.server.need ≡ false → GivesWhatIsDue run old.entries more next
+    asks_due : (next : Option Asked) (run : Run D) → run.host.server.need ≡ false → GivesWhatIsDue run old.entries more next
         → AsksNext run old.entries more lines.DeliverAll next
     asks_due next run need due =
         subst (λ need. MatchBool need (next ≡ once requests.DeliverAll more) (GivesWhatIsDue run old.entries more next)) (sym need) due
@@ -139,13 +135,14 @@ module _ {D G V R : Type 0} (on : Devices D G V) (draws : DrawGhosts R) where
     pub ungiven : new ≡ middle → StopsIn on draws lines.DeliverAll Memory old new was seen
     ungiven same = Stops-unasked on draws lines.DeliverAll (goes_on last) more old middle was seen giving.going new same
 
-    pub all_given : NoneIsDue middle.core.tree.holders middle.peers middle.entries last → Runs on.disks draws (by_line on lines.DeliverAll) old middle was seen
+    pub all_given : NoneIsDue middle.core.tree.holders middle.members.all middle.entries last
+        → Runs on.disks draws (by_line on lines.DeliverAll) old middle was seen
     all_given all =
         Runs-all on draws lines.DeliverAll (goes_on last) more old middle was seen giving.going
         (λ run reflects kept. asks_due None run kept.0
         (last, kept.1, inl (refl, of_run (λ holders peers before. NoneIsDue holders peers before last) run reflects all)))
 
-    module _ (delivery : Delivery) (first : IsFirstDue middle.core.tree.holders middle.peers middle.entries last delivery)
+    module _ (delivery : Delivery) (first : IsFirstDue middle.core.tree.holders middle.members.all middle.entries last delivery)
         (moves : MovesBy on draws middle new (requests.Deliver delivery.member delivery.number)) where
       abbrev request : Asked
       request = requests.Deliver delivery.member delivery.number
@@ -161,14 +158,16 @@ module _ {D G V R : Type 0} (on : Devices D G V) (draws : DrawGhosts R) where
       given : (by : Keying G) (run next : Run D) → Stands on.disks draws by middle run → goes_on last more run
           → Steps on by middle.entries run answers.entry next → goes_on (Some delivery) (more ++ answers.entry ∷ []) next
       given by run next stands kept step =
-          let stays = stays_given run next on.verifiers on.verifier middle.entries delivery.member delivery.number answers.entry.answer answers.entry.outside
-          (subst
+          let acts = subst
           (λ asked. IsAnswered on.disks on.signers by.signer on.verifiers on.verifier by.block middle.entries asked run answers.entry.answer
           answers.entry.outside next)
-          answers.asked step.answered) in
+          answers.asked step.answered in
+          let places = places_given run.members next.members on.verifiers on.verifier delivery.member answers.entry.answer
+          (push_sent middle.entries delivery.number) acts.acted in
           let due = first.due in
-          let there = stays.places delivery.place due.peer (ap (λ peers. slice_get peers delivery.place) stands.reflects.peers ∙ due.is_there) in (
-            ap (λ server. server.need) stays.server ∙ kept.0,
+          let there = places delivery.place due.peer
+          (ap (λ (members : Members). slice_get members.all delivery.place) stands.reflects.members ∙ due.is_there) in (
+            ap (λ (host : Host D). host.server.need) acts.stays ∙ kept.0,
             (more, answers.entry, refl, answers.asked, there.0, there.1, due.named ∙ sym there.2),
           )
 
@@ -190,12 +189,12 @@ module _ {D G V R : Type 0} (on : Devices D G V) (draws : DrawGhosts R) where
   -- the server has to be opened again
   module _ (old new : View D G R) (was now : Shown) (need : old.core.need ≡ true) where
     abbrev stopped : List Entry → Run D → Type 0
-    stopped _ run = run.server.need ≡ true
+    stopped _ run = run.host.server.need ≡ true
 
     none : Going on draws lines.DeliverAll stopped [] old old was was
     none = Going-none on draws lines.DeliverAll stopped old was (λ run reflects. sym reflects.server.stands.need ∙ need)
 
-    asks_once : (more : List Entry) (run : Run D) → run.server.need ≡ true → AsksNext run old.entries more lines.DeliverAll (once requests.DeliverAll more)
+    asks_once : (more : List Entry) (run : Run D) → run.host.server.need ≡ true → AsksNext run old.entries more lines.DeliverAll (once requests.DeliverAll more)
     asks_once more run need =
         subst (λ need. MatchBool need (once requests.DeliverAll more ≡ once requests.DeliverAll more)
         (GivesWhatIsDue run old.entries more (once requests.DeliverAll more))) (sym need) refl
@@ -215,7 +214,7 @@ module _ {D G V R : Type 0} (on : Devices D G V) (draws : DrawGhosts R) where
           (λ asked. IsAnswered on.disks on.signers by.signer on.verifiers on.verifier by.block old.entries asked run answers_all.entry.answer
           answers_all.entry.outside next)
           answers_all.asked step.answered in
-          ap (λ (run : Run D). run.server.need) answered.says.stays ∙ kept)
+          ap (λ (host : Host D). host.server.need) answered.served.says.stays ∙ kept)
           told.0 told.1)
           (λ run reflects kept. asks_once (answers_all.entry ∷ []) run kept)
 

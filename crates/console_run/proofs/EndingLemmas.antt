@@ -139,7 +139,7 @@ nothing = record { taken = []; ended = false }
 
 -- it ran out of memory, or cannot be opened
 module _ {D G V : Type 0} (on : Devices D G V) (by : Keying G) (request : Asked) (start : Run D) (had was now : Shown) (ending : Ending) (entries : List Entry)
-    (after : Run D) (disk : D) (left : after.disk ≡ disk) where
+    (after : Run D) (disk : D) (left : after.host.disk ≡ disk) where
   abbrev untouched : Streams
   untouched = streams_of nothing had had was now
 

@@ -15,8 +15,9 @@ use Rattle.group_model.specs.declared.entries.Refusal.{Refusal}
 use Rattle.group_model.specs.declared.entries.Refusal.TheVariants.{NoMemory}
 use Rattle.group_run.specs.Openings.{FailsToOpen, Opens as OpensAs}
 use Rattle.group_run.specs.Views.{View}
+use Rattle.server_steps.specs.Hosts.{Host}
 use Rattle.group_steps.specs.Runs.{Run}
-use Rattle.group_steps.specs.Steps.{IsAnswered, IsStepBy}
+use Rattle.group_steps.specs.Steps.{IsAnswered, IsOpening, IsStepBy}
 use Rattle.run_report.specs.declared.endings.Ending.{Ending}
 use Rattle.console_run.specs.Causes.{CannotOpen}
 use Rattle.console_run.specs.Devices.{Devices, Keying, Steps}
@@ -40,7 +41,7 @@ fails_for P (Err error) name limit h = h name limit
 module _ {D G V : Type 0} (on : Devices D G V) (by : Keying G) where
   -- the step of an opening, as a request
   pub opening_step : (opening : Opening) (start : Run D) (entry : Entry) (after : Run D) → entry.asked ≡ request_of opening
-      → IsStepBy on.disks (step_of on.disks on.signers by opening) start entry after → Steps on by [] start entry after
+      → IsStepBy on.disks (IsOpening [] (step_of on.disks on.signers by opening)) start entry after → Steps on by [] start entry after
   opening_step opening start entry after asked h = record {
     answered = subst
         (λ asked. IsAnswered on.disks on.signers by.signer on.verifiers on.verifier by.block [] asked start entry.answer entry.outside after) (sym asked)
@@ -50,13 +51,13 @@ module _ {D G V : Type 0} (on : Devices D G V) (by : Keying G) where
   }
     where
       answered : (opening : Opening) (start : Run D) (answer : Answer) (outside : Outside) (after : Run D)
-          → step_of on.disks on.signers by opening start answer outside after
+          → IsOpening [] (step_of on.disks on.signers by opening) start answer outside after
           → IsAnswered on.disks on.signers by.signer on.verifiers on.verifier by.block [] (request_of opening) start answer outside after
-      answered (New depth) start answer outside after h = (refl, h)
-      answered Open start answer outside after h = (refl, h)
+      answered (New depth) start answer outside after h = h
+      answered Open start answer outside after h = h
 
   -- why an opening is refused
-  why_refused : (opening : Opening) (start : Run D) (answer : Answer) (outside : Outside) (after : Run D) (why : Refusal) → answer ≡ Refused why
+  why_refused : (opening : Opening) (start : Host D) (answer : Answer) (outside : Outside) (after : Host D) (why : Refusal) → answer ≡ Refused why
       → step_of on.disks on.signers by opening start answer outside after → (why ≡ NoMemory) ⊎ CannotOpen why
   why_refused (New depth) start answer outside after why refused h = elim h.ends [
     | inl makes ↦ cc (makes.answers, refused)
@@ -83,7 +84,7 @@ module _ {D G V : Type 0} (on : Devices D G V) (by : Keying G) where
   unopened_runs opening start had was now ending history entries disk left (inl h) same kept ends =
       refused on by (request_of opening) start had was now ending entries h.after left (h.left ∙ sym kept)
       (record { entry = h.entry; alone = same ∙ h.alone; asked = h.asked; step = opening_step opening start h.entry h.after h.asked h.stepped })
-      h.why h.refused (why_refused opening start h.entry.answer h.entry.outside h.after h.why h.refused h.stepped.answered)
+      h.why h.refused (why_refused opening start.host h.entry.answer h.entry.outside h.after.host h.why h.refused h.stepped.answered.opens)
       (subst (λ history. UnopenedEnds history ending was now) h.alone ends)
   unopened_runs opening start had was now ending history entries disk left (inr h) same kept ends =
       ran_out_at_once on by (request_of opening) start had was now ending entries start left (sym (kept ∙ h.left))

@@ -18,9 +18,10 @@ use Rattle.group_records.specs.declared.batches.Stored.{Stored}
 use Rattle.group_records.specs.declared.heads.Head.{Head}
 use Rattle.tree_store.specs.Groups.{IsGroup, IsNoGroup}
 use Rattle.group_steps.specs.Crashes.{CrashesLeaveMoments, OpenedHaveJournals}
-use Rattle.group_steps.specs.Disks.{Counts}
-use Rattle.group_steps.specs.Openings.{IsBeginning, IsCreation}
-use Rattle.group_steps.specs.Outsides.{beside_refusal}
+use Rattle.server_steps.specs.Disks.{Counts}
+use Rattle.server_steps.specs.Hosts.{Host}
+use Rattle.server_steps.specs.Openings.{IsBeginning, IsCreation}
+use Rattle.server_steps.specs.Outsides.{beside_refusal}
 use Rattle.group_steps.specs.Runs.{Run}
 use Rattle.group_steps.specs.Steps.{IsAnswered}
 use Rattle.run_report.specs.declared.endings.Ending.{Ending}
@@ -38,10 +39,10 @@ opens_group (New depth) = refl
 opens_group Open = refl
 
 -- a fault that is noted was counted
-rose_where_noted : {D : Type 0} (d : DiskGhosts D) (run : Run D) (outside : Outside) (why : Refusal) (old new : D) → outside ≡ beside_refusal run why
+rose_where_noted : {D : Type 0} (d : DiskGhosts D) (host : Host D) (outside : Outside) (why : Refusal) (old new : D) → outside ≡ beside_refusal host why
     → why ≡ DiskFault → Counts d outside.disk_failed old new → Rose (d.faults old) (d.faults new)
-rose_where_noted d run outside why old new beside fault counts =
-    subst (λ failed. Counts d failed old new) (ap (λ (outside : Outside). outside.disk_failed) (beside ∙ ap (beside_refusal run) fault)) counts
+rose_where_noted d host outside why old new beside fault counts =
+    subst (λ failed. Counts d failed old new) (ap (λ (outside : Outside). outside.disk_failed) (beside ∙ ap (beside_refusal host) fault)) counts
 
 module _ {D G V : Type 0} (on : Devices D G V) (by : Keying G) where
   -- however a run ends, its history is one of steps
@@ -57,7 +58,7 @@ module _ {D G V : Type 0} (on : Devices D G V) (by : Keying G) where
   abbrev IsOneOrOther : Type 0
   IsOneOrOther = (file : List ℕ) (head : Head) (list : List Stored) (at : ℕ) → IsGroup file head list → IsNoGroup file at → ⊥
 
-  create_fails : (depth : ℕ) (start : Run D) (answer : Answer) (outside : Outside) (after : Run D) (why : Refusal) → answer ≡ Refused why → CannotOpen why
+  create_fails : (depth : ℕ) (start : Host D) (answer : Answer) (outside : Outside) (after : Host D) (why : Refusal) → answer ≡ Refused why → CannotOpen why
       → IsCreation on.disks by.block depth start answer outside after → Counts on.disks outside.disk_failed start.disk after.disk
       → Rose (on.disks.faults start.disk) (on.disks.faults after.disk)
   create_fails depth start answer outside after why refused cannot h counts = elim h.ends [
@@ -68,7 +69,7 @@ module _ {D G V : Type 0} (on : Devices D G V) (by : Keying G) where
     ]
   ]
 
-  begin_fails : IsOneOrOther → (start : Run D) (answer : Answer) (outside : Outside) (after : Run D) (why : Refusal) → answer ≡ Refused why → CannotOpen why
+  begin_fails : IsOneOrOther → (start : Host D) (answer : Answer) (outside : Outside) (after : Host D) (why : Refusal) → answer ≡ Refused why → CannotOpen why
       → CanOpen on by Open start.disk
       → IsBeginning on.disks on.signers by.signer start answer outside after → Counts on.disks outside.disk_failed start.disk after.disk
       → Rose (on.disks.faults start.disk) (on.disks.faults after.disk)
@@ -85,18 +86,19 @@ module _ {D G V : Type 0} (on : Devices D G V) (by : Keying G) where
 
   -- it was refused for a fault alone
   fails : IsOneOrOther → (opening : Opening) (start : Run D) (entry : Entry) (after : Run D) (why : Refusal) → entry.answer ≡ Refused why → CannotOpen why
-      → CanOpen on by opening start.disk
+      → CanOpen on by opening start.host.disk
       → IsAnswered on.disks on.signers by.signer on.verifiers on.verifier by.block [] (request_of opening) start entry.answer entry.outside after
-      → Counts on.disks entry.outside.disk_failed start.disk after.disk → Rose (on.disks.faults start.disk) (on.disks.faults after.disk)
+      → Counts on.disks entry.outside.disk_failed start.host.disk after.host.disk
+      → Rose (on.disks.faults start.host.disk) (on.disks.faults after.host.disk)
   fails other (New depth) start entry after why refused cannot can h counts =
-      create_fails depth start entry.answer entry.outside after why refused cannot h.1 counts
+      create_fails depth start.host entry.answer entry.outside after.host why refused cannot h.opens counts
   fails other Open start entry after why refused cannot can h counts =
-      begin_fails other start entry.answer entry.outside after why refused cannot can h.1 counts
+      begin_fails other start.host entry.answer entry.outside after.host why refused cannot can h.opens counts
 
   -- ---- completeness
 
   module _ (other : IsOneOrOther) (streams : Streams) (command : Command) (place : ℕ) (old new : D) (entries : List Entry) (after : Run D)
-      (left : after.disk ≡ new) (came : CameFrom streams.source_before.octets streams.source_after.octets streams.given)
+      (left : after.host.disk ≡ new) (came : CameFrom streams.source_before.octets streams.source_after.octets streams.given)
       (can : CanRun on by streams command.opening old new) where
     breaks : (ending : Ending) (middle : Shown) (text : List ℕ) → middle.faults ≡ streams.sink_before.faults → BreaksOff ending middle streams.sink_after text
         → (ending ≡ Whole) ⊎ (ending ≡ Memory)

@@ -2,16 +2,15 @@
 use Rattle.std.proofs.Common.{◌≡◌, ◌<◌, List, [], ◌∷◌, ◌++◌, length, sym, refl, ap, ◌∙◌, subst, arith}
 use Rattle.std.specs.Prelude.{slice_get}
 use Rattle.std.specs.Option.{option_map}
-use Rattle.std.proofs.lemmas.List.Sums.{fold-append}
 use Rattle.gd_disk.specs.declared.disks.Disk.{Ghosts as DiskGhosts}
 use Rattle.gd_edges.specs.Shown.{Shown}
 use Rattle.gd_edges.specs.declared.draws.Draws.{Ghosts as DrawGhosts}
-use Rattle.group_terms.specs.Names.{Name}
 use Rattle.group_model.specs.declared.entries.Asked.TheVariants as requests
 use Rattle.group_model.specs.declared.entries.Entry.{Entry}
+use Rattle.group_run.specs.Reflects.{Reflects}
 use Rattle.group_run.specs.Tells.{AllWereTold, TellsNext}
 use Rattle.group_run.specs.Views.{View}
-use Rattle.group_steps.specs.Members.{not_told, not_told_by}
+use Rattle.member_steps.specs.Members.{Mail, Members}
 use Rattle.group_steps.specs.Runs.{Run}
 use Rattle.script_text.specs.declared.lines.Line.TheVariants as lines
 use Rattle.run_report.specs.declared.stops.Stop.{Stop}
@@ -23,14 +22,10 @@ use Rattle.console_run.specs.Private.Runs.{Runs, by_line}
 use Rattle.console_run.proofs.AskLemmas.{Answers-by, Going, Going-more, Going-none, IsReported, IsStopped, MovesBy, Runs-all, Stops-more}
 use Rattle.console_run.proofs.AskLemmas.{Stops-unasked, any_run}
 
--- who comes in is told its keys, so one less is left
+-- one reply less is on its way
 pub fewer_left : {D G R : Type 0} (d : DiskGhosts D) (draws : DrawGhosts R) (old new : View D G R) (tells : TellsNext d draws old new)
-    → length (not_told new.entries) < length (not_told old.entries)
-fewer_left d draws old new tells =
-    let left : not_told new.entries ≡ tells.later =
-    ap not_told tells.moves.added ∙ fold-append (λ names (entry : Entry). not_told_by names entry.asked entry.answer) [] old.entries (tells.moves.entry ∷ [])
-    ∙ (λ i. not_told_by (tells.is_next i) (tells.moves.asked i) tells.moves.entry.answer) in
-    omega (arith, ap length left, ap length tells.is_next)
+    → length new.members.mail < length old.members.mail
+fewer_left d draws old new tells = omega (arith, ap length tells.is_first)
 
 module _ {D G V R : Type 0} (on : Devices D G V) (draws : DrawGhosts R) where
   -- a batch was closed, and some of those who came in with it were told their keys; all of that was reported
@@ -66,10 +61,12 @@ module _ {D G V R : Type 0} (on : Devices D G V) (draws : DrawGhosts R) where
     abbrev more : List Entry
     more = telling.first ∷ telling.later
 
-    -- who is told next is who is left
-    asks : (names : List Name) → not_told middle.entries ≡ names → (run : Run D)
-        → AsksNext run old.entries more lines.Batch (option_map requests.Keep (slice_get names 0))
-    asks names left run = ap (λ names. option_map requests.Keep (slice_get names 0)) (sym left ∙ ap not_told telling.going.grown)
+    -- the first of the replies that are on their way is asked for
+    asks : (mail : List Mail) → middle.members.mail ≡ mail → (run : Run D) → Reflects on.disks draws middle run
+        → AsksNext run old.entries more lines.Batch (option_map (λ (first : Mail). requests.Keep first.0) (slice_get mail 0))
+    asks mail left run reflects =
+        ap (λ mail. option_map (λ (first : Mail). requests.Keep first.0) (slice_get mail 0))
+        (sym left ∙ ap (λ (members : Members). members.mail) (sym reflects.members))
 
     pub untold : new ≡ middle → StopsIn on draws lines.Batch Memory old new was seen
     untold same = Stops-unasked on draws lines.Batch any_run more old middle was seen telling.going new same
@@ -77,11 +74,14 @@ module _ {D G V R : Type 0} (on : Devices D G V) (draws : DrawGhosts R) where
     pub all_told : AllWereTold on.disks draws middle new → Runs on.disks draws (by_line on lines.Batch) old new was seen
     all_told all =
         subst (λ new. Runs on.disks draws (by_line on lines.Batch) old new was seen) (sym all.stays)
-        (Runs-all on draws lines.Batch any_run more old middle was seen telling.going (λ run reflects kept. asks [] all.all run))
+        (Runs-all on draws lines.Batch any_run more old middle was seen telling.going (λ run reflects kept. asks [] all.all run reflects))
 
     module _ (tells : TellsNext on.disks draws middle new) where
+      abbrev mail : List Mail
+      mail = (tells.member, tells.keyed) ∷ new.members.mail
+
       answers_next : Answers on draws (requests.Keep tells.member) middle new
-      answers_next = Answers-by on draws middle new (requests.Keep tells.member) tells.moves
+      answers_next = Answers-by on draws middle new (requests.Keep tells.member) tells.acts
 
       pub told_next : IsReported on draws middle new seen now → IsTelling old new was now
       told_next reported =
@@ -90,11 +90,11 @@ module _ {D G V R : Type 0} (on : Devices D G V) (draws : DrawGhosts R) where
             first = telling.first;
             later = telling.later ++ answers_next.entry ∷ [];
             going = Going-more on draws lines.Batch any_run more old middle was seen telling.going new (requests.Keep tells.member) answers_next
-                (λ run reflects kept. asks (tells.member ∷ tells.later) tells.is_next run) any_run now (λ by run next stands kept step. tt) told.0 told.1;
+                (λ run reflects kept. asks mail tells.is_first run reflects) any_run now (λ by run next stands kept step. tt) told.0 told.1;
           }
 
       pub stopped_at_reply : (stop : Stop) → IsStopped on draws middle new seen now stop → StopsIn on draws lines.Batch stop old new was now
       stopped_at_reply stop stopped =
           Stops-more on draws lines.Batch any_run more old middle was seen telling.going new (requests.Keep tells.member) answers_next
-          (λ run reflects kept. asks (tells.member ∷ tells.later) tells.is_next run) now stop
+          (λ run reflects kept. asks mail tells.is_first run reflects) now stop
           (stopped middle.entries answers_next.entry answers_next.added)

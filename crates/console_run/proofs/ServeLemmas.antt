@@ -16,9 +16,9 @@ use Rattle.group_model.specs.declared.entries.Asked.TheVariants.{Batch}
 use Rattle.group_model.specs.declared.entries.Entry.{Entry}
 use Rattle.group_model.specs.declared.entries.Output.{Output}
 use Rattle.group_model.specs.declared.entries.Outside.{Outside}
-use Rattle.group_steps.specs.Batches.{IsBatching}
+use Rattle.server_steps.specs.Batches.{IsBatching}
 use Rattle.group_steps.specs.ChainLaws.{along_on}
-use Rattle.group_steps.specs.Changes.{IsQuestion}
+use Rattle.group_steps.specs.Questions.{IsQuestion}
 use Rattle.group_steps.specs.Laws.{IsSure, LeavesValidList}
 use Rattle.group_steps.specs.Moments.{MomentsEndHistories}
 use Rattle.group_steps.specs.Runs.{Run, no_run}
@@ -37,9 +37,9 @@ says_who : {D : Type 0} (depth : ℕ) (batches : List (List Change)) (before : L
     (outside : Outside) (next : Run D) → ServesMembers depth batches before → IsQuestion before epoch names run answer outside next
     → SaysWhoDerives depth batches before epoch names answer
 says_who depth batches before epoch names run answer outside next serves asked = record {
-  only = λ said. serves.only epoch names (asked.decides.0 (ap derived (sym asked.says.answers ∙ said)));
+  only = λ said. serves.only epoch names (asked.decides.0 (ap derived (sym asked.answers ∙ said)));
   own = λ reply has ours begun within stayed.
-      asked.says.answers ∙ ap Derived (asked.decides.1 (serves.by_sent reply epoch has begun within stayed names ours));
+      asked.answers ∙ ap Derived (asked.decides.1 (serves.by_sent reply epoch has begun within stayed names ours));
 }
 
 -- what a batch puts out
@@ -63,7 +63,7 @@ module _ {D G V : Type 0} (on : Devices D G V) (by : Keying G)
   pub history_at : (front : List Entry) (mid : Run D) → Moment front mid → MakesHistory on by (no_run disk name limit place) front mid
   history_at front mid moment = ends (no_run disk name limit place) entries after front mid history moment
 
-  pub valid_at : (front : List Entry) (mid : Run D) → Moment front mid → IsValid mid.server.depth (batches_in mid)
+  pub valid_at : (front : List Entry) (mid : Run D) → Moment front mid → IsValid mid.host.server.depth (batches_in mid)
   valid_at front mid moment = lists disk name limit place front mid (history_at front mid moment)
 
   pub true_at : SureStepsAreTrue on.disks on.signers by.signer on.verifiers on.verifier by.block → (front : List Entry) (mid : Run D) → Moment front mid
@@ -72,28 +72,28 @@ module _ {D G V : Type 0} (on : Devices D G V) (by : Keying G)
       record { moment = moment; reads = sure [] (no_run disk name limit place) front mid moment.so_far is }
 
   few_stored : WrapsAreFew → (front : List Entry) (mid : Run D) (answer : Answer) (output : Output) (outside : Outside) (next : Run D) → Moment front mid
-      → answer ≡ Batched output → IsBatching on.disks on.signers by.signer by.block mid answer outside next
-      → length output.wraps ≤ most_wraps mid.server.depth (length mid.server.queue)
+      → answer ≡ Batched output → IsBatching on.disks on.signers by.signer by.block mid.host answer outside next.host
+      → length output.wraps ≤ most_wraps mid.host.server.depth (length mid.host.server.queue)
   few_stored few front mid answer output outside next moment says (inl stored) =
       let batches = batches_in mid in
-      let made = coming_batch mid.server (coming_values mid.server by.block) in
+      let made = coming_batch mid.host.server (coming_values mid.host.server by.block) in
       let same : stored.output ≡ output = ap (λ (answer : Answer). put_out answer output) (sym stored.answers ∙ says) in
-      let more : batches_made (mid.server.list ++ made ∷ []) ≡ batches ++ mid.server.queue ∷ [] =
-      map-append (λ (made : Made). made.changes) mid.server.list (made ∷ []) in
-      let wraps : output.wraps ≡ wraps_at mid.server.depth (batches ++ mid.server.queue ∷ []) (length batches + 1) =
+      let more : batches_made (mid.host.server.list ++ made ∷ []) ≡ batches ++ mid.host.server.queue ∷ [] =
+      map-append (λ (made : Made). made.changes) mid.host.server.list (made ∷ []) in
+      let wraps : output.wraps ≡ wraps_at mid.host.server.depth (batches ++ mid.host.server.queue ∷ []) (length batches + 1) =
       sym (ap (λ (output : Output). output.wraps) same) ∙ stored.puts_out.says.wraps
-      ∙ ap (λ (list : List (List Change)). wraps_at mid.server.depth list (length list)) more
-      ∙ ap (λ (n : ℕ). wraps_at mid.server.depth (batches ++ mid.server.queue ∷ []) n) (length-append batches (mid.server.queue ∷ [])) in
-      subst (λ (wraps : List Wrap). length wraps ≤ most_wraps mid.server.depth (length mid.server.queue)) (sym wraps)
-      (few mid.server.depth batches mid.server.queue (valid_at front mid moment))
+      ∙ ap (λ (list : List (List Change)). wraps_at mid.host.server.depth list (length list)) more
+      ∙ ap (λ (n : ℕ). wraps_at mid.host.server.depth (batches ++ mid.host.server.queue ∷ []) n) (length-append batches (mid.host.server.queue ∷ [])) in
+      subst (λ (wraps : List Wrap). length wraps ≤ most_wraps mid.host.server.depth (length mid.host.server.queue)) (sym wraps)
+      (few mid.host.server.depth batches mid.host.server.queue (valid_at front mid moment))
   few_stored few front mid answer output outside next moment says (inr (inl doubt)) = absurd (cc (doubt.answers, says))
   few_stored few front mid answer output outside next moment says (inr (inr (inl refused))) = absurd (cc (refused.says.answers, says))
   few_stored few front mid answer output outside next moment says (inr (inr (inr memory))) = absurd (cc (memory.answers, says))
 
   pub few_at : WrapsAreFew → (front : List Entry) (mid : Run D) (output : Output) (outside : Outside) (next : Run D) → Moment front mid
       → Steps on by front mid (record { asked = Batch; outside = outside; answer = Batched output }) next
-      → length output.wraps ≤ most_wraps mid.server.depth (length mid.server.queue)
-  few_at few front mid output outside next moment step = few_stored few front mid (Batched output) output outside next moment refl step.answered
+      → length output.wraps ≤ most_wraps mid.host.server.depth (length mid.host.server.queue)
+  few_at few front mid output outside next moment step = few_stored few front mid (Batched output) output outside next moment refl step.answered.served
 
   -- ---- stretches
 
@@ -109,7 +109,7 @@ module _ {D G V : Type 0} (on : Devices D G V) (by : Keying G)
 
   module _ (grow : TrueStepsGrow on.disks on.signers by.signer on.verifiers on.verifier by.block) (serve : HistoriesServeMembers) where
     leaves : (before : List Entry) (opening : Entry) (next : Run D) (later : List Entry) (mid : Run D) → Stretch before opening next later mid
-        → TrueStepsAlong on by (before ++ opening ∷ []) next later mid → Leaves mid.server.depth (opening ∷ later) (batches_in mid)
+        → TrueStepsAlong on by (before ++ opening ∷ []) next later mid → Leaves mid.host.server.depth (opening ∷ later) (batches_in mid)
     leaves before opening next later mid stretch reads = grow disk name limit place opening later mid (record {
       before = before;
       begins = (history_at (before ++ opening ∷ later) mid (stretch_moment before opening next later mid stretch)).begins;
@@ -122,9 +122,9 @@ module _ {D G V : Type 0} (on : Devices D G V) (by : Keying G)
     })
 
     serves_in : (before : List Entry) (opening : Entry) (next : Run D) (later : List Entry) (mid : Run D) → Stretch before opening next later mid
-        → TrueStepsAlong on by (before ++ opening ∷ []) next later mid → ServesMembers mid.server.depth (batches_in mid) (opening ∷ later)
+        → TrueStepsAlong on by (before ++ opening ∷ []) next later mid → ServesMembers mid.host.server.depth (batches_in mid) (opening ∷ later)
     serves_in before opening next later mid stretch reads =
-        serve mid.server.depth (batches_in mid) (opening ∷ later)
+        serve mid.host.server.depth (batches_in mid) (opening ∷ later)
         (valid_at (before ++ opening ∷ later) mid (stretch_moment before opening next later mid stretch)) (leaves before opening next later mid stretch reads)
 
     pub serves_along : SureStepsAreTrue on.disks on.signers by.signer on.verifiers on.verifier by.block → EarlierRunsServeNobodyElse
@@ -133,8 +133,8 @@ module _ {D G V : Type 0} (on : Devices D G V) (by : Keying G)
       sure = λ before opening next later mid stretch is. sure (before ++ opening ∷ []) next later mid stretch.goes_on is;
       serves = serves_in;
       earlier = λ before opening next later mid stretch reads.
-          earlier mid.server.depth (batches_in mid) (opening ∷ later) (serves_in before opening next later mid stretch reads).world;
+          earlier mid.host.server.depth (batches_in mid) (opening ∷ later) (serves_in before opening next later mid stretch reads).world;
       asked = λ opening next later mid stretch reads epoch names answer outside last step.
-          says_who mid.server.depth (batches_in mid) (opening ∷ later) epoch names mid answer outside last
+          says_who mid.host.server.depth (batches_in mid) (opening ∷ later) epoch names mid answer outside last
           (serves_in [] opening next later mid stretch reads) step.answered;
     }

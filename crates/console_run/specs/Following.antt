@@ -11,7 +11,7 @@ use Rattle.group_model.specs.declared.entries.Entry.{Entry}
 use Rattle.group_model.specs.declared.entries.Outside.{Outside}
 use Rattle.group_peers.specs.Peers.{store_of}
 use Rattle.group_steps.specs.Runs.{Run}
-use Rattle.group_steps.specs.Sent.{last_push}
+use Rattle.server_steps.specs.Sent.{last_push}
 use Rattle.group_steps.specs.TrueSteps.{batches_in}
 use Rattle.member_store.specs.Stores.{Store, root_epoch}
 use Rattle.store_steps.specs.Follow.{HasKeysThen, HasThen, IsOurs, IsTrafficPush, IsWhy, holders_in, number_at}
@@ -21,21 +21,21 @@ use Rattle.console_run.specs.Devices.{Devices, HasMoment, HasTrueMoment, Keying,
 module _ {D G V : Type 0} (on : Devices D G V) (by : Keying G) where
   -- Of no push that the group sends under the root of one epoch is a push read under that of another one: supposed of cipher and drawn keys.
   abbrev pub AreKeysApart : Run D → Type 0
-  AreKeysApart mid = AreForOneRoot on.signers by.signer (on.verifiers.kind_of on.verifier) mid.server.depth mid.head.spi mid.server.list
+  AreKeysApart mid = AreForOneRoot on.signers by.signer (on.verifiers.kind_of on.verifier) mid.host.server.depth mid.host.head.spi mid.host.server.list
 
   module _ (start : Run D) (entries : List Entry) (after : Run D) where
-    -- Who came in with the batch just made, and is told its keys, keeps them, if it has no store yet or one of the group; it has all keys of that epoch then.
+    -- A member to which a reply comes keeps its keys, if it has no store yet or one of the group, and has all keys of the present epoch then.
     abbrev pub KeepsReplies : Type 0
     KeepsReplies =
         (front : List Entry) (mid : Run D) (m : Name) (answer : Answer) (outside : Outside) (next : Run D) → HasMoment on by start entries after front mid
-        → ((store : Store) → store_of mid.peers m ≡ Some store → IsOurs mid m store)
+        → ((store : Store) → store_of mid.members.all m ≡ Some store → IsOurs mid m store)
         → Steps on by front mid (record { asked = Keep m; outside = outside; answer = answer }) next
-        → (answer ≡ Kept (length mid.server.list)) × HasThen next m (HasKeysThen mid (length mid.server.list) m)
+        → (answer ≡ Kept (length mid.host.server.list)) × HasThen next m (HasKeysThen mid (length mid.host.server.list) m)
 
     -- at a moment a member with a store of the group is given the last push of a number, of which one at least was sent
     pub record IsGivenAt (front : List Entry) (mid : Run D) (m : Name) (store : Store) (number : ℕ) (answer : Answer) (next : Run D) : Type 0 where
       pub moment : HasTrueMoment on by start entries after front mid
-      pub had : store_of mid.peers m ≡ Some store
+      pub had : store_of mid.members.all m ≡ Some store
       pub ours : IsOurs mid m store
       pub sent : IsSome (last_push front number)
       pub outside : Outside
@@ -49,11 +49,11 @@ module _ {D G V : Type 0} (on : Devices D G V) (by : Keying G) where
           → is_member (holders_in mid (root_epoch store + 1)) m ≡ true
           → (answer ≡ TookRoot (root_epoch store + 1))
           × HasThen next m (λ (now : Store). IsOurs mid m now × (root_epoch now ≡ root_epoch store + 1))
-      -- The traffic push of the epoch of its root is taken, if its number is greater than the store's, and leads to all keys of that epoch. Who came in with that
-      -- epoch has them already, and that number.
+      -- The traffic push of the epoch of its root is taken, if its number is greater than the store's, and leads to all keys of that epoch. Who came in with
+      -- that epoch has them already, and that number.
       pub traffic : (front : List Entry) (mid : Run D) (m : Name) (store : Store) (answer : Answer) (next : Run D)
           → IsGivenAt front mid m store (number_at mid (root_epoch store)) answer next
-          → stayed_at mid.server.depth (batches_in mid) (root_epoch store) ≡ true → store.sequence < number_at mid (root_epoch store)
+          → stayed_at mid.host.server.depth (batches_in mid) (root_epoch store) ≡ true → store.sequence < number_at mid (root_epoch store)
           → (answer ≡ TookTraffic (root_epoch store)) × HasThen next m (HasKeysThen mid (root_epoch store) m)
       -- where keys are apart, any other push that was sent is refused, for the reason that there is, and the store stays
       pub refused : (front : List Entry) (mid : Run D) (m : Name) (store : Store) (number : ℕ) (answer : Answer) (next : Run D) → AreKeysApart mid

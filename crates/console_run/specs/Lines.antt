@@ -9,7 +9,7 @@ use Rattle.group_model.specs.declared.entries.Entry.{Entry}
 use Rattle.group_peers.specs.declared.members.Peer.{Peer}
 use Rattle.group_run.specs.Deliveries.{IsFirstDue, NoneIsDue}
 use Rattle.group_run.specs.declared.deliveries.Delivery.{Delivery}
-use Rattle.group_steps.specs.Members.{not_told}
+use Rattle.member_steps.specs.Members.{Mail}
 use Rattle.group_steps.specs.Runs.{Run}
 use Rattle.script_text.specs.Lines.{line_of}
 use Rattle.script_text.specs.declared.lines.Line.{Line}
@@ -24,10 +24,10 @@ abbrev pub once : Asked → List Entry → Option Asked
 once request [] = Some request
 once request (entry ∷ so_far) = None
 
--- a batch; then each who came in with it is told its keys, one request each
-abbrev pub batch_and_replies : List Entry → List Entry → Option Asked
-batch_and_replies before [] = Some requests.Batch
-batch_and_replies before (entry ∷ so_far) = option_map requests.Keep (slice_get (not_told (before ++ (entry ∷ so_far))) 0)
+-- a batch of the server; then each of the replies that are on their way comes to its member, one request each
+abbrev pub batch_and_replies : List Mail → List Entry → Option Asked
+batch_and_replies mail [] = Some requests.Batch
+batch_and_replies mail (entry ∷ so_far) = option_map (λ (first : Mail). requests.Keep first.0) (slice_get mail 0)
 
 -- what was given last by a line that gave these entries so far
 abbrev pub WasGivenLast : List Peer → List Entry → Option Delivery → Type 0
@@ -40,21 +40,21 @@ module _ {D : Type 0} (run : Run D) (before so_far : List Entry) where
   -- the first push that is due after the last one given, or nothing where none is due any more
   abbrev pub IsNextGiven : Option Delivery → Option Asked → Type 0
   IsNextGiven last next =
-      ((next ≡ None) × NoneIsDue (members_now run.server) run.peers (before ++ so_far) last)
+      ((next ≡ None) × NoneIsDue (members_now run.host.server) run.members.all (before ++ so_far) last)
       ⊎ ((delivery : Delivery) × (next ≡ Some (requests.Deliver delivery.member delivery.number))
-      × IsFirstDue (members_now run.server) run.peers (before ++ so_far) last delivery)
+      × IsFirstDue (members_now run.host.server) run.members.all (before ++ so_far) last delivery)
 
   abbrev pub GivesWhatIsDue : Option Asked → Type 0
-  GivesWhatIsDue next = (last : Option Delivery) × WasGivenLast run.peers so_far last × IsNextGiven last next
+  GivesWhatIsDue next = (last : Option Delivery) × WasGivenLast run.members.all so_far last × IsNextGiven last next
 
   -- what a line asks, after the entries before it and those that it gave so far, which made this run
   abbrev pub AsksNext : Line → Option Asked → Type 0
   AsksNext Nothing next = next ≡ None
   AsksNext (Join m) next = next ≡ once (requests.Join m) so_far
   AsksNext (Leave m) next = next ≡ once (requests.Leave m) so_far
-  AsksNext Batch next = next ≡ batch_and_replies before so_far
+  AsksNext Batch next = next ≡ batch_and_replies run.members.mail so_far
   AsksNext (Deliver m number) next = next ≡ once (requests.Deliver m number) so_far
-  AsksNext DeliverAll next = MatchBool run.server.need (next ≡ once requests.DeliverAll so_far) (GivesWhatIsDue next)
+  AsksNext DeliverAll next = MatchBool run.host.server.need (next ≡ once requests.DeliverAll so_far) (GivesWhatIsDue next)
   AsksNext (Key m) next = next ≡ once (requests.Key m) so_far
   AsksNext (Derive epoch members) next = next ≡ once (requests.Derive epoch members) so_far
   AsksNext Halt next = next ≡ once requests.Halt so_far

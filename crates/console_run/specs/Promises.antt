@@ -23,6 +23,7 @@ use Rattle.tree_store.specs.Groups.{IsGroup}
 use Rattle.group_steps.specs.Counts.{CountsFaults, faults_in}
 use Rattle.group_steps.specs.Crashes.{LeavesMoments}
 use Rattle.group_steps.specs.Laws.{IsSure}
+use Rattle.group_steps.specs.Replies.{AreRepliesNow}
 use Rattle.group_steps.specs.Runs.{Run, no_run}
 use Rattle.group_steps.specs.TrueSteps.{batches_in}
 use Rattle.member_roots.specs.Groups.{Checks}
@@ -79,7 +80,7 @@ module _ {D G V : Type 0} (on : Devices D G V) (by : Keying G) where
     pub report : Puts streams.sink_before middle (entries_text entries)
     pub last : LastLineEnds due ending middle streams.sink_after
 
-  -- The report of the history broke off in what the opening or the line begun last gave; all before that was reported. There is no last line.
+  -- The report of the history broke off in the last entry that the opening or the line begun last gave; all before that was reported. There is no last line.
   pub record IsBroken (streams : Streams) (request : Asked) (start : Run D) (ending : Ending) (entries : List Entry) (after : Run D) : Type 0 where
     pub history : IsInParts on by streams.given request start entries after
     pub source : streams.source_after.faults ≡ streams.source_before.faults
@@ -104,8 +105,8 @@ module _ {D G V : Type 0} (on : Devices D G V) (by : Keying G) where
 
   -- ---- crashes
 
-  -- The first entry is that of the opening. Where that opened the group, then from any place of the history on a crash leaves the journal as it was at some
-  -- later moment, with all batches that were stored up to that place.
+  -- The first entry is that of the opening. Where that opened the group, and the disk is honest and exposes its octets, then from any place of the history on a
+  -- crash leaves the journal as it was at some moment from that place on, perhaps with the batch that is being written, and with all that were stored up to there.
   pub record LeavesMomentsAfterOpening (start : Run D) (entries : List Entry) (after : Run D) : Type 0 where
     pub first : Entry
     pub later : List Entry
@@ -123,7 +124,7 @@ module _ {D G V : Type 0} (on : Devices D G V) (by : Keying G) where
   pub record PromisesRun (streams : Streams) (command : Command) (place : ℕ) (ending : Ending) (entries : List Entry) (old new : D) : Type 0 where
     -- the run after the history, which has the disk
     pub after : Run D
-    pub disk : after.disk ≡ new
+    pub disk : after.host.disk ≡ new
     -- History, report and ending belong together. That memory ran out is taken on the console's word.
     pub run : IsEnded streams (request_of command.opening) (start_of command old place) ending entries after
         ⊎ IsBroken streams (request_of command.opening) (start_of command old place) ending entries after
@@ -134,35 +135,37 @@ module _ {D G V : Type 0} (on : Devices D G V) (by : Keying G) where
     pub history : MakesHistory on by (start_of command old place) entries after
     -- At each moment each batch fits the tree that those before it left, whatever openings read. One that is in doubt is not counted.
     pub valid : (front : List Entry) (mid : Run D) → HasMoment on by (start_of command old place) entries after front mid
-        → IsValid mid.server.depth (batches_in mid)
-    -- By key names: from all that the batches of a moment could ever send, and all that they could ever give to some names, these derive the traffic key of an
-    -- epoch only if one of them is a member of it (RFC 6407 section 7.4).
+        → IsValid mid.host.server.depth (batches_in mid)
+    -- By key names: from all that the batches of a moment could ever send, and all that they could ever give to some names, these derive the traffic key of
+    -- an epoch only if one of them is a member of it (RFC 6407 section 7.4).
     pub secrecy : (front : List Entry) (mid : Run D) → HasMoment on by (start_of command old place) entries after front mid
-        → NoOthersDerive mid.server.depth (batches_in mid)
+        → NoOthersDerive mid.host.server.depth (batches_in mid)
     -- And nobody derives that of an epoch to come. Nothing is said of guessing what is drawn.
     pub to_come : (front : List Entry) (mid : Run D) → HasMoment on by (start_of command old place) entries after front mid
-        → NobodyDerivesYet mid.server.depth (batches_in mid)
+        → NobodyDerivesYet mid.host.server.depth (batches_in mid)
     -- A member at each epoch from one to another derives the traffic key of the second from what it may be told at the first, whether it was told or not, by the
     -- encryptions since.
-    pub members : (front : List Entry) (mid : Run D) → HasMoment on by (start_of command old place) entries after front mid → 1 ≤ mid.server.depth
-        → MembersDerive mid.server.depth (batches_in mid)
+    pub members : (front : List Entry) (mid : Run D) → HasMoment on by (start_of command old place) entries after front mid → 1 ≤ mid.host.server.depth
+        → MembersDerive mid.host.server.depth (batches_in mid)
     -- A batch encrypts two keys at most for the root and for each position between it and a changed leaf, and the traffic key. Replies are not counted.
     pub few_wraps : (front : List Entry) (mid : Run D) (output : Output) (outside : Outside) (next : Run D)
         → HasMoment on by (start_of command old place) entries after front mid
         → Steps on by front mid (record { asked = Batch; outside = outside; answer = Batched output }) next
-        → length output.wraps ≤ most_wraps mid.server.depth (length mid.server.queue)
+        → length output.wraps ≤ most_wraps mid.host.server.depth (length mid.host.server.queue)
     -- Where the disk is honest and exposes its octets, or nothing was opened again up to a moment, each opening again found the group that there was.
     pub sure : (front : List Entry) (mid : Run D) → HasMoment on by (start_of command old place) entries after front mid → IsSure on.disks old front
         → HasTrueMoment on by (start_of command old place) entries after front mid
-    -- From any opening on, as long as each later one found the group that there was: what was sent since leads nobody but members to a traffic key, and leads
-    -- there each who was sent a reply since and stayed.
+    -- From any opening on, as long as each later one found the group that there was: what was sent since leads nobody but members to a traffic key, and
+    -- leads there each who was sent a reply since and stayed.
     pub serves : ServesAlong on by (start_of command old place) entries after
-    -- Who came in with the batch just made, and is told its keys, keeps them.
+    -- At each moment a reply that is on its way goes to a member of the present epoch, with the keys that it has now.
+    pub mail : (front : List Entry) (mid : Run D) → HasMoment on by (start_of command old place) entries after front mid → AreRepliesNow mid
+    -- And a member to which one comes keeps its keys, if it has no store yet or one of the group.
     pub replies : KeepsReplies on by (start_of command old place) entries after
-    -- Where the verifier accepts what the signer signs, a store of the group takes the pushes that are due to it, and, where keys are apart, refuses all others.
+    -- As long as each opening again found the group that there was, and where the verifier accepts what the signer signs: a store of the group takes the pushes
+    -- that are due to it, and, where keys are apart, refuses all others that were sent.
     pub stores : Checks on.signers by.signer on.verifiers on.verifier → StoresFollow on by (start_of command old place) entries after
-    -- Where the disk is honest and exposes its octets, a crash after the opening leaves the journal of some moment of the history, perhaps with the batch that
-    -- is being written.
+    -- nothing was done at all, or a crash leaves the journal of some moment of the history
     pub crash : (entries ≡ []) ⊎ LeavesMomentsAfterOpening (start_of command old place) entries after
     -- the disk counts at least one fault for each that is noted, as far as its count goes, and none where none is
     pub faults : CountsFaults on.disks (faults_in entries) old new

@@ -16,20 +16,20 @@ module _ {D G V : Type 0} (on : Devices D G V) (by : Keying G) where
   pub record ServesAlong (start : Run D) (entries : List Entry) (after : Run D) : Type 0 where
     -- that is so where the disk is honest and exposes its octets, or nothing was opened again meanwhile
     pub sure : (before : List Entry) (opening : Entry) (next : Run D) (later : List Entry) (mid : Run D)
-        → HasStretch on by start entries after before opening next later mid → IsSure on.disks next.disk later
+        → HasStretch on by start entries after before opening next later mid → IsSure on.disks next.host.disk later
         → TrueStepsAlong on by (before ++ opening ∷ []) next later mid
     -- What the stretch gave and sent serves those members whom it sent a reply, and nobody but members.
     pub serves : (before : List Entry) (opening : Entry) (next : Run D) (later : List Entry) (mid : Run D)
         → HasStretch on by start entries after before opening next later mid → TrueStepsAlong on by (before ++ opening ∷ []) next later mid
-        → ServesMembers mid.server.depth (batches_in mid) (opening ∷ later)
+        → ServesMembers mid.host.server.depth (batches_in mid) (opening ∷ later)
     -- Together with what earlier runs gave and sent, while the journal had some first part of these batches, it still serves nobody but members.
     pub earlier : (before : List Entry) (opening : Entry) (next : Run D) (later : List Entry) (mid : Run D)
         → HasStretch on by start entries after before opening next later mid → TrueStepsAlong on by (before ++ opening ∷ []) next later mid
-        → ServesAfterEarlier mid.server.depth (batches_in mid) (opening ∷ later)
+        → ServesAfterEarlier mid.host.server.depth (batches_in mid) (opening ∷ later)
     -- A question is answered accordingly, where the stretch begins with the first opening, since it is answered from all entries before it. That the answer is
     -- no does not mean that none is a member: who came in before that opening was sent no reply since.
     pub asked : (opening : Entry) (next : Run D) (later : List Entry) (mid : Run D) → HasStretch on by start entries after [] opening next later mid
         → TrueStepsAlong on by (opening ∷ []) next later mid
         → (epoch : ℕ) (names : List Name) (answer : Answer) (outside : Outside) (last : Run D)
         → Steps on by (opening ∷ later) mid (record { asked = Derive epoch names; outside = outside; answer = answer }) last
-        → SaysWhoDerives mid.server.depth (batches_in mid) (opening ∷ later) epoch names answer
+        → SaysWhoDerives mid.host.server.depth (batches_in mid) (opening ∷ later) epoch names answer

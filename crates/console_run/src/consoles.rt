@@ -18,6 +18,7 @@ use group_run::{GroupRun, NewGroup, Parts, Unopened};
 use group_steps::{
     a_crash_leaves_a_moment_of_the_history, a_group_grows_by_what_is_sent,
     a_history_leaves_a_valid_list, each_moment_ends_a_history, faults_are_counted,
+    replies_are_of_the_present_epoch,
 };
 use group_terms::GroupName;
 use run_report::{Finished, end_script, end_unopened, end_without_group};
@@ -64,6 +65,7 @@ pub fn console<S: Source, K: Sink, D: Disk, G: Signer + Drop, V: Verifier, R: Dr
     a_group_grows_by_what_is_sent::<D, G, V>();
     a_crash_leaves_a_moment_of_the_history::<D, G, V>();
     faults_are_counted::<D, G, V>();
+    replies_are_of_the_present_epoch::<D, G, V>();
     each_store_is_one_of_the_group::<D, G, V>();
     a_reply_is_kept_in_a_history::<D, G, V>();
     a_due_push_is_taken_in_a_history::<D, G, V>();

@@ -257,13 +257,13 @@ module _ {G : Type 0} (g : SignerGhosts G) (signer : G) (head : Head) (tree : Pr
   pub drawn_all : AreDrawn tree.depth all
   drawn_all = drawn_next head tree kept list group (stored_after head.depth batches made) due_next
 
-  module _ (text : List ℕ) (output : CoreOutput) (replies : List (Name × Keyed))
+  module _ (text : List ℕ) (output : CoreOutput)
       (read : IsBatchOf text (record { batch = batch; epoch = step.epoch; sequence = step.sequence; values = values })) (short : length text ≤ 65536)
       (epoch : output.epoch ≡ step.epoch) (sequence : output.sequence ≡ step.sequence) (members : output.members ≡ member_count (stepped tree step).holders)
       (pair : IsPairIfStayed g signer tree.depth head.spi all output.pushes)
       (some : (pair : PushPair) → output.pushes ≡ Some pair → output.wraps ≡ pair.wraps) (none : output.pushes ≡ None → output.wraps ≡ [])
-      (joiners_are : map name_of replies ≡ joiners batch)
-      (told : All (λ (reply : Name × Keyed). IsKeyedOf tree.depth head.spi all reply.0 reply.1) replies) where
+      (joiners_are : map name_of output.told ≡ joiners batch)
+      (told : All (λ (reply : Name × Keyed). IsKeyedOf tree.depth head.spi all reply.0 reply.1) output.told) where
     pair_is : IsPairIfStayed g signer head.depth head.spi all output.pushes
     pair_is = subst (λ depth. IsPairIfStayed g signer depth head.spi all output.pushes) group.depth pair
 
@@ -276,7 +276,7 @@ module _ {G : Type 0} (g : SignerGhosts G) (signer : G) (head : Head) (tree : Pr
       pushes = pair_is;
     }
 
-    pub is_ready : IsReadyFor g signer head tree batch list (record { values = values; text = text; output = output; step = step; replies = replies })
+    pub is_ready : IsReadyFor g signer head tree batch list (record { values = values; text = text; output = output; step = step })
     is_ready = record {
       due = due_next;
       text_is = subst (IsBatchOf text) (λ i. record { batch = batch; epoch = epoch_is i; sequence = sequence_is i; values = values }) read;
@@ -284,5 +284,5 @@ module _ {G : Type 0} (g : SignerGhosts G) (signer : G) (head : Head) (tree : Pr
       puts_out = puts_out;
       step_is = is_step;
       joiners_are = joiners_are;
-      replies_are = subst (λ depth. All (λ (reply : Name × Keyed). IsKeyedOf depth head.spi all reply.0 reply.1) replies) group.depth told;
+      replies_are = subst (λ depth. All (λ (reply : Name × Keyed). IsKeyedOf depth head.spi all reply.0 reply.1) output.told) group.depth told;
     }

@@ -1,12 +1,8 @@
 -- A batch that is ready to be stored.
-use Rattle.std.specs.Prelude.{◌≡◌, ℕ, ◌≤◌, List, [], ◌∷◌, ◌++◌, length, map, All, Option, Result, Ok, Err}
-use Rattle.std.specs.List.{find}
-use Rattle.std.specs.Option.{option_map}
+use Rattle.std.specs.Prelude.{◌≡◌, ℕ, ◌≤◌, List, [], ◌∷◌, ◌++◌, length, map, All, Result, Ok, Err}
 use Rattle.gd_edges.specs.declared.signers.Signer.{Ghosts as SignerGhosts}
 use Rattle.group_terms.specs.Changes.{joiners}
-use Rattle.group_terms.specs.Names.{Name, same_name}
 use Rattle.group_terms.specs.declared.changes.Change.{Change}
-use Rattle.group_terms.specs.declared.paths.Keyed.{Keyed}
 use Rattle.group_terms.specs.declared.values.BatchValues.{BatchValues}
 use Rattle.group_values.specs.Values.{Made, batches_made}
 use Rattle.group_model.specs.Places.{holders_of, member_count}
@@ -32,30 +28,25 @@ pub record IsCoreOutputOf {G : Type 0} (g : SignerGhosts G) (signer : G) (depth 
   pub wraps : output.wraps ≡ wraps_at depth (batches_made list) (length list)
   pub pushes : IsPairIfStayed g signer depth spi list output.pushes
 
--- what contracts see of it: the values of its keys, its record, what it puts out, what it makes of the tree, and what those are told who come in
+-- what contracts see of it: the values of its keys, its record, what it puts out, and what it makes of the tree
 pub record PreparedBatch : Type 0 where
   pub values : BatchValues
   pub text : List ℕ
   pub output : CoreOutput
   pub step : TreeStep
-  pub replies : List (Name × Keyed)
 
 -- the values of the batch that an answer has
 abbrev pub values_in : Result PreparedBatch Refusal → Result BatchValues Refusal
 values_in (Ok ready) = Ok ready.values
 values_in (Err why) = Err why
 
--- what somebody is told who comes in; nothing where it is somebody else
-abbrev pub reply_to : List (Name × Keyed) → Name → Option Keyed
-reply_to replies m = option_map (λ reply. reply.1) (find (λ reply. same_name m reply.0) replies)
-
--- After these batches it is the batch of these changes, which is due, with its record; what it puts out is what that batch does; and so are the replies to
--- those who come in, in their order.
+-- After these batches it is the batch of these changes, which is due, with its record; what it puts out is what that batch does, with the
+-- keys of those who come in, in their order.
 pub record IsReadyFor {G : Type 0} (g : SignerGhosts G) (signer : G) (head : Head) (present : Present) (queue : List Change) (list : List Made) (ready : PreparedBatch) : Type 0 where
   pub due : IsDue head.depth head.limit (batches_made list) (stored_after head.depth (batches_made list) (record { changes = queue; values = ready.values }))
   pub text_is : IsBatchOf ready.text (stored_after head.depth (batches_made list) (record { changes = queue; values = ready.values }))
   pub short : length ready.text ≤ 65536
   pub puts_out : IsCoreOutputOf g signer head.depth head.spi (list ++ record { changes = queue; values = ready.values } ∷ []) ready.output
   pub step_is : IsStepOf present queue head.limit ready.step
-  pub joiners_are : map (λ reply. reply.0) ready.replies ≡ joiners queue
-  pub replies_are : All (λ reply. IsKeyedOf head.depth head.spi (list ++ record { changes = queue; values = ready.values } ∷ []) reply.0 reply.1) ready.replies
+  pub joiners_are : map (λ reply. reply.0) ready.output.told ≡ joiners queue
+  pub replies_are : All (λ reply. IsKeyedOf head.depth head.spi (list ++ record { changes = queue; values = ready.values } ∷ []) reply.0 reply.1) ready.output.told

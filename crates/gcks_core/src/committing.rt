@@ -53,7 +53,6 @@ pub(crate) fn store_batch<D: Disk>(
         text,
         output,
         step,
-        replies: _,
     } = ready;
     values_fit(&values);
     match store.commit(&text) {

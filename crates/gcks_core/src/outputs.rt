@@ -1,5 +1,5 @@
 //! What a core is made of, and what it gives.
-use crate::{Core, GroupName, PushPair, Refusal};
+use crate::{Core, GroupName, Keyed, MemberName, PushPair, Refusal};
 use gd_disk::Disk;
 use gd_edges::{Draws, Signer};
 use group_terms::{List, Wrap};
@@ -34,8 +34,8 @@ pub struct CoreOpened<D: Disk, G: Signer, R: Draws> {
     pub resent: Option<PushPair>,
 }
 
-/// What a batch puts out: the epoch that it made, the number of the last push, how many members there are, what is encrypted, and the pair of pushes if
-/// somebody stayed.
+/// What a batch puts out: the epoch that it made, the number of the last push, how many members there are, what is encrypted, the pair of pushes if
+/// somebody stayed, and what those are told who come in, in the order of their changes.
 #[derive(Drop)]
 pub struct CoreOutput {
     pub epoch: u32,
@@ -43,4 +43,5 @@ pub struct CoreOutput {
     pub members: u32,
     pub wraps: List<Wrap>,
     pub pushes: Option<PushPair>,
+    pub told: List<(MemberName, Keyed)>,
 }

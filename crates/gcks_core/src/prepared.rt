@@ -1,10 +1,9 @@
 //! A batch that is ready to be stored.
-ghost use Rattle.std.specs.Prelude.{◌≡◌, option_copied};
-ghost use Rattle.gcks_core.specs.Prepares.{reply_to};
+ghost use Rattle.std.specs.Prelude.{◌≡◌};
 
 use crate::{CoreOutput, Keyed, MemberName};
 use group_model::TreeStep;
-use group_terms::{BatchValues, List, Octets};
+use group_terms::{BatchValues, Octets};
 use std::marker::Model;
 
 /// A batch with all that it makes: the values of its keys, its record, what it puts out, and what it makes of the tree.
@@ -14,7 +13,6 @@ pub struct Prepared {
     pub(crate) text: Octets,
     pub(crate) output: CoreOutput,
     pub(crate) step: TreeStep,
-    pub(crate) replies: List<(MemberName, Keyed)>,
 }
 
 impl Model for Prepared {
@@ -27,20 +25,14 @@ impl Model for Prepared {
       text = prepared.text;
       output = prepared.output;
       step = prepared.step;
-      replies = prepared.replies;
     } };
 }
 
 impl Prepared {
-    /// What somebody is told who comes in with the batch; `None` for everybody else.
-    pub fn keyed(&self, member: &MemberName) -> Option<&Keyed>
-        ensures { option_copied result ≡ reply_to self.now.replies member.now }
+    /// What those are told who come in with the batch, in the order of their changes.
+    pub fn told(&self) -> &[(MemberName, Keyed)]
+        ensures { result.now ≡ self.now.output.told }
     {
-        let reply = self
-            .replies
-            .as_slice()
-            .iter()
-            .find(|reply| *member == reply.0)?;
-        Some(&reply.1)
+        self.output.told.as_slice()
     }
 }

@@ -113,35 +113,29 @@ fn spent(tree: &PresentTree, limit: u32) -> Refusal
     }
 }
 
-/// What is made of a step and the values of its keys: the record of the batch, what it puts out, and the replies.
+/// What is made of a step and the values of its keys: the record of the batch, and what it puts out.
 #[derive(Drop)]
 struct Ready {
     text: Octets,
     output: CoreOutput,
-    replies: List<(MemberName, Keyed)>,
 }
 
 impl Ready {
     /// All that was made ready, with what it was made of.
     fn of(self, step: TreeStep, values: BatchValues) -> Prepared
-        ensures { result ≡ record { values = values; text = self.text; output = self.output; step = step; replies = self.replies } }
+        ensures { result ≡ record { values = values; text = self.text; output = self.output; step = step } }
     {
-        let Ready {
-            text,
-            output,
-            replies,
-        } = self;
+        let Ready { text, output } = self;
         Prepared {
             values,
             text,
             output,
             step,
-            replies,
         }
     }
 }
 
-/// The record, what is put out and the replies of a batch whose values were drawn.
+/// The record of a batch whose values were drawn, and what is put out.
 fn make_ready<D: Disk, G: Signer>(
     alloc: Global,
     tree: &PresentTree,
@@ -159,25 +153,22 @@ fn make_ready<D: Disk, G: Signer>(
     requires high { 128 ≤ octet_at values.now.traffic.spi 0 }
     ensures ready { (list : List Made) → IsGroupOf head.now tree.now kept.now list →
         IfOk result (λ ready. IsReadyFor G.Signer signer.now head.now tree.now batch.now list
-        (record { values = values.now; text = ready.text; output = ready.output; step = step.now; replies = ready.replies })) }
+        (record { values = values.now; text = ready.text; output = ready.output; step = step.now })) }
 {
     draws_few(tree);
     renews_few(tree, batch);
     let text = TreeStore::<D>::make_record(alloc, batch, step.epoch(), step.sequence(), values)?;
     let pushes = write_pair(alloc, tree, step, kept, values, &head.spi, signer)?;
-    let replies = replies(alloc, tree, step, kept, values, &head.spi, batch)?;
+    let told = replies(alloc, tree, step, kept, values, &head.spi, batch)?;
     let output = CoreOutput {
         epoch: step.epoch(),
         sequence: step.sequence(),
         members: tree.members_after(step),
         wraps: wraps_of(alloc, &pushes)?,
         pushes,
+        told,
     };
-    Ok(Ready {
-        text,
-        output,
-        replies,
-    })
+    Ok(Ready { text, output })
 }
 
 /// What a pair encrypts; nothing where there is none.

@@ -6,7 +6,6 @@ use gcks_core::{
 };
 use gd_disk::Disk;
 use gd_edges::{ChaChaDraws, TestSigner};
-use group_terms::Batch;
 use std::alloc::Global;
 
 pub(crate) type SeedCore<D> = Core<D, TestSigner, ChaChaDraws>;
@@ -84,18 +83,15 @@ pub(crate) fn close_batch<D: Disk, T: Told>(
     told: &mut T,
 ) -> Result<(), Refusal> {
     let prepared = core.prepare(alloc)?;
-    add_replies(core.queued(), &prepared, told);
+    add_replies(&prepared, told);
     let output = core.commit(prepared)?;
     told.add_output(&output);
     drop(output);
     Ok(())
 }
 
-fn add_replies<T: Told>(batch: &Batch, prepared: &Prepared, told: &mut T) {
-    for change in batch.changes() {
-        let member = change.member();
-        if let Some(reply) = prepared.keyed(member) {
-            told.add_reply(member, reply);
-        }
+fn add_replies<T: Told>(prepared: &Prepared, told: &mut T) {
+    for (member, reply) in prepared.told() {
+        told.add_reply(member, reply);
     }
 }

@@ -16,7 +16,7 @@ use Rattle.group_model.specs.declared.entries.Entry.{Entry}
 use Rattle.group_peers.specs.Peers.{AreOnce, is_named, names_of, store_of}
 use Rattle.group_peers.specs.declared.members.Peer.{Peer}
 use Rattle.member_store.specs.Stores.{Store}
-use Rattle.group_steps.specs.Sent.{SentPush, last_push}
+use Rattle.server_steps.specs.Sent.{SentPush, last_push}
 use Rattle.sent_pushes.specs.Notes.{numbers_of, place_of}
 use Rattle.sent_pushes.specs.declared.notes.Note.{Note}
 use Rattle.group_run.specs.Deliveries.{IsDue, IsFirstDue, NoneIsDue}

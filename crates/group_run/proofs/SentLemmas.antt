@@ -11,7 +11,7 @@ use Rattle.std.proofs.lemmas.List.{reverse-append}
 use Rattle.std.proofs.lemmas.List.Elements.{All-cons, All-head, All-nil, All-tail}
 use Rattle.group_model.specs.declared.entries.Entry.{Entry}
 use Rattle.group_model.specs.declared.entries.PushPair.{PushPair}
-use Rattle.group_steps.specs.Sent.{SentPush, last_push, pair_by, pushes_by, pushes_in, pushes_of, pushes_sent}
+use Rattle.server_steps.specs.Sent.{SentPush, last_push, pair_by, pushes_by, pushes_in, pushes_of, pushes_sent}
 use Rattle.sent_pushes.specs.Notes.{noted, numbers_of, place_of}
 use Rattle.sent_pushes.specs.declared.notes.Note.{Note}
 use Rattle.group_run.specs.Private.Noted.{AreNoted, WereSent, push_at, push_in}

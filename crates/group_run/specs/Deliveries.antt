@@ -1,10 +1,10 @@
--- Which push (RFC 6407 section 4) is given to which member next, where all members are given what they missed: the members in the order in which their joins were
--- first granted, and to each of them the pushes by rising number.
+-- Which push (RFC 6407 section 4) is given to which member next, where all members are given what they missed: the members in the order in which their joins
+-- were first granted, and to each of them the pushes by rising number.
 use Rattle.std.specs.Prelude.{◌≡◌, ◌⊎◌, ◌<◌, true, List, Option, None, Some, slice_get}
 use Rattle.group_model.specs.Places.{Holders, is_member}
 use Rattle.group_model.specs.declared.entries.Entry.{Entry}
 use Rattle.group_peers.specs.declared.members.Peer.{Peer}
-use Rattle.group_steps.specs.Sent.{SentPush, last_push}
+use Rattle.server_steps.specs.Sent.{SentPush, last_push}
 use Rattle.member_store.specs.Stores.{Store}
 use Rattle.group_run.specs.declared.deliveries.Delivery.{Delivery}
 

@@ -1,5 +1,4 @@
 pub mod Deliveries
-pub mod Entries
 pub mod Moves
 pub mod Openings
 pub mod Private

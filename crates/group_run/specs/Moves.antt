@@ -1,21 +1,18 @@
 -- What a request does.
-use Rattle.std.specs.Prelude.{◌≡◌, ℕ, [], ◌∷◌, ◌++◌}
+use Rattle.std.specs.Prelude.{◌≡◌, [], ◌∷◌, ◌++◌}
 use Rattle.gd_disk.specs.declared.disks.Disk.{Ghosts as DiskGhosts}
 use Rattle.gd_edges.specs.declared.draws.Draws.{Ghosts as DrawGhosts}
+use Rattle.gd_edges.specs.declared.signers.Signer.{Ghosts as SignerGhosts}
 use Rattle.group_model.specs.declared.entries.Answer.{Answer}
 use Rattle.group_model.specs.declared.entries.Asked.{Asked}
 use Rattle.group_model.specs.declared.entries.Entry.{Entry}
 use Rattle.group_model.specs.declared.entries.Outside.{Outside}
-use Rattle.gcks_core.specs.Views.{View as CoreView}
+use Rattle.server_steps.specs.Serves.{GoesOn}
+use Rattle.member_steps.specs.Members.{Members}
 use Rattle.group_steps.specs.Runs.{Run}
-use Rattle.group_steps.specs.Steps.{IsStepBy}
+use Rattle.group_steps.specs.Steps.{IsActing, IsServing, IsStepBy}
 use Rattle.group_run.specs.Reflects.{Reflects}
 use Rattle.group_run.specs.Views.{View}
-
--- what a run stands on goes on: the signer, and the blocks of the draws
-pub record GoesOn {D G R : Type 0} (draws : DrawGhosts R) (old new : CoreView D G R) : Type 0 where
-  pub signer : new.signer ≡ old.signer
-  pub blocks : (k : ℕ) → draws.block_at new.draws k ≡ draws.block_at old.draws k
 
 -- One entry was added, which answers a request by such a step. Whatever run was reflected before, the entry is a step from it, and the run after that step is
 -- reflected then.
@@ -26,3 +23,11 @@ pub record Moves {D G R : Type 0} (d : DiskGhosts D) (draws : DrawGhosts R) (ste
   pub asked : entry.asked ≡ request
   pub goes_on : GoesOn draws old.core new.core
   pub each : (run : Run D) → Reflects d draws old run → (next : Run D) × IsStepBy d step run entry next × Reflects d draws new next
+
+-- the server served the request, and then the members got what it told
+abbrev pub Serves : {D G R : Type 0} → DiskGhosts D → SignerGhosts G → DrawGhosts R → Asked → View D G R → View D G R → Type 0
+Serves d g draws request old new = Moves d draws (IsServing d g old.core.signer (draws.block_at old.core.draws) request) request old new
+
+-- a member acted so
+abbrev pub Acts : {D G R : Type 0} → DiskGhosts D → DrawGhosts R → (Members → Answer → Members → Type 0) → Asked → View D G R → View D G R → Type 0
+Acts d draws acts request old new = Moves d draws (IsActing acts) request old new

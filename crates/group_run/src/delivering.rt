@@ -1,26 +1,21 @@
 //! Pushes that are given to members.
 ghost use Rattle.std.specs.Prelude.{◌≡◌, true, length, MatchOption, OnOk, OnErr};
-ghost use Rattle.std.specs.Option.{option_map};
 ghost use Rattle.group_model.specs.declared.entries.Asked.TheVariants as requests;
-ghost use Rattle.group_steps.specs.Members.{IsDelivery, IsNoDelivery};
-ghost use Rattle.group_steps.specs.Sent.{SentPush, last_push};
+ghost use Rattle.member_steps.specs.Steps.{IsDelivery};
+ghost use Rattle.group_steps.specs.Steps.{push_sent};
 ghost use Rattle.group_run.specs.Deliveries.{IsFirstDue, NoneIsDue};
-ghost use Rattle.group_run.specs.Moves.{Moves};
+ghost use Rattle.group_run.specs.Moves.{Acts, Serves};
 ghost use Rattle.group_run.specs.Private.Dues.{IsFirstAt, IsFirstFrom, IsWaiting, NobodyWaits, NoneIsAt, NoneIsFrom};
-ghost use Rattle.group_run.specs.Private.Given.{GivesIf, GivesTo, answer_if};
-ghost use Rattle.group_run.specs.Private.Noted.{AreNoted};
 
-use crate::entries::entry;
 use crate::sending::last_push;
 use crate::{Delivery, GroupRun};
-use gcks_core::{Core, Refusal};
+use gcks_core::Core;
 use gd_disk::Disk;
 use gd_edges::{Draws, Signer, Verifier};
-use group_model::{Answer, Asked, Entry, MemberName, NoMemory, PushRefusal};
+use group_model::{Asked, MemberName, NoMemory};
 use group_peers::Peers;
-use member_store::Taken;
-use push_msg::Room;
 use sent_pushes::{SentPushes, the_next_number_is_the_least};
+use server_steps::entry;
 use sym_closure::what_is_known_stays_known;
 
 impl<D: Disk, G: Signer, R: Draws> GroupRun<D, G, R> {
@@ -31,23 +26,16 @@ impl<D: Disk, G: Signer, R: Draws> GroupRun<D, G, R> {
         member: &MemberName,
         number: u32,
     ) -> Result<(), NoMemory>
-        ensures ok { OnOk result (Moves D.Disk R.Draws (IsDelivery V.Verifier verifier.now self.old.entries member.now number)
+        ensures ok { OnOk result (Acts D.Disk R.Draws (IsDelivery V.Verifier verifier.now member.now (push_sent self.old.entries number))
             (requests.Deliver member.now number) self.old self.new) }
-        ensures peers { length self.new.peers ≡ length self.old.peers }
+        ensures peers { length self.new.members.all ≡ length self.old.members.all }
         ensures err { OnErr result (self.new ≡ self.old) }
     {
         what_is_known_stays_known();
         self.entries.reserve(1)?;
         let place = self.core.draws_at();
-        let answer = give_last(
-            self.entries.items(),
-            &self.pushes,
-            &mut self.peers,
-            member,
-            number,
-            verifier,
-            &mut self.room,
-        );
+        let push = last_push(self.entries.items(), &self.pushes, number);
+        let answer = self.members.deliver(verifier, member, push);
         let asked = Asked::Deliver {
             member: *member,
             sequence: number,
@@ -56,36 +44,35 @@ impl<D: Disk, G: Signer, R: Draws> GroupRun<D, G, R> {
         Ok(())
     }
 
-    /// The next push that is due to a member after the last one given, where all members are given what they missed: each present member that has a store, in the
-    /// order in which their joins were first granted, by rising number.
+    /// The next push that is due to a member after the last one given, where all members are given what they missed: each present member that has a store, in
+    /// the order in which their joins were first granted, by rising number.
     pub fn next_delivery(&self, last: Option<Delivery>) -> Option<Delivery>
-        ensures { MatchOption result (NoneIsDue self.now.core.tree.holders self.now.peers self.now.entries last)
-            (IsFirstDue self.now.core.tree.holders self.now.peers self.now.entries last) }
+        ensures { MatchOption result (NoneIsDue self.now.core.tree.holders self.now.members.all self.now.entries last)
+            (IsFirstDue self.now.core.tree.holders self.now.members.all self.now.entries last) }
     {
         match last {
             Some(last) => first_due(
                 &self.core,
-                &self.peers,
+                self.members.all(),
                 &self.pushes,
                 last.place,
                 last.number,
             ),
-            None => first_due(&self.core, &self.peers, &self.pushes, 0, 0),
+            None => first_due(&self.core, self.members.all(), &self.pushes, 0, 0),
         }
     }
 
     /// Notes that no push is given to anybody, since the server has to be opened again.
     pub fn refuse_deliveries(&mut self) -> Result<(), NoMemory>
         requires { self.old.core.need ≡ true }
-        ensures ok { OnOk result (Moves D.Disk R.Draws IsNoDelivery requests.DeliverAll self.old self.new) }
+        ensures ok { OnOk result (Serves D.Disk G.Signer R.Draws requests.DeliverAll self.old self.new) }
         ensures err { OnErr result (self.new ≡ self.old) }
     {
         what_is_known_stays_known();
         self.entries.reserve(1)?;
         let place = self.core.draws_at();
-        let why = Refusal::NeedsReopen;
-        self.entries
-            .add(entry(Asked::DeliverAll, Answer::Refused { why }, place));
+        let answer = server_steps::refuse_deliveries(&self.core);
+        self.entries.add(entry(Asked::DeliverAll, answer, place));
         Ok(())
     }
 }
@@ -150,49 +137,4 @@ fn waiting_at<D: Disk, G: Signer, R: Draws>(
     }
     let store = peers.store(&member)?;
     Some((member, store.last_sequence()))
-}
-
-/// Gives a member the last push of this number that was sent, if there is one.
-fn give_last<V: Verifier>(
-    entries: &[Entry],
-    pushes: &SentPushes,
-    peers: &mut Peers,
-    member: &MemberName,
-    number: u32,
-    verifier: &V,
-    room: &mut Room,
-) -> Answer
-    requires { AreNoted pushes.now.items entries.now }
-    ensures { GivesIf V.Verifier verifier.now member.now (option_map (λ (push : SentPush). push.datagram) (last_push entries.now number))
-        peers.old.items result peers.new.items }
-{
-    match last_push(entries, pushes, number) {
-        Some(datagram) => give(peers, member, datagram.as_slice(), verifier, room),
-        None => Answer::Nothing,
-    }
-}
-
-/// Gives a datagram to a member's store, if it has one.
-fn give<V: Verifier>(
-    peers: &mut Peers,
-    member: &MemberName,
-    datagram: &[u8],
-    verifier: &V,
-    room: &mut Room,
-) -> Answer
-    ensures { GivesTo V.Verifier verifier.now member.now datagram.now peers.old.items result peers.new.items }
-{
-    answer_if(peers.accept(member, datagram, verifier, room))
-}
-
-/// What is answered where a store answers so.
-fn answer_if(given: Option<Result<Taken, PushRefusal>>) -> Answer
-    ensures { result ≡ answer_if given }
-{
-    match given {
-        Some(Ok(Taken::Root { epoch })) => Answer::TookRoot { epoch },
-        Some(Ok(Taken::Traffic { epoch })) => Answer::TookTraffic { epoch },
-        Some(Err(why)) => Answer::PushRefused { why },
-        None => Answer::Nothing,
-    }
 }

@@ -1,4 +1,4 @@
-//! A group that runs: a key server in its journal with the stores of its members, and the history of all that is asked of them.
+//! A group that runs: a key server in its journal with its members, and the history of all that is asked of them.
 #![tactic(auto)]
 
 pub use deliveries::Delivery;
@@ -11,10 +11,8 @@ mod batching;
 mod changing;
 mod deliveries;
 mod delivering;
-mod entries;
 mod opening;
 mod runs;
-mod seeing;
 mod sending;
 mod telling;
 mod unopened;

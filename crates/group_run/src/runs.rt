@@ -1,30 +1,27 @@
 //! The value that keeps a group and its history.
-ghost use Rattle.std.specs.Prelude.{◌≡◌, ◌<◌, ◌≤◌, List, [], ◌++◌, ◌∷◌, length, MatchOption};
+ghost use Rattle.std.specs.Prelude.{◌≡◌, List, [], ◌++◌, ◌∷◌, MatchOption};
 ghost use Rattle.group_model.specs.declared.entries.Entry.{Entry};
 
 use gcks_core::{Core, Parts};
 use gd_disk::Disk;
 use gd_edges::{Draws, Signer};
 use group_model::{Entry, List, Log};
-use group_peers::Peers;
-use push_msg::Room;
+use member_steps::Members;
 use sent_pushes::SentPushes;
 use std::marker::Model;
 use sym_closure::Sent;
 
-/// A group that runs: its key server, the stores of its members, and the history of all that was asked of them.
+/// A group that runs: its key server, its members, and the history of all that was asked of them.
 ///
 /// Each request adds one entry. It may run out of memory before it does anything; then the history is as it was.
 #[derive(Drop)]
 pub struct GroupRun<D: Disk, G: Signer, R: Draws> {
     pub(crate) core: Core<D, G, R>,
-    pub(crate) peers: Peers,
+    pub(crate) members: Members,
     /// What was sent so far, by key names.
     pub(crate) sent: Sent,
     /// Which entry sent the last push of each number.
     pub(crate) pushes: SentPushes,
-    /// Where stores open what they are given.
-    pub(crate) room: Room,
     pub(crate) entries: Log<Entry>,
 }
 
@@ -34,9 +31,9 @@ impl<D: Disk, G: Signer, R: Draws> Model for GroupRun<D, G, R> {
 
     ghost Value = { View D G R };
 
-    ghost view = { λ run. record { core = run.core; peers = run.peers.items; entries = run.entries.items } };
+    ghost view = { λ run. record { core = run.core; members = run.members.members; entries = run.entries.items } };
 
-    ghost invariant = { λ run. IsKept run.core run.peers.items run.sent run.pushes.items run.entries.items };
+    ghost invariant = { λ run. IsKept run.core.queue run.members.members.all run.sent run.pushes.items run.entries.items };
 }
 
 impl<D: Disk, G: Signer, R: Draws> GroupRun<D, G, R> {
@@ -62,10 +59,9 @@ impl<D: Disk, G: Signer, R: Draws> GroupRun<D, G, R> {
     {
         let GroupRun {
             core,
-            peers: _,
+            members: _,
             sent: _,
             pushes: _,
-            room: _,
             entries,
         } = self;
         (entries.into_list(), core.into_parts())

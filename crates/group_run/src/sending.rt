@@ -2,7 +2,7 @@
 ghost use Rattle.std.specs.Prelude.{◌≡◌, ◌+◌, ◌<◌, ◌≤◌, ◌^◌, List, ◌++◌, ◌∷◌, [], IfSome, option_copied, length};
 ghost use Rattle.std.specs.Option.{option_map};
 ghost use Rattle.group_model.specs.declared.entries.Entry.{Entry};
-ghost use Rattle.group_steps.specs.Sent.{SentPush, last_push, pair_by, pushes_of};
+ghost use Rattle.server_steps.specs.Sent.{SentPush, last_push, pair_by, pushes_of};
 ghost use Rattle.sent_pushes.specs.Notes.{noted};
 ghost use Rattle.group_run.specs.Private.Noted.{AreNoted, WereSent, push_in};
 

@@ -1,5 +1,5 @@
 -- A history counts the faults of its disk.
-use Rattle.std.proofs.Common.{◌∙◌, ℕ, ◌+◌, true, false, Bool, if◌then◌else◌, List, [], ◌∷◌, ◌++◌, refl, sym, subst, inl, inr, ⊎_elim, arith}
+use Rattle.std.proofs.Common.{◌≡◌, ◌∙◌, ℕ, ◌+◌, true, false, Bool, if◌then◌else◌, List, [], ◌∷◌, ◌++◌, refl, sym, ap, subst, inl, inr, ⊎_elim, arith}
 use Rattle.std.specs.Prelude.{cond}
 use Rattle.std.proofs.lemmas.List.Sums.{sum_by-cons}
 use Rattle.gd_disk.specs.MomentLaws.{keeps-joined}
@@ -8,9 +8,13 @@ use Rattle.gd_disk.specs.declared.disks.Disk.{Ghosts as DiskGhosts}
 use Rattle.gd_edges.specs.declared.signers.Signer.{Ghosts as SignerGhosts}
 use Rattle.gd_edges.specs.declared.verifiers.Verifier.{Ghosts as VerifierGhosts}
 use Rattle.group_model.specs.declared.entries.Entry.{Entry}
+use Rattle.server_steps.specs.Disks.{Counts}
+use Rattle.server_steps.specs.Hosts.{Host}
+use Rattle.server_steps.specs.Steps.{AreServed}
 use Rattle.group_steps.specs.Counts.{CountsFaults, DisksStayHonest, FaultsAreCounted, faults_in}
-use Rattle.group_steps.specs.Disks.{Counts}
 use Rattle.group_steps.specs.Runs.{Run}
+use Rattle.group_steps.specs.Served.{ServedCountFaults}
+use Rattle.group_steps.specs.Steps.{AreRunSteps}
 
 module _ {D : Type 0} (d : DiskGhosts D) where
   -- a fault, and then those that follow
@@ -39,21 +43,45 @@ module _ {D : Type 0} (d : DiskGhosts D) where
   counts_nothing : (disk : D) → CountsFaults d 0 disk disk
   counts_nothing disk = record { counted = inl (omega arith); none = λ zero. refl }
 
-module _ {D G V : Type 0} (d : DiskGhosts D) (g : SignerGhosts G) (signer : G) (v : VerifierGhosts V) (verifier : V)
-    (block : ℕ → List ℕ) where
-  pub disks_stay : DisksStayHonest d g signer v verifier block
-  disks_stay before run [] after steps = subst (λ (given : Run D). Keeps d run.disk given.disk) (sym steps) (keeps_itself d run.disk)
-  disks_stay before run (entry ∷ entries) after steps =
-      let next = steps.0 in
-      keeps-joined d run.disk next.disk after.disk steps.1.keeps (disks_stay (before ++ entry ∷ []) next entries after steps.2)
+  -- each entry leads from one disk to another one, which is as honest, and counts whether it failed
+  abbrev AreCounted : D → List Entry → D → Type 0
+  AreCounted old [] new = new ≡ old
+  AreCounted old (entry ∷ entries) new =
+      (mid : D) × Keeps d old mid × Counts d entry.outside.disk_failed old mid × AreCounted mid entries new
 
-  pub all_counted : FaultsAreCounted d g signer v verifier block
-  all_counted before run [] after steps =
-      subst (λ (given : Run D). CountsFaults d 0 run.disk given.disk) (sym steps) (counts_nothing d run.disk)
-  all_counted before run (entry ∷ entries) after steps =
-      let next = steps.0 in
-      subst (λ n. CountsFaults d n run.disk after.disk)
-      (sym (sum_by-cons (λ (given : Entry). cond given.outside.disk_failed 1 0) entry entries))
-      (counts_first d entry.outside.disk_failed (faults_in entries) run.disk next.disk after.disk steps.1.counts
-      (disks_stay (before ++ entry ∷ []) next entries after steps.2)
-      (all_counted (before ++ entry ∷ []) next entries after steps.2))
+  stay : (old : D) (entries : List Entry) (new : D) → AreCounted old entries new → Keeps d old new
+  stay old [] new same = subst (Keeps d old) (sym same) (keeps_itself old)
+  stay old (entry ∷ entries) new steps = keeps-joined d old steps.0 new steps.1 (stay steps.0 entries new steps.3)
+
+  counted : (old : D) (entries : List Entry) (new : D) → AreCounted old entries new → CountsFaults d (faults_in entries) old new
+  counted old [] new same = subst (CountsFaults d 0 old) (sym same) (counts_nothing old)
+  counted old (entry ∷ entries) new steps =
+      subst (λ n. CountsFaults d n old new) (sym (sum_by-cons (λ (given : Entry). cond given.outside.disk_failed 1 0) entry entries))
+      (counts_first entry.outside.disk_failed (faults_in entries) old steps.0 new steps.2 (stay steps.0 entries new steps.3)
+      (counted steps.0 entries new steps.3))
+
+module _ {D G : Type 0} (d : DiskGhosts D) (g : SignerGhosts G) (signer : G) (block : ℕ → List ℕ) where
+  disks_served : (host : Host D) (entries : List Entry) (after : Host D) → AreServed d g signer block host entries after
+      → AreCounted d host.disk entries after.disk
+  disks_served host [] after same = ap (λ (given : Host D). given.disk) same
+  disks_served host (entry ∷ entries) after steps =
+      let next = steps.0 in (next.disk, steps.1.keeps, steps.1.counts, disks_served next entries after steps.2)
+
+  pub served_counted : ServedCountFaults d g signer block
+  served_counted host entries after steps =
+      let disks = disks_served host entries after steps in
+      (counted d host.disk entries after.disk disks, stay d host.disk entries after.disk disks)
+
+  module _ {V : Type 0} (v : VerifierGhosts V) (verifier : V) where
+    disks_run : (before : List Entry) (run : Run D) (entries : List Entry) (after : Run D)
+        → AreRunSteps d g signer v verifier block before run entries after → AreCounted d run.host.disk entries after.host.disk
+    disks_run before run [] after same = ap (λ (given : Run D). given.host.disk) same
+    disks_run before run (entry ∷ entries) after steps =
+        let next = steps.0 in
+        (next.host.disk, steps.1.keeps, steps.1.counts, disks_run (before ++ entry ∷ []) next entries after steps.2)
+
+    pub disks_stay : DisksStayHonest d g signer v verifier block
+    disks_stay before run entries after steps = stay d run.host.disk entries after.host.disk (disks_run before run entries after steps)
+
+    pub all_counted : FaultsAreCounted d g signer v verifier block
+    all_counted before run entries after steps = counted d run.host.disk entries after.host.disk (disks_run before run entries after steps)

@@ -12,9 +12,9 @@ use Rattle.group_model.specs.declared.entries.Entry.{Entry}
 use Rattle.group_records.specs.declared.heads.Head.{Head}
 use Rattle.tree_store.specs.Groups.{IsGroup}
 use Rattle.gcks_core.specs.Stored.{IsFileOf, stored_list}
-use Rattle.group_steps.specs.Batches.{made_next}
+use Rattle.server_steps.specs.Batches.{made_next}
 use Rattle.group_steps.specs.Crashes.{CrashesLeaveMoments, HasAtLeast, IsOfMoment, IsToWrite, LeavesMoments}
-use Rattle.group_steps.specs.Disks.{HasJournal}
+use Rattle.server_steps.specs.Disks.{HasJournal}
 use Rattle.group_steps.specs.Runs.{Run}
 use Rattle.group_steps.specs.Steps.{AreRunSteps, IsRunStep}
 use Rattle.group_steps.proofs.JournalLemmas.{IsMeanwhile, StepLeaves, list_begins, leaves_answered}
@@ -42,11 +42,11 @@ module _ {D G V : Type 0} (d : DiskGhosts D) (g : SignerGhosts G) (signer : G) (
   Moment = IsOfMoment d g signer v verifier block
 
   -- no entry
-  leaves_none : (before : List Entry) (run : Run D) → HasJournal d run → Leaves before run [] run
+  leaves_none : (before : List Entry) (run : Run D) → HasJournal d run.host → Leaves before run [] run
   leaves_none before run had = record {
     journal = had;
     head = λ file shows. refl;
-    moments = λ file shows. started d run.disk (Moment before run [] run) (only_now run.disk) (λ c now. record {
+    moments = λ file shows. started d run.host.disk (Moment before run [] run) (only_now run.host.disk) (λ c now. record {
       front = [];
       later = [];
       is = refl;
@@ -56,14 +56,14 @@ module _ {D G V : Type 0} (d : DiskGhosts D) (g : SignerGhosts G) (signer : G) (
       image = inl (had.crash file shows c now);
     });
     kept = λ file shows.
-        started d run.disk (HasAtLeast run) (only_now run.disk)
-        (λ c now. has_front run.head run.server run.server.list [] c (sym (append-nil run.server.list)) (had.crash file shows c now));
+        started d run.host.disk (HasAtLeast run) (only_now run.host.disk)
+        (λ c now. has_front run.host.head run.host.server run.host.server.list [] c (sym (append-nil run.host.server.list)) (had.crash file shows c now));
   }
 
   module _ (before : List Entry) (run : Run D) (entry : Entry) (entries : List Entry) (after next : Run D)
       (step : IsRunStep d g signer v verifier block before run entry next) (rest : Steps (before ++ entry ∷ []) next entries after) where
     -- what is left during the first entry
-    at_first : (c : List ℕ) → IsMeanwhile d g signer v verifier block run entry.asked c → Moment before run (entry ∷ entries) after c
+    at_first : (c : List ℕ) → IsMeanwhile d g signer block run.host entry.asked c → Moment before run (entry ∷ entries) after c
     at_first c meanwhile = record {
       front = [];
       later = entry ∷ entries;
@@ -75,7 +75,7 @@ module _ {D G V : Type 0} (d : DiskGhosts D) (g : SignerGhosts G) (signer : G) (
     }
 
     -- what is left during the others
-    at_later : (c : List ℕ) → next.head ≡ run.head → Moment (before ++ entry ∷ []) next entries after c
+    at_later : (c : List ℕ) → next.host.head ≡ run.host.head → Moment (before ++ entry ∷ []) next entries after c
         → Moment before run (entry ∷ entries) after c
     at_later c same moment = record {
       front = entry ∷ moment.front;
@@ -84,46 +84,46 @@ module _ {D G V : Type 0} (d : DiskGhosts D) (g : SignerGhosts G) (signer : G) (
       mid = moment.mid;
       so_far = (next, step, moment.so_far);
       goes_on = subst (λ given. Steps given moment.mid moment.later after) (append_assoc before (entry ∷ []) moment.front) moment.goes_on;
-      image = subst (λ (head : Head). IsFileOf head moment.mid.server c
+      image = subst (λ (head : Head). IsFileOf head moment.mid.host.server c
           ⊎ (IsToWrite moment.mid moment.later
-          × IsFileOf head (in_doubt moment.mid.server (made_next d g signer block moment.mid)) c)) same moment.image;
+          × IsFileOf head (in_doubt moment.mid.host.server (made_next d g signer block moment.mid.host)) c)) same moment.image;
     }
 
     -- the batches of the run are in both
-    has_first : (c : List ℕ) → IsMeanwhile d g signer v verifier block run entry.asked c → HasAtLeast run c
-    has_first c (inl file) = has_front run.head run.server run.server.list [] c (sym (append-nil run.server.list)) file
+    has_first : (c : List ℕ) → IsMeanwhile d g signer block run.host entry.asked c → HasAtLeast run c
+    has_first c (inl file) = has_front run.host.head run.host.server run.host.server.list [] c (sym (append-nil run.host.server.list)) file
     has_first c (inr file) =
-        has_front run.head (in_doubt run.server (made_next d g signer block run)) run.server.list [] c (sym (append-nil run.server.list))
-        file.1
+        has_front run.host.head (in_doubt run.host.server (made_next d g signer block run.host)) run.host.server.list [] c
+        (sym (append-nil run.host.server.list)) file.1
 
-    has_later : (c : List ℕ) → next.head ≡ run.head → (later : List Made) × (next.server.list ≡ run.server.list ++ later)
+    has_later : (c : List ℕ) → next.host.head ≡ run.host.head → (later : List Made) × (next.host.server.list ≡ run.host.server.list ++ later)
         → HasAtLeast next c → HasAtLeast run c
     has_later c same more has = (
       more.0 ++ has.0,
-      subst (λ (given : List Made). IsGroup c run.head (stored_list run.head.depth given))
-          (ap (λ given. given ++ has.0) more.1 ∙ append_assoc run.server.list more.0 has.0)
-          (subst (λ (head : Head). IsGroup c head (stored_list head.depth (next.server.list ++ has.0))) same has.1),
+      subst (λ (given : List Made). IsGroup c run.host.head (stored_list run.host.head.depth given))
+          (ap (λ given. given ++ has.0) more.1 ∙ append_assoc run.host.server.list more.0 has.0)
+          (subst (λ (head : Head). IsGroup c head (stored_list head.depth (next.host.server.list ++ has.0))) same has.1),
     )
 
     -- the first entry, and then the others
-    leaves_more : StepLeaves d g signer v verifier block run entry.asked next → Leaves (before ++ entry ∷ []) next entries after
+    leaves_more : StepLeaves d g signer block run.host entry.asked next.host → Leaves (before ++ entry ∷ []) next entries after
         → Leaves before run (entry ∷ entries) after
     leaves_more first later =
-        let still : (file : List ℕ) → shown d run.disk ≡ Some file → (now : List ℕ) × (shown d next.disk ≡ Some now)
-        = λ file shows. some_file (shown d next.disk) (shown_still d run.disk next.disk step.keeps (ap is_some shows)) in
+        let still : (file : List ℕ) → shown d run.host.disk ≡ Some file → (now : List ℕ) × (shown d next.host.disk ≡ Some now)
+        = λ file shows. some_file (shown d next.host.disk) (shown_still d run.host.disk next.host.disk step.keeps (ap is_some shows)) in
         record {
           journal = later.journal;
           head = λ file shows. let now = still file shows in later.head now.0 now.1 ∙ first.head file shows;
           moments = λ file shows.
               let now = still file shows in
-              joined d run.disk next.disk after.disk (Moment before run (entry ∷ entries) after)
-              (weaker d run.disk next.disk _ _ at_first (first.moments file shows))
-              (weaker d next.disk after.disk _ _ (λ c. at_later c (first.head file shows)) (later.moments now.0 now.1));
+              joined d run.host.disk next.host.disk after.host.disk (Moment before run (entry ∷ entries) after)
+              (weaker d run.host.disk next.host.disk _ _ at_first (first.moments file shows))
+              (weaker d next.host.disk after.host.disk _ _ (λ c. at_later c (first.head file shows)) (later.moments now.0 now.1));
           kept = λ file shows.
               let now = still file shows in
-              joined d run.disk next.disk after.disk (HasAtLeast run)
-              (weaker d run.disk next.disk _ _ has_first (first.moments file shows))
-              (weaker d next.disk after.disk _ _ (λ c. has_later c (first.head file shows) (first.list file shows)) (later.kept now.0 now.1));
+              joined d run.host.disk next.host.disk after.host.disk (HasAtLeast run)
+              (weaker d run.host.disk next.host.disk _ _ has_first (first.moments file shows))
+              (weaker d next.host.disk after.host.disk _ _ (λ c. has_later c (first.head file shows) (first.list file shows)) (later.kept now.0 now.1));
         }
 
   pub crashes_leave : CrashesLeaveMoments d g signer v verifier block
@@ -131,7 +131,7 @@ module _ {D G V : Type 0} (d : DiskGhosts D) (g : SignerGhosts G) (signer : G) (
       subst (λ (given : Run D). Leaves (first ∷ before) run [] given) (sym steps) (leaves_none (first ∷ before) run had)
   crashes_leave first before run (entry ∷ entries) after steps had =
       let next = steps.0 in
-      let leaves = leaves_answered d g signer v verifier block run had (only_now run.disk) first before entry.asked entry.answer
+      let leaves = leaves_answered d g signer v verifier block run had (only_now run.host.disk) first before entry.asked entry.answer
       entry.outside next steps.1.answered in
       leaves_more (first ∷ before) run entry entries after next steps.1 steps.2 leaves
       (crashes_leave first (before ++ entry ∷ []) next entries after steps.2 leaves.journal)

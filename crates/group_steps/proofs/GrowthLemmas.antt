@@ -27,16 +27,17 @@ use Rattle.group_model.specs.declared.entries.Outside.{Outside}
 use Rattle.group_model.specs.declared.entries.PushPair.{PushPair}
 use Rattle.group_model.specs.declared.entries.Refusal.{Refusal}
 use Rattle.group_pushes.specs.Pairs.{IsPairIfStayed, IsPairOf}
-use Rattle.group_steps.specs.Batches.{IsStored, made_next}
+use Rattle.server_steps.specs.Batches.{IsStored, made_next}
+use Rattle.server_steps.specs.Hosts.{Host}
+use Rattle.server_steps.specs.Openings.{FindsGroup, Found, IsBeginning, IsCreation}
 use Rattle.group_steps.specs.Kinds.{IsQuiet}
 use Rattle.group_steps.specs.Laws.{asks_again}
-use Rattle.group_steps.specs.Openings.{FindsGroup, Found, IsBeginning, IsCreation}
 use Rattle.group_steps.specs.Runs.{Run, no_run}
 use Rattle.group_steps.specs.Steps.{AreRunSteps, IsAnswered, IsRunStep}
 use Rattle.group_steps.specs.TrueSteps.{AreTrueSteps, ReadsTrue, TrueStepsGrow, batches_in}
 use Rattle.group_steps.proofs.KindLemmas.{each_kind, says_nothing}
-use Rattle.group_steps.proofs.SoundLemmas.{IsSoundRun, batches_more, length_made, longer_valid}
-use Rattle.group_steps.proofs.SoundLemmas.{sound_all, sound_found, sound_none, sound_opened, sound_quiet, sound_stored}
+use Rattle.group_steps.proofs.SoundLemmas.{IsSound, batches_more, batches_of, length_made, longer_valid}
+use Rattle.group_steps.proofs.SoundLemmas.{sound_found, sound_quiet, sound_stored}
 
 -- the pair that is sent again is that of the last batch
 resent_are : {G : Type 0} (g : SignerGhosts G) (signer : G) (depth : ℕ) (spi : List ℕ) (list : List Made) (resent : Option PushPair)
@@ -57,19 +58,19 @@ resent_are g signer depth spi list resent = by (stayed_at depth (batches_made li
 
 module _ {D G V : Type 0} (laws : Laws) (to_members : RepliesGoToMembers) (d : DiskGhosts D) (g : SignerGhosts G) (signer : G)
     (v : VerifierGhosts V) (verifier : V) (block : ℕ → List ℕ) where
-  -- a run of a group with a tree, from some epoch on
-  record IsReady (first : ℕ) (run : Run D) : Type 0 where
-    sound : IsSoundRun run
-    some : 1 ≤ run.server.depth
-    late : first ≤ length (batches_in run)
+  -- a host of a group with a tree, from some epoch on
+  record IsReady (first : ℕ) (host : Host D) : Type 0 where
+    sound : IsSound host
+    some : 1 ≤ host.server.depth
+    late : first ≤ length (batches_of host)
 
-  record GoesOn (first : ℕ) (run : Run D) (answer : Answer) (next : Run D) : Type 0 where
-    adds : Adds run.server.depth first (batches_in run) (batches_in next) answer
-    depth : next.server.depth ≡ run.server.depth
+  record GoesOn (first : ℕ) (host : Host D) (answer : Answer) (next : Host D) : Type 0 where
+    adds : Adds host.server.depth first (batches_of host) (batches_of next) answer
+    depth : next.server.depth ≡ host.server.depth
     ready : IsReady first next
 
-  module _ (first : ℕ) (run : Run D) (ready : IsReady first run) (answer : Answer) (outside : Outside) (next : Run D) where
-    goes_quiet : IsQuiet run answer next → GoesOn first run answer next
+  module _ (first : ℕ) (host : Host D) (ready : IsReady first host) (answer : Answer) (outside : Outside) (next : Host D) where
+    goes_quiet : IsQuiet host answer next → GoesOn first host answer next
     goes_quiet quiet = record {
       adds = record {
         grows = inl (ap batches_made quiet.list, inl (says_nothing answer quiet.silent).0);
@@ -77,63 +78,63 @@ module _ {D G V : Type 0} (laws : Laws) (to_members : RepliesGoToMembers) (d : D
       };
       depth = quiet.depth;
       ready = record {
-        sound = sound_quiet laws d g signer v verifier block run answer next ready.sound quiet;
+        sound = sound_quiet laws d g signer v verifier block host answer next ready.sound quiet;
         some = omega (arith, ready.some, quiet.depth);
         late = omega (arith, ready.late, ap (λ list. length (batches_made list)) quiet.list);
       };
     }
 
-    goes_stored : IsStored d g signer block run answer outside next → GoesOn first run answer next
+    goes_stored : IsStored d g signer block host answer outside next → GoesOn first host answer next
     goes_stored stored =
-        let list = ap (λ (given : Run D). given.server.list) stored.now in
-        let more = batches_more run.server.list (made_next d g signer block run) in
-        let is : batches_in next ≡ batches_in run ++ run.server.queue ∷ [] = ap batches_made list ∙ more in
-        let depth = ap (λ (given : Run D). given.server.depth) stored.now in
-        let long = length-append (batches_in run) (run.server.queue ∷ []) in
+        let list = ap (λ (given : Host D). given.server.list) stored.now in
+        let more = batches_more host.server.list (made_next d g signer block host) in
+        let is : batches_of next ≡ batches_of host ++ host.server.queue ∷ [] = ap batches_made list ∙ more in
+        let depth = ap (λ (given : Host D). given.server.depth) stored.now in
+        let long = length-append (batches_of host) (host.server.queue ∷ []) in
         record {
           adds = record {
             grows = inr (
-              run.server.queue,
+              host.server.queue,
               is,
               ap wraps_in stored.answers ∙ stored.puts_out.says.wraps
-                  ∙ ap (λ batches. wraps_at run.server.depth batches (length batches)) (sym (ap batches_made list)),
+                  ∙ ap (λ batches. wraps_at host.server.depth batches (length batches)) (sym (ap batches_made list)),
             );
             tells = λ reply c.
-                subst (λ batches. IsReplyOf run.server.depth first batches reply) (sym is)
-                (to_members run.server.depth first (batches_in run) run.server.queue reply ready.some ready.late
-                (longer_valid laws d g signer v verifier block run ready.sound)
-                (subst (λ batches. Contains (replies_to run.server.depth batches run.server.queue) reply) more
+                subst (λ batches. IsReplyOf host.server.depth first batches reply) (sym is)
+                (to_members host.server.depth first (batches_of host) host.server.queue reply ready.some ready.late
+                (longer_valid laws d g signer v verifier block host ready.sound)
+                (subst (λ batches. Contains (replies_to host.server.depth batches host.server.queue) reply) more
                 (subst (λ replies. Contains replies reply) (ap replies_in stored.answers ∙ stored.puts_out.says.replies) c)));
           };
           depth = depth;
           ready = record {
-            sound = sound_stored laws d g signer v verifier block run answer outside next ready.sound stored;
+            sound = sound_stored laws d g signer v verifier block host answer outside next ready.sound stored;
             some = omega (arith, ready.some, depth);
             late = omega (arith, ready.late, ap length is, long);
           };
         }
 
     -- what an opening sends again, and what it tells
-    sends_again : (found : Found) → FindsGroup d g signer run found answer outside next
-        → wraps_in answer ≡ wraps_at next.server.depth (batches_in next) (length (batches_in next))
+    sends_again : (found : Found) → FindsGroup d g signer host found answer outside next
+        → wraps_in answer ≡ wraps_at next.server.depth (batches_of next) (length (batches_of next))
     sends_again found finds =
         ap wraps_in finds.answers ∙ resent_are g signer found.head.depth found.head.spi found.list finds.resent finds.pair
         ∙ ap (wraps_at found.head.depth (batches_made found.list)) (sym (length_made found.list))
-        ∙ ap (λ (given : Run D). wraps_at given.server.depth (batches_in given) (length (batches_in given))) (sym finds.now)
+        ∙ ap (λ (given : Host D). wraps_at given.server.depth (batches_of given) (length (batches_of given))) (sym finds.now)
 
-    goes_again : (found : Found) → FindsGroup d g signer run found answer outside next → (next.head ≡ run.head)
-        → (next.server.list ≡ run.server.list) ⊎ ((made : Made) × (next.server.list ≡ run.server.list ++ made ∷ [])) → GoesOn first run answer next
+    goes_again : (found : Found) → FindsGroup d g signer host found answer outside next → (next.head ≡ host.head)
+        → (next.server.list ≡ host.server.list) ⊎ ((made : Made) × (next.server.list ≡ host.server.list ++ made ∷ [])) → GoesOn first host answer next
     goes_again found finds head list =
-        let sound = sound_found laws d g signer v verifier block run found answer outside next finds in
-        let depth : next.server.depth ≡ run.server.depth = sym sound.at ∙ ap (λ head. head.depth) head ∙ ready.sound.at in
-        let sends : wraps_in answer ≡ wraps_at run.server.depth (batches_in next) (length (batches_in next)) =
-        sends_again found finds ∙ ap (λ depth. wraps_at depth (batches_in next) (length (batches_in next))) depth in
+        let sound = sound_found laws d g signer v verifier block host found answer outside next finds in
+        let depth : next.server.depth ≡ host.server.depth = sym sound.at ∙ ap (λ head. head.depth) head ∙ ready.sound.at in
+        let sends : wraps_in answer ≡ wraps_at host.server.depth (batches_of next) (length (batches_of next)) =
+        sends_again found finds ∙ ap (λ depth. wraps_at depth (batches_of next) (length (batches_of next))) depth in
         let none : replies_in answer ≡ [] = ap replies_in finds.answers in
         record {
           adds = record {
             grows = elim list [
               | inl same ↦ inl (ap batches_made same, inr sends)
-              | inr one ↦ inr (one.0.changes, ap batches_made one.1 ∙ batches_more run.server.list one.0, sends)
+              | inr one ↦ inr (one.0.changes, ap batches_made one.1 ∙ batches_more host.server.list one.0, sends)
             ];
             tells = λ reply c. absurd (omega (arith, c.1, ap length none));
           };
@@ -147,8 +148,8 @@ module _ {D G V : Type 0} (laws : Laws) (to_members : RepliesGoToMembers) (d : D
                   omega (
                     arith,
                     ready.late,
-                    ap length (ap batches_made one.1 ∙ batches_more run.server.list one.0),
-                    length-append (batches_in run) (one.0.changes ∷ []),
+                    ap length (ap batches_made one.1 ∙ batches_more host.server.list one.0),
+                    length-append (batches_of host) (one.0.changes ∷ []),
                   )
             ];
           };
@@ -159,22 +160,23 @@ module _ {D G V : Type 0} (laws : Laws) (to_members : RepliesGoToMembers) (d : D
   and_both false b is also = absurd (false≢true is)
 
   -- each request after the first, where an opening again found the group that there was
-  goes_on : (first : ℕ) (opening : Entry) (before : List Entry) (run : Run D) (entry : Entry) (next : Run D) → IsReady first run
-      → IsRunStep d g signer v verifier block (opening ∷ before) run entry next → ReadsTrue run entry next → GoesOn first run entry.answer next
+  goes_on : (first : ℕ) (opening : Entry) (before : List Entry) (run : Run D) (entry : Entry) (next : Run D) → IsReady first run.host
+      → IsRunStep d g signer v verifier block (opening ∷ before) run entry next → ReadsTrue run entry next
+      → GoesOn first run.host entry.answer next.host
   goes_on first opening before run entry next ready step reads = elim (each_kind laws d g signer v verifier block opening before run entry next step) [
-    | inl quiet ↦ goes_quiet first run ready entry.answer entry.outside next quiet
-    | inr (inl stored) ↦ goes_stored first run ready entry.answer entry.outside next stored
+    | inl quiet ↦ goes_quiet first run.host ready entry.answer entry.outside next.host quiet
+    | inr (inl stored) ↦ goes_stored first run.host ready entry.answer entry.outside next.host stored
     | inr (inr found) ↦ (
         let same = reads (and_both (asks_again entry.asked) (is_open entry.answer) found.1 (ap is_open found.2.answers)) in
-        goes_again first run ready entry.answer entry.outside next found.0 found.2 same.head
+        goes_again first run.host ready entry.answer entry.outside next.host found.0 found.2 same.head
         (elim same.batches [ inl is ↦ inl is | inr one ↦ inr (one.0, one.2) ])
         )
   ]
 
   adds_all : (first depth : ℕ) (opening : Entry) (before : List Entry) (run : Run D) (entries : List Entry) (after : Run D)
-      → IsReady first run → run.server.depth ≡ depth → AreTrueSteps d g signer v verifier block (opening ∷ before) run entries after
-      → AddsAll depth first (batches_in run) entries (batches_in after) × (after.server.depth ≡ depth)
-  adds_all first depth opening before run [] after ready same steps = (ap batches_in steps, ap (λ (given : Run D). given.server.depth) steps ∙ same)
+      → IsReady first run.host → run.host.server.depth ≡ depth → AreTrueSteps d g signer v verifier block (opening ∷ before) run entries after
+      → AddsAll depth first (batches_in run) entries (batches_in after) × (after.host.server.depth ≡ depth)
+  adds_all first depth opening before run [] after ready same steps = (ap batches_in steps, ap (λ (given : Run D). given.host.server.depth) steps ∙ same)
   adds_all first depth opening before run (entry ∷ entries) after ready same steps =
       let next = steps.0 in
       let goes = goes_on first opening before run entry next ready steps.1.0 steps.1.1 in
@@ -184,20 +186,20 @@ module _ {D G V : Type 0} (laws : Laws) (to_members : RepliesGoToMembers) (d : D
   -- ---- the first step
 
   -- a group is made or found, or there is none
-  abbrev IsFirst : Answer → Run D → Type 0
+  abbrev IsFirst : Answer → Host D → Type 0
   IsFirst answer next =
-      (IsReady (length (batches_in next)) next × Begins next.server.depth (batches_in next) answer)
-      ⊎ ((is_open answer ≡ false) × (batches_in next ≡ []) × Begins next.server.depth [] answer)
+      (IsReady (length (batches_of next)) next × Begins next.server.depth (batches_of next) answer)
+      ⊎ ((is_open answer ≡ false) × (batches_of next ≡ []) × Begins next.server.depth [] answer)
 
-  none_first : (start : Run D) (answer : Answer) (next made : Run D) (why : Refusal) → batches_in start ≡ [] → answer ≡ Refused why → next ≡ made
+  none_first : (start : Host D) (answer : Answer) (next made : Host D) (why : Refusal) → batches_of start ≡ [] → answer ≡ Refused why → next ≡ made
       → made.server.list ≡ start.server.list → IsFirst answer next
   none_first start answer next made why none refused is same = inr (
     ap is_open refused,
-    ap batches_in is ∙ ap batches_made same ∙ none,
+    ap (λ (given : Host D). batches_of given) is ∙ ap batches_made same ∙ none,
     subst (Begins next.server.depth []) (sym refused) (record { found = refl; sends = inr (refl, refl); none_told = refl }),
   )
 
-  created : (depth : ℕ) (start : Run D) (answer : Answer) (outside : Outside) (next : Run D) → batches_in start ≡ []
+  created : (depth : ℕ) (start : Host D) (answer : Answer) (outside : Outside) (next : Host D) → batches_of start ≡ []
       → IsCreation d block depth start answer outside next → IsFirst answer next
   created depth start answer outside next none creation = elim creation.ends [
     | inl makes ↦ inl (subst IsOpened (sym makes.now) (
@@ -211,27 +213,27 @@ module _ {D G V : Type 0} (laws : Laws) (to_members : RepliesGoToMembers) (d : D
     | inr fails ↦ none_first start answer next _ fails.why none fails.answers fails.now refl
   ]
     where
-      IsOpened : Run D → Type 0
-      IsOpened given = IsReady (length (batches_in given)) given × Begins given.server.depth (batches_in given) answer
+      IsOpened : Host D → Type 0
+      IsOpened given = IsReady (length (batches_of given)) given × Begins given.server.depth (batches_of given) answer
 
-  found_first : (start : Run D) (found : Found) (answer : Answer) (outside : Outside) (next : Run D) → FindsGroup d g signer start found answer outside next
-      → IsReady (length (batches_in next)) next × Begins next.server.depth (batches_in next) answer
+  found_first : (start : Host D) (found : Found) (answer : Answer) (outside : Outside) (next : Host D) → FindsGroup d g signer start found answer outside next
+      → IsReady (length (batches_of next)) next × Begins next.server.depth (batches_of next) answer
   found_first start found answer outside next finds = (
     record {
       sound = sound_found laws d g signer v verifier block start found answer outside next finds;
-      some = omega (arith, finds.group.head.fits.shallow, ap (λ (given : Run D). given.server.depth) finds.now);
+      some = omega (arith, finds.group.head.fits.shallow, ap (λ (given : Host D). given.server.depth) finds.now);
       late = omega arith;
     },
     record {
-      found = ap (λ answer. unwrap_or (found_by answer) 0) finds.answers ∙ ap (λ (given : Run D). length (batches_in given)) (sym finds.now);
+      found = ap (λ answer. unwrap_or (found_by answer) 0) finds.answers ∙ ap (λ (given : Host D). length (batches_of given)) (sym finds.now);
       sends = inl (ap wraps_in finds.answers ∙ resent_are g signer found.head.depth found.head.spi found.list finds.resent finds.pair
           ∙ ap (wraps_at found.head.depth (batches_made found.list)) (sym (length_made found.list))
-          ∙ ap (λ (given : Run D). wraps_at given.server.depth (batches_in given) (length (batches_in given))) (sym finds.now));
+          ∙ ap (λ (given : Host D). wraps_at given.server.depth (batches_of given) (length (batches_of given))) (sym finds.now));
       none_told = ap replies_in finds.answers;
     },
   )
 
-  begun : (start : Run D) (answer : Answer) (outside : Outside) (next : Run D) → batches_in start ≡ []
+  begun : (start : Host D) (answer : Answer) (outside : Outside) (next : Host D) → batches_of start ≡ []
       → IsBeginning d g signer start answer outside next → IsFirst answer next
   begun start answer outside next none beginning = elim beginning.ends [
     | inl begins ↦ inl (found_first start begins.found answer outside next begins.finds)
@@ -239,48 +241,46 @@ module _ {D G V : Type 0} (laws : Laws) (to_members : RepliesGoToMembers) (d : D
   ]
 
   first_step : (start : Run D) (asked : Asked) (answer : Answer) (outside : Outside) (next : Run D) → batches_in start ≡ [] → opens asked ≡ true
-      → IsAnswered d g signer v verifier block [] asked start answer outside next → IsFirst answer next
-  first_step start (Create depth) answer outside next none first step = created depth start answer outside next none step.1
-  first_step start Begin answer outside next none first step = begun start answer outside next none step.1
+      → IsAnswered d g signer v verifier block [] asked start answer outside next → IsFirst answer next.host
+  first_step start (Create depth) answer outside next none first step = created depth start.host answer outside next.host none step.opens
+  first_step start Begin answer outside next none first step = begun start.host answer outside next.host none step.opens
   first_step start asked answer outside next none first step = absurd (false≢true first)
 
   -- from an opening on, whatever it found
-  since_of : (opening first : Entry) (before : List Entry) (next : Run D) (entries : List Entry) (after : Run D) → IsReady (length (batches_in next)) next
-      → Begins next.server.depth (batches_in next) opening.answer → AreTrueSteps d g signer v verifier block (first ∷ before) next entries after
-      → Leaves after.server.depth (opening ∷ entries) (batches_in after)
+  since_of : (opening first : Entry) (before : List Entry) (next : Run D) (entries : List Entry) (after : Run D)
+      → IsReady (length (batches_in next)) next.host → Begins next.host.server.depth (batches_in next) opening.answer
+      → AreTrueSteps d g signer v verifier block (first ∷ before) next entries after
+      → Leaves after.host.server.depth (opening ∷ entries) (batches_in after)
   since_of opening first before next entries after ready begins steps =
-      let all = adds_all (length (batches_in next)) next.server.depth first before next entries after ready refl steps in
+      let all = adds_all (length (batches_in next)) next.host.server.depth first before next entries after ready refl steps in
       subst (λ depth. Leaves depth (opening ∷ entries) (batches_in after)) (sym all.1) (batches_in next, begins, all.0)
 
   -- ---- from an opening on
 
   -- an opening that is granted after the first request
-  again_step : (opening : Entry) (before : List Entry) (run : Run D) (entry : Entry) (next : Run D) → IsSoundRun run → is_open entry.answer ≡ true
+  again_step : (opening : Entry) (before : List Entry) (run : Run D) (entry : Entry) (next : Run D) → is_open entry.answer ≡ true
       → IsRunStep d g signer v verifier block (opening ∷ before) run entry next
-      → IsReady (length (batches_in next)) next × Begins next.server.depth (batches_in next) entry.answer
-  again_step opening before run entry next sound granted step = elim (each_kind laws d g signer v verifier block opening before run entry next step) [
+      → IsReady (length (batches_in next)) next.host × Begins next.host.server.depth (batches_in next) entry.answer
+  again_step opening before run entry next granted step = elim (each_kind laws d g signer v verifier block opening before run entry next step) [
     | inl quiet ↦ absurd (false≢true (sym (says_nothing entry.answer quiet.silent).2 ∙ granted))
     | inr (inl stored) ↦ absurd (false≢true (sym (ap is_open stored.answers) ∙ granted))
-    | inr (inr found) ↦ found_first run found.0 entry.answer entry.outside next found.2
+    | inr (inr found) ↦ found_first run.host found.0 entry.answer entry.outside next.host found.2
   ]
 
-  grow_from : (start : Run D) → IsSoundRun start → batches_in start ≡ [] → (before : List Entry) (opening : Entry) (later : List Entry) (run next mid : Run D)
+  grow_from : (start : Run D) → batches_in start ≡ [] → (before : List Entry) (opening : Entry) (later : List Entry) (run next mid : Run D)
       → BeginsWithOpening (before ++ opening ∷ later) → AreRunSteps d g signer v verifier block [] start before run
       → IsRunStep d g signer v verifier block before run opening next → is_open opening.answer ≡ true
-      → AreTrueSteps d g signer v verifier block (before ++ opening ∷ []) next later mid → Leaves mid.server.depth (opening ∷ later) (batches_in mid)
-  grow_from start sound none [] opening later run next mid begins so_far step granted goes_on =
+      → AreTrueSteps d g signer v verifier block (before ++ opening ∷ []) next later mid → Leaves mid.host.server.depth (opening ∷ later) (batches_in mid)
+  grow_from start none [] opening later run next mid begins so_far step granted goes_on =
       elim (first_step run opening.asked opening.answer opening.outside next (ap batches_in so_far ∙ none) begins.0 step.answered) [
         | inl opened ↦ since_of opening opening [] next later mid opened.0 opened.1 goes_on
         | inr closed ↦ absurd (false≢true (sym closed.0 ∙ granted))
       ]
-  grow_from start sound none (first ∷ before) opening later run next mid begins so_far step granted goes_on =
-      let sound_first = sound_opened laws d g signer v verifier block start first.asked first.answer first.outside so_far.0 sound begins.0 so_far.1.answered in
-      let sound_run = sound_all laws d g signer v verifier block first [] so_far.0 before run sound_first so_far.2 in
-      let opened = again_step first before run opening next sound_run granted step in
+  grow_from start none (first ∷ before) opening later run next mid begins so_far step granted goes_on =
+      let opened = again_step first before run opening next granted step in
       since_of opening first (before ++ opening ∷ []) next later mid opened.0 opened.1 goes_on
 
   pub grow : TrueStepsGrow d g signer v verifier block
   grow disk name limit place opening later mid true_since =
-      grow_from (no_run disk name limit place) (sound_none laws d g signer v verifier block disk name limit place) refl true_since.before opening
-      later true_since.run true_since.next mid
+      grow_from (no_run disk name limit place) refl true_since.before opening later true_since.run true_since.next mid
       true_since.begins true_since.so_far true_since.step true_since.granted true_since.goes_on

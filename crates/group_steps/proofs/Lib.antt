@@ -2,9 +2,12 @@ pub mod CountLemmas
 pub mod CrashLemmas
 pub mod FitLemmas
 pub mod GrowthLemmas
+pub mod HostLemmas
 pub mod JournalLemmas
 pub mod KindLemmas
 pub mod MomentLemmas
 pub mod OpenedLemmas
+pub mod ReplyLemmas
+pub mod ServedLemmas
 pub mod SoundLemmas
 pub mod SureLemmas

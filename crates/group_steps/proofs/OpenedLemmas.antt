@@ -12,9 +12,10 @@ use Rattle.group_model.specs.declared.entries.Asked.TheVariants.{Begin, Create}
 use Rattle.group_model.specs.declared.entries.Entry.{Entry}
 use Rattle.group_model.specs.declared.entries.Outside.{Outside}
 use Rattle.group_model.specs.declared.entries.Refusal.{Refusal}
+use Rattle.server_steps.specs.Disks.{HasJournal}
+use Rattle.server_steps.specs.Hosts.{Host}
+use Rattle.server_steps.specs.Openings.{IsBeginning, IsCreation}
 use Rattle.group_steps.specs.Crashes.{OpenedHaveJournals}
-use Rattle.group_steps.specs.Disks.{HasJournal}
-use Rattle.group_steps.specs.Openings.{IsBeginning, IsCreation}
 use Rattle.group_steps.specs.Runs.{Run}
 use Rattle.group_steps.specs.Steps.{IsAnswered}
 
@@ -24,25 +25,25 @@ module _ {D G V : Type 0} (d : DiskGhosts D) (g : SignerGhosts G) (signer : G) (
   opens_none : (answer : Answer) (why : Refusal) (P : Type 0) → answer ≡ Refused why → is_open answer ≡ true → P
   opens_none answer why P is opened = absurd (false≢true (sym (ap is_open is) ∙ opened))
 
-  made_has : (depth : ℕ) (start : Run D) (answer : Answer) (outside : Outside) (run : Run D) → is_open answer ≡ true
-      → IsCreation d block depth start answer outside run → HasJournal d run
-  made_has depth start answer outside run opened creation = elim creation.ends [
+  made_has : (depth : ℕ) (start : Host D) (answer : Answer) (outside : Outside) (host : Host D) → is_open answer ≡ true
+      → IsCreation d block depth start answer outside host → HasJournal d host
+  made_has depth start answer outside host opened creation = elim creation.ends [
     | inl makes ↦ makes.journal
-    | inr fails ↦ opens_none answer fails.why (HasJournal d run) fails.answers opened
+    | inr fails ↦ opens_none answer fails.why (HasJournal d host) fails.answers opened
   ]
 
-  begun_has : (start : Run D) (answer : Answer) (outside : Outside) (run : Run D) → is_open answer ≡ true
-      → IsBeginning d g signer start answer outside run → HasJournal d run
-  begun_has start answer outside run opened beginning = elim beginning.ends [
+  begun_has : (start : Host D) (answer : Answer) (outside : Outside) (host : Host D) → is_open answer ≡ true
+      → IsBeginning d g signer start answer outside host → HasJournal d host
+  begun_has start answer outside host opened beginning = elim beginning.ends [
     | inl begins ↦ begins.finds.journal
-    | inr fails ↦ opens_none answer fails.why (HasJournal d run) fails.answers opened
+    | inr fails ↦ opens_none answer fails.why (HasJournal d host) fails.answers opened
   ]
 
   has_by : (before : List Entry) (start : Run D) (asked : Asked) (answer : Answer) (outside : Outside) (run : Run D) → opens asked ≡ true
       → is_open answer ≡ true
-      → IsAnswered d g signer v verifier block before asked start answer outside run → HasJournal d run
-  has_by before start (Create depth) answer outside run first opened step = made_has depth start answer outside run opened step.1
-  has_by before start Begin answer outside run first opened step = begun_has start answer outside run opened step.1
+      → IsAnswered d g signer v verifier block before asked start answer outside run → HasJournal d run.host
+  has_by before start (Create depth) answer outside run first opened step = made_has depth start.host answer outside run.host opened step.opens
+  has_by before start Begin answer outside run first opened step = begun_has start.host answer outside run.host opened step.opens
   has_by before start asked answer outside run first opened step = absurd (false≢true first)
 
   pub opened_have : OpenedHaveJournals d g signer v verifier block

@@ -13,8 +13,9 @@ use Rattle.group_model.specs.declared.entries.Asked.{Asked}
 use Rattle.group_model.specs.declared.entries.Asked.TheVariants.{Reopen}
 use Rattle.group_model.specs.declared.entries.Entry.{Entry}
 use Rattle.group_model.specs.declared.entries.Outside.{Outside}
+use Rattle.server_steps.specs.Hosts.{Host}
+use Rattle.server_steps.specs.Openings.{IsOpeningAgain, IsSame}
 use Rattle.group_steps.specs.Laws.{IsSure, asks_again, is_opened_again}
-use Rattle.group_steps.specs.Openings.{IsOpeningAgain, IsSame}
 use Rattle.group_steps.specs.Runs.{Run}
 use Rattle.group_steps.specs.Steps.{IsAnswered}
 use Rattle.group_steps.specs.TrueSteps.{SureStepsAreTrue}
@@ -45,20 +46,20 @@ module _ {D : Type 0} (d : DiskGhosts D) where
   sure_later old new entry entries keeps (inr none) = inr (or_parts (is_opened_again entry) (list_any is_opened_again entries) none).1
 
 module _ {D G V : Type 0} (d : DiskGhosts D) (g : SignerGhosts G) (signer : G) (v : VerifierGhosts V) (verifier : V) (block : ℕ → List ℕ) where
-  true_again : (run : Run D) (answer : Answer) (outside : Outside) (next : Run D) → IsSome (shown d run.disk) → is_open answer ≡ true
-      → IsOpeningAgain d g signer run answer outside next → IsSame run (record { head = next.head; list = next.server.list })
-  true_again run answer outside next some opened again = elim again.ends [
+  true_again : (host : Host D) (answer : Answer) (outside : Outside) (next : Host D) → IsSome (shown d host.disk) → is_open answer ≡ true
+      → IsOpeningAgain d g signer host answer outside next → IsSame host (record { head = next.head; list = next.server.list })
+  true_again host answer outside next some opened again = elim again.ends [
     | inl reopens ↦ (
-        let file = some_file (shown d run.disk) some in
-        subst (λ (given : Run D). IsSame run (record { head = given.head; list = given.server.list })) (sym reopens.finds.now) (reopens.same file.0 file.1)
+        let file = some_file (shown d host.disk) some in
+        subst (λ (given : Host D). IsSame host (record { head = given.head; list = given.server.list })) (sym reopens.finds.now) (reopens.same file.0 file.1)
         )
     | inr fails ↦ absurd (false≢true (sym (ap is_open fails.answers) ∙ opened))
   ]
 
-  true_answered : (before : List Entry) (run : Run D) (asked : Asked) (answer : Answer) (outside : Outside) (next : Run D) → IsSome (shown d run.disk)
-      → asks_again asked ≡ true → is_open answer ≡ true
-      → IsAnswered d g signer v verifier block before asked run answer outside next → IsSame run (record { head = next.head; list = next.server.list })
-  true_answered before run Reopen answer outside next some again opened step = true_again run answer outside next some opened step
+  true_answered : (before : List Entry) (run : Run D) (asked : Asked) (answer : Answer) (outside : Outside) (next : Run D) → IsSome (shown d run.host.disk)
+      → asks_again asked ≡ true → is_open answer ≡ true → IsAnswered d g signer v verifier block before asked run answer outside next
+      → IsSame run.host (record { head = next.host.head; list = next.host.server.list })
+  true_answered before run Reopen answer outside next some again opened step = true_again run.host answer outside next.host some opened step.served
   true_answered before run asked answer outside next some again opened step = absurd (false≢true again)
 
   pub sure_true : SureStepsAreTrue d g signer v verifier block
@@ -71,8 +72,8 @@ module _ {D G V : Type 0} (d : DiskGhosts D) (g : SignerGhosts G) (signer : G) (
           λ again. (
               let both = and_parts (asks_again entry.asked) (is_open entry.answer) again in
               true_answered before run entry.asked entry.answer entry.outside next
-              (sure_first d run.disk entry entries sure again) both.0 both.1 steps.1.answered
+              (sure_first d run.host.disk entry entries sure again) both.0 both.1 steps.1.answered
               ),
         ),
-        sure_true (before ++ entry ∷ []) next entries after steps.2 (sure_later d run.disk next.disk entry entries steps.1.keeps sure),
+        sure_true (before ++ entry ∷ []) next entries after steps.2 (sure_later d run.host.disk next.host.disk entry entries steps.1.keeps sure),
       )

@@ -23,10 +23,10 @@ module _ {D G V : Type 0} (d : DiskGhosts D) (g : SignerGhosts G) (signer : G) (
   abbrev pub FaultsAreCounted : Type 0
   FaultsAreCounted =
       (before : List Entry) (run : Run D) (entries : List Entry) (after : Run D)
-      → AreRunSteps d g signer v verifier block before run entries after → CountsFaults d (faults_in entries) run.disk after.disk
+      → AreRunSteps d g signer v verifier block before run entries after → CountsFaults d (faults_in entries) run.host.disk after.host.disk
 
   -- The disk is as honest as it was, and exposes its octets as before.
   abbrev pub DisksStayHonest : Type 0
   DisksStayHonest =
       (before : List Entry) (run : Run D) (entries : List Entry) (after : Run D)
-      → AreRunSteps d g signer v verifier block before run entries after → Keeps d run.disk after.disk
+      → AreRunSteps d g signer v verifier block before run entries after → Keeps d run.host.disk after.host.disk

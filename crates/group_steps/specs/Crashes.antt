@@ -12,20 +12,20 @@ use Rattle.group_model.specs.declared.entries.Asked.TheVariants.{Batch}
 use Rattle.group_model.specs.declared.entries.Entry.{Entry}
 use Rattle.tree_store.specs.Groups.{IsGroup}
 use Rattle.gcks_core.specs.Stored.{IsFileOf, stored_list}
-use Rattle.group_steps.specs.Batches.{made_next}
-use Rattle.group_steps.specs.Disks.{HasJournal}
+use Rattle.server_steps.specs.Batches.{made_next}
+use Rattle.server_steps.specs.Disks.{HasJournal}
 use Rattle.group_steps.specs.Runs.{Run}
 use Rattle.group_steps.specs.Steps.{AreRunSteps, IsRunStep}
 
 module _ {D : Type 0} where
-  -- the next entry asks for a batch, and that is granted
+  -- the next entry asks for a batch, which the server has no reason to refuse
   abbrev pub IsToWrite : Run D → List Entry → Type 0
   IsToWrite run [] = ⊥
-  IsToWrite run (entry ∷ later) = (entry.asked ≡ Batch) × (refusal_to_batch run.server ≡ None)
+  IsToWrite run (entry ∷ later) = (entry.asked ≡ Batch) × (refusal_to_batch run.host.server ≡ None)
 
   -- an image is the journal of the group, with the batches that a run has, and maybe later ones
   abbrev pub HasAtLeast : Run D → List ℕ → Type 0
-  HasAtLeast run c = (later : List Made) × IsGroup c run.head (stored_list run.head.depth (run.server.list ++ later))
+  HasAtLeast run c = (later : List Made) × IsGroup c run.host.head (stored_list run.host.head.depth (run.host.server.list ++ later))
 
 module _ {D G V : Type 0} (d : DiskGhosts D) (g : SignerGhosts G) (signer : G) (v : VerifierGhosts V) (verifier : V)
     (block : ℕ → List ℕ) where
@@ -38,27 +38,27 @@ module _ {D G V : Type 0} (d : DiskGhosts D) (g : SignerGhosts G) (signer : G) (
     pub mid : Run D
     pub so_far : AreRunSteps d g signer v verifier block before run front mid
     pub goes_on : AreRunSteps d g signer v verifier block (before ++ front) mid later after
-    pub image : IsFileOf run.head mid.server c
-        ⊎ (IsToWrite mid later × IsFileOf run.head (in_doubt mid.server (made_next d g signer block mid)) c)
+    pub image : IsFileOf run.host.head mid.host.server c
+        ⊎ (IsToWrite mid later × IsFileOf run.host.head (in_doubt mid.host.server (made_next d g signer block mid.host)) c)
 
   -- A group that was made, or first opened, has a journal.
   abbrev pub OpenedHaveJournals : Type 0
   OpenedHaveJournals =
       (before : List Entry) (start : Run D) (entry : Entry) (run : Run D)
       → opens entry.asked ≡ true → is_open entry.answer ≡ true
-      → IsRunStep d g signer v verifier block before start entry run → HasJournal d run
+      → IsRunStep d g signer v verifier block before start entry run → HasJournal d run.host
 
   -- what a history does to the journal of a group that was opened before
   pub record LeavesMoments (before : List Entry) (run : Run D) (entries : List Entry) (after : Run D) : Type 0 where
-    pub journal : HasJournal d after
-    pub head : Knows (shown d run.disk) (λ file. after.head ≡ run.head)
-    pub moments : Knows (shown d run.disk) (λ file. LeavesOnly d run.disk after.disk (IsOfMoment before run entries after))
-    pub kept : Knows (shown d run.disk) (λ file. LeavesOnly d run.disk after.disk (HasAtLeast run))
+    pub journal : HasJournal d after.host
+    pub head : Knows (shown d run.host.disk) (λ file. after.host.head ≡ run.host.head)
+    pub moments : Knows (shown d run.host.disk) (λ file. LeavesOnly d run.host.disk after.host.disk (IsOfMoment before run entries after))
+    pub kept : Knows (shown d run.host.disk) (λ file. LeavesOnly d run.host.disk after.host.disk (HasAtLeast run))
 
   -- Where the disk is honest and exposes its octets, a crash at any moment of a history leaves the group as it was at that moment. Batches
   -- that were stored before are in every image that is left since.
   abbrev pub CrashesLeaveMoments : Type 0
   CrashesLeaveMoments =
       (first : Entry) (before : List Entry) (run : Run D) (entries : List Entry) (after : Run D)
-      → AreRunSteps d g signer v verifier block (first ∷ before) run entries after → HasJournal d run
+      → AreRunSteps d g signer v verifier block (first ∷ before) run entries after → HasJournal d run.host
       → LeavesMoments (first ∷ before) run entries after

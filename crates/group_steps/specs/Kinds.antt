@@ -8,9 +8,10 @@ use Rattle.group_model.specs.Servers.{members_now}
 use Rattle.group_model.specs.declared.entries.Answer.{Answer}
 use Rattle.group_model.specs.declared.entries.Answer.TheVariants.{Batched, Opened}
 use Rattle.group_model.specs.declared.entries.Entry.{Entry}
-use Rattle.group_steps.specs.Batches.{IsStored}
+use Rattle.server_steps.specs.Batches.{IsStored}
 use Rattle.group_steps.specs.Laws.{asks_again}
-use Rattle.group_steps.specs.Openings.{FindsGroup, Found}
+use Rattle.server_steps.specs.Hosts.{Host}
+use Rattle.server_steps.specs.Openings.{FindsGroup, Found}
 use Rattle.group_steps.specs.Runs.{Run}
 use Rattle.group_steps.specs.Steps.{IsRunStep}
 
@@ -21,26 +22,26 @@ speaks (Opened seen resent) = true
 speaks answer = false
 
 -- The group stays as it is, but for the changes that wait, which still fit if they did. Nothing is sent, and nobody is told keys.
-pub record IsQuiet {D : Type 0} (run : Run D) (answer : Answer) (next : Run D) : Type 0 where
-  pub head : next.head ≡ run.head
-  pub depth : next.server.depth ≡ run.server.depth
-  pub limit : next.server.limit ≡ run.server.limit
-  pub list : next.server.list ≡ run.server.list
-  pub fits : Fits (members_now run.server) run.server.queue → Fits (members_now run.server) next.server.queue
+pub record IsQuiet {D : Type 0} (host : Host D) (answer : Answer) (next : Host D) : Type 0 where
+  pub head : next.head ≡ host.head
+  pub depth : next.server.depth ≡ host.server.depth
+  pub limit : next.server.limit ≡ host.server.limit
+  pub list : next.server.list ≡ host.server.list
+  pub fits : Fits (members_now host.server) host.server.queue → Fits (members_now host.server) next.server.queue
   pub silent : speaks answer ≡ false
 
 module _ {D G V : Type 0} (d : DiskGhosts D) (g : SignerGhosts G) (signer : G) (v : VerifierGhosts V) (verifier : V) (block : ℕ → List ℕ) where
   -- it is asked to open the group again, and a group was found, be it the one that there was or another one
-  abbrev pub IsFoundAgain : Run D → Entry → Run D → Type 0
-  IsFoundAgain run entry next = (found : Found) × (asks_again entry.asked ≡ true) × FindsGroup d g signer run found entry.answer entry.outside next
+  abbrev pub IsFoundAgain : Host D → Entry → Host D → Type 0
+  IsFoundAgain host entry next = (found : Found) × (asks_again entry.asked ≡ true) × FindsGroup d g signer host found entry.answer entry.outside next
 
   -- one of the three
-  abbrev pub IsOfAKind : Run D → Entry → Run D → Type 0
-  IsOfAKind run entry next =
-      IsQuiet run entry.answer next ⊎ (IsStored d g signer block run entry.answer entry.outside next ⊎ IsFoundAgain run entry next)
+  abbrev pub IsOfAKind : Host D → Entry → Host D → Type 0
+  IsOfAKind host entry next =
+      IsQuiet host entry.answer next ⊎ (IsStored d g signer block host entry.answer entry.outside next ⊎ IsFoundAgain host entry next)
 
   -- Each step after the first request is of one of these kinds.
   abbrev pub EachStepIsOfAKind : Type 0
   EachStepIsOfAKind =
       (first : Entry) (before : List Entry) (run : Run D) (entry : Entry) (next : Run D)
-      → IsRunStep d g signer v verifier block (first ∷ before) run entry next → IsOfAKind run entry next
+      → IsRunStep d g signer v verifier block (first ∷ before) run entry next → IsOfAKind run.host entry next.host

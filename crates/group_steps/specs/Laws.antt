@@ -34,4 +34,4 @@ module _ {D G V : Type 0} (d : DiskGhosts D) (g : SignerGhosts G) (signer : G) (
   LeavesValidList =
       (disk : D) (name : Name) (limit place : ℕ) (entries : List Entry) (after : Run D)
       → IsHistory d g signer v verifier block (no_run disk name limit place) entries after
-      → IsValid after.server.depth (batches_made after.server.list)
+      → IsValid after.host.server.depth (batches_made after.host.server.list)

@@ -11,18 +11,18 @@ use Rattle.group_model.specs.Growth.{Leaves}
 use Rattle.group_model.specs.declared.entries.Entry.{Entry}
 use Rattle.group_steps.specs.Chains.{Along}
 use Rattle.group_steps.specs.Laws.{IsSure, is_opened_again}
-use Rattle.group_steps.specs.Openings.{IsSame}
+use Rattle.server_steps.specs.Openings.{IsSame}
 use Rattle.group_steps.specs.Runs.{Run, no_run}
 use Rattle.group_steps.specs.Steps.{AreRunSteps, IsRunStep}
 
 module _ {D : Type 0} where
   -- the batches that made the epochs of a run
   abbrev pub batches_in : Run D → List (List Change)
-  batches_in run = batches_made run.server.list
+  batches_in run = batches_made run.host.server.list
 
   -- where the group was opened again, its journal had the same head, and the batches that it may have
   abbrev pub ReadsTrue : Run D → Entry → Run D → Type 0
-  ReadsTrue run entry next = is_opened_again entry ≡ true → IsSame run (record { head = next.head; list = next.server.list })
+  ReadsTrue run entry next = is_opened_again entry ≡ true → IsSame run.host (record { head = next.host.head; list = next.host.server.list })
 
 module _ {D G V : Type 0} (d : DiskGhosts D) (g : SignerGhosts G) (signer : G) (v : VerifierGhosts V) (verifier : V) (block : ℕ → List ℕ) where
   -- a step that reads true, if it opens the group again
@@ -50,10 +50,10 @@ module _ {D G V : Type 0} (d : DiskGhosts D) (g : SignerGhosts G) (signer : G) (
   abbrev pub SureStepsAreTrue : Type 0
   SureStepsAreTrue =
       (before : List Entry) (run : Run D) (entries : List Entry) (after : Run D) → AreRunSteps d g signer v verifier block before run entries after
-      → IsSure d run.disk entries → AreTrueSteps before run entries after
+      → IsSure d run.host.disk entries → AreTrueSteps before run entries after
 
   -- From an opening on, as long as later ones read true, the group grows by what is sent and told, from the batches that it found.
   abbrev pub TrueStepsGrow : Type 0
   TrueStepsGrow =
       (disk : D) (name : Name) (limit place : ℕ) (opening : Entry) (later : List Entry) (mid : Run D)
-      → IsTrueSince (no_run disk name limit place) opening later mid → Leaves mid.server.depth (opening ∷ later) (batches_in mid)
+      → IsTrueSince (no_run disk name limit place) opening later mid → Leaves mid.host.server.depth (opening ∷ later) (batches_in mid)

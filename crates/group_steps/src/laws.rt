@@ -5,6 +5,8 @@ ghost use Rattle.group_steps.specs.Crashes.{CrashesLeaveMoments, OpenedHaveJourn
 ghost use Rattle.group_steps.specs.Kinds.{EachStepIsOfAKind};
 ghost use Rattle.group_steps.specs.Laws.{LeavesValidList};
 ghost use Rattle.group_steps.specs.Moments.{MomentsEndHistories};
+ghost use Rattle.group_steps.specs.Replies.{RepliesAreOfNow};
+ghost use Rattle.group_steps.specs.Served.{CrashesLeaveServed, ServedAreRunSteps, ServedCountFaults, ServedReachMembers};
 ghost use Rattle.group_steps.specs.TrueSteps.{SureStepsAreTrue, TrueStepsGrow};
 
 use gd_disk::Disk;
@@ -53,3 +55,19 @@ pub fn a_group_grows_by_what_is_sent<D: Disk, G: Signer, V: Verifier>()
     laws_hold();
     replies_go_to_members();
 }
+
+/// The steps of a server are steps of a run, whatever came before and whoever its members are: they get what they are told. So a crash at any
+/// moment leaves the journal of the group after some of the steps, and the disk counts a fault for each that notes one.
+pub fn what_is_served_are_steps_of_a_run<D: Disk, G: Signer, V: Verifier>()
+    ensures members { (signer : G) (block : ℕ → List ℕ) → ServedReachMembers D.Disk G.Signer signer block }
+    ensures steps { (signer : G) (verifier : V) (block : ℕ → List ℕ) → ServedAreRunSteps D.Disk G.Signer signer block V.Verifier verifier }
+    ensures crashes { (signer : G) (verifier : V) (block : ℕ → List ℕ) → CrashesLeaveServed D.Disk G.Signer signer block V.Verifier verifier }
+    ensures faults { (signer : G) (block : ℕ → List ℕ) → ServedCountFaults D.Disk G.Signer signer block }
+{
+    a_crash_leaves_a_moment_of_the_history::<D, G, V>();
+}
+
+/// After each history a reply that is on its way goes to a member of the present epoch, with the keys that this one has.
+pub fn replies_are_of_the_present_epoch<D: Disk, G: Signer, V: Verifier>()
+    ensures { (signer : G) (verifier : V) (block : ℕ → List ℕ) → RepliesAreOfNow D.Disk G.Signer signer V.Verifier verifier block }
+{}

@@ -9,17 +9,18 @@ use Rattle.group_terms.specs.Names.{Name}
 use Rattle.group_model.specs.declared.entries.Answer.{Answer}
 use Rattle.group_model.specs.declared.entries.Entry.{Entry}
 use Rattle.group_peers.specs.Peers.{store_of}
+use Rattle.server_steps.specs.Sent.{SentPush, last_push}
+use Rattle.member_steps.specs.Members.{Members}
+use Rattle.member_steps.specs.Steps.{Gives, IsGiven}
 use Rattle.group_steps.specs.Kinds.{EachStepIsOfAKind}
-use Rattle.group_steps.specs.Members.{Gives, IsGiven}
 use Rattle.group_steps.specs.Runs.{Run}
-use Rattle.group_steps.specs.Sent.{SentPush, last_push}
 use Rattle.member_roots.specs.Groups.{IsKeyedGroup}
 use Rattle.member_store.specs.Stores.{Store}
 use Rattle.store_steps.specs.Follow.{HasThen, IsGivenPush, IsOurs, OpenedGroupsHaveKeys}
 use Rattle.store_steps.proofs.HistoryLemmas.{sent_after}
 use Rattle.store_steps.proofs.OpenedLemmas.{keyed_with}
 use Rattle.store_steps.proofs.PeerLemmas.{found_anew, has_peer}
-use Rattle.store_steps.proofs.SentLemmas.{IsPushAt, last_at}
+use Rattle.store_steps.proofs.SentLemmas.{IsPushAt, datagram_in, last_at}
 
 -- a push that is there
 some_push : (push : Option SentPush) → IsSome push → (sent : SentPush) × (push ≡ Some sent)
@@ -27,23 +28,23 @@ some_push None some = absurd (false≢true some)
 some_push (Some sent) some = (sent, refl)
 
 -- where there are a store and a push, that is given to it
-gave : {D V : Type 0} (v : VerifierGhosts V) (verifier : V) (had : Option Store) (last : Option SentPush) (store : Store) (push : SentPush)
-    (m : Name) (run : Run D) (answer : Answer) (next : Run D) → had ≡ Some store → last ≡ Some push
-    → Gives v verifier had last m run answer next → IsGiven v verifier m store push run answer next
-gave v verifier had last store push m run answer next has is gives =
-    subst (λ last. Gives v verifier (Some store) last m run answer next) is
-    (subst (λ had. Gives v verifier had last m run answer next) has gives)
+gave : {V : Type 0} (v : VerifierGhosts V) (verifier : V) (had : Option Store) (last : Option SentPush) (store : Store) (push : SentPush)
+    (m : Name) (members : Members) (answer : Answer) (next : Members) → had ≡ Some store → last ≡ Some push
+    → Gives v verifier had (datagram_in last) m members answer next → IsGiven v verifier m store push.datagram members answer next
+gave v verifier had last store push m members answer next has is gives =
+    subst (λ last. Gives v verifier (Some store) (datagram_in last) m members answer next) is
+    (subst (λ had. Gives v verifier had (datagram_in last) m members answer next) has gives)
 
 -- the push, which is one of the group, with its number; the store, which is too; that the one was given to the other; and that the group has keys
 pub record Known {D G V : Type 0} (g : SignerGhosts G) (signer : G) (v : VerifierGhosts V) (verifier : V) (run : Run D) (m : Name)
     (store : Store) (number : ℕ) (answer : Answer) (next : Run D) : Type 0 where
   pub push : SentPush
   pub numbered : push.number ≡ number
-  pub at : IsPushAt g signer run.server.depth run.head.spi run.server.list push
-  pub had : store_of run.peers m ≡ Some store
+  pub at : IsPushAt g signer run.host.server.depth run.host.head.spi run.host.server.list push
+  pub had : store_of run.members.all m ≡ Some store
   pub is : IsOurs run m store
-  pub given : IsGiven v verifier m store push run answer next
-  pub group : IsKeyedGroup run.server.depth run.head.spi run.server.list
+  pub given : IsGiven v verifier m store push.datagram run.members answer next.members
+  pub group : IsKeyedGroup run.host.server.depth run.host.head.spi run.host.server.list
 
 pub known : {D G V : Type 0} (d : DiskGhosts D) (g : SignerGhosts G) (signer : G) (v : VerifierGhosts V) (verifier : V) (block : ℕ → List ℕ)
     → EachStepIsOfAKind d g signer v verifier block → OpenedGroupsHaveKeys d g signer v verifier block → (before : List Entry) (run : Run D) (m : Name)
@@ -53,7 +54,7 @@ known d g signer v verifier block kinds have before run m store number answer ne
     let history = due.history in
     let push = some_push (last_push before number) due.sent in
     let sent = sent_after d g signer v verifier block kinds run before history in
-    let last = last_at g signer run.server.depth run.head.spi run.server.list before number push.0 sent push.1 in
+    let last = last_at g signer run.host.server.depth run.host.head.spi run.host.server.list before number push.0 sent push.1 in
     record {
       push = push.0;
       numbered = last.1;
@@ -61,11 +62,11 @@ known d g signer v verifier block kinds have before run m store number answer ne
       had = due.had;
       is = due.ours;
       given =
-          gave v verifier (store_of run.peers m) (last_push before number) store push.0 m run answer next due.had push.1
-          due.step.answered.gives;
+          gave v verifier (store_of run.members.all m) (last_push before number) store push.0 m run.members answer next.members due.had push.1
+          due.step.answered.acted;
       group =
           keyed_with d g signer v verifier block have history.disk history.name history.limit history.place before run history.history m
-          (has_peer run.peers m store due.had);
+          (has_peer run.members.all m store due.had);
     }
 
 -- the store that answered is found then
@@ -74,6 +75,7 @@ pub has_then : {D G V : Type 0} (g : SignerGhosts G) (signer : G) (v : VerifierG
     → P known.given.now → HasThen next m P
 has_then g signer v verifier run m store number answer next known P holds = (
   known.given.now,
-  ap (λ (run : Run _). store_of run.peers m) known.given.after ∙ found_anew run.peers m known.given.now (has_peer run.peers m store known.had),
+  ap (λ (members : Members). store_of members.all m) known.given.after
+      ∙ found_anew run.members.all m known.given.now (has_peer run.members.all m store known.had),
   holds,
 )

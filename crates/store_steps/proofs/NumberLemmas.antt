@@ -10,7 +10,7 @@ use Rattle.group_model.specs.Laws.{HoldersStay}
 use Rattle.group_model.specs.Stayed.{sequence_at, somebody_stayed, stayed_at}
 use Rattle.group_model.specs.declared.entries.PushPair.{PushPair}
 use Rattle.member_roots.specs.Groups.{IsPairAt}
-use Rattle.group_steps.specs.Sent.{SentPush}
+use Rattle.server_steps.specs.Sent.{SentPush}
 use Rattle.store_steps.proofs.SentLemmas.{IsPushAt}
 
 module _ (holders_stay : HoldersStay) (depth : ℕ) where

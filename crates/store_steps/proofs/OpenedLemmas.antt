@@ -27,14 +27,16 @@ use Rattle.group_pushes.specs.Fits.{MadeFits}
 use Rattle.group_records.specs.declared.heads.Head.{Head}
 use Rattle.gcks_core.specs.Stored.{AreDueFrom}
 use Rattle.member_roots.specs.Groups.{IsKeyedGroup}
-use Rattle.group_steps.specs.Batches.{IsStored, made_next}
+use Rattle.server_steps.specs.Batches.{IsStored, made_next}
+use Rattle.server_steps.specs.Hosts.{Host}
+use Rattle.server_steps.specs.Openings.{FindsGroup, Found, IsHead}
+use Rattle.member_steps.specs.Members.{Members}
 use Rattle.group_steps.specs.Kinds.{EachStepIsOfAKind, IsOfAKind, IsQuiet}
 use Rattle.group_steps.specs.Laws.{LeavesValidList}
-use Rattle.group_steps.specs.Openings.{FindsGroup, Found, IsHead}
 use Rattle.group_steps.specs.Runs.{Run, no_run}
 use Rattle.group_steps.specs.Steps.{AreRunSteps, IsHistory}
 use Rattle.store_steps.specs.Follow.{OpenedGroupsHaveKeys}
-use Rattle.store_steps.proofs.FirstLemmas.{IsFirst, first_of, peers_first}
+use Rattle.store_steps.proofs.FirstLemmas.{IsFirst, first_of, members_first}
 
 -- ---- epochs and numbers
 
@@ -92,7 +94,7 @@ within_next server made changes none =
     (within_more server.depth server.limit (batches_made server.list) server.queue (omega (arith, long, limits.0))
     (subst (λ n. sequence_at server.depth (coming_batches server) (n + 1) ≤ server.limit) (sym long) limits.1))
 
--- ---- a run whose group has keys
+-- ---- a host whose group has keys
 
 -- The head of a journal, a server with this depth and this limit, as the head says, and batches with values that are keys, which are not past the limit.
 record HasKeys (head : Head) (depth limit : ℕ) (list : List Made) : Type 0 where
@@ -102,8 +104,8 @@ record HasKeys (head : Head) (depth limit : ℕ) (list : List Made) : Type 0 whe
   fit : All MadeFits list
   within : IsWithin depth limit (batches_made list)
 
-abbrev IsOpened : {D : Type 0} → Run D → Type 0
-IsOpened run = HasKeys run.head run.server.depth run.server.limit run.server.list
+abbrev IsOpened : {D : Type 0} → Host D → Type 0
+IsOpened host = HasKeys host.head host.server.depth host.server.limit host.server.list
 
 keyed_group : (head : Head) (depth limit : ℕ) (list : List Made) → HasKeys head depth limit list → IsValid depth (batches_made list)
     → IsKeyedGroup depth head.spi list
@@ -123,14 +125,14 @@ keyed_group head depth limit list has valid =
 
 module _ {D G V : Type 0} (d : DiskGhosts D) (g : SignerGhosts G) (signer : G) (v : VerifierGhosts V) (verifier : V)
     (block : ℕ → List ℕ) where
-  -- a run that is equal to one of a group that was opened
-  is_opened : (next made : Run D) → next ≡ made → IsOpened made → IsOpened next
-  is_opened next made is has = subst (λ (given : Run D). IsOpened given) (sym is) has
+  -- a host that is equal to one of a group that was opened
+  is_opened : (next made : Host D) → next ≡ made → IsOpened made → IsOpened next
+  is_opened next made is has = subst (λ (given : Host D). IsOpened given) (sym is) has
 
   -- what an opening found
-  opened_found : (run : Run D) (found : Found) (answer : Answer) (outside : Outside) (next : Run D)
-      → FindsGroup d g signer run found answer outside next → IsOpened next
-  opened_found run found answer outside next finds = is_opened next _ finds.now (record {
+  opened_found : (host : Host D) (found : Found) (answer : Answer) (outside : Outside) (next : Host D)
+      → FindsGroup d g signer host found answer outside next → IsOpened next
+  opened_found host found answer outside next finds = is_opened next _ finds.now (record {
     is_head = finds.group.head;
     as_deep = refl;
     as_far = refl;
@@ -141,52 +143,52 @@ module _ {D G V : Type 0} (d : DiskGhosts D) (g : SignerGhosts G) (signer : G) (
 
   -- ---- the first request
 
-  opened_first : (run : Run D) (answer : Answer) (outside : Outside) (next : Run D) → is_open answer ≡ true
-      → IsFirst d g signer block run answer outside next → IsOpened next
-  opened_first run answer outside next opened (inl made) = is_opened next _ made.1.now (record {
+  opened_first : (host : Host D) (answer : Answer) (outside : Outside) (next : Host D) → is_open answer ≡ true
+      → IsFirst d g signer block host answer outside next → IsOpened next
+  opened_first host answer outside next opened (inl made) = is_opened next _ made.1.now (record {
     is_head = made.1.head;
     as_deep = refl;
     as_far = refl;
     fit = All-nil MadeFits;
-    within = within_none made.0 run.head.limit;
+    within = within_none made.0 host.head.limit;
   })
-  opened_first run answer outside next opened (inr (inl found)) = opened_found run found.0 answer outside next found.1
-  opened_first run answer outside next opened (inr (inr refusal)) = absurd (false≢true (sym (ap is_open refusal.answers) ∙ opened))
+  opened_first host answer outside next opened (inr (inl found)) = opened_found host found.0 answer outside next found.1
+  opened_first host answer outside next opened (inr (inr refusal)) = absurd (false≢true (sym (ap is_open refusal.answers) ∙ opened))
 
   -- ---- those after it
 
   -- with the batch that waited
-  opened_stored : (run : Run D) (answer : Answer) (outside : Outside) (next : Run D) → IsOpened run
-      → IsStored d g signer block run answer outside next → IsOpened next
-  opened_stored run answer outside next has stored =
-      let made = made_next d g signer block run in
+  opened_stored : (host : Host D) (answer : Answer) (outside : Outside) (next : Host D) → IsOpened host
+      → IsStored d g signer block host answer outside next → IsOpened next
+  opened_stored host answer outside next has stored =
+      let made = made_next d g signer block host in
       is_opened next _ stored.now (record {
         is_head = has.is_head;
         as_deep = has.as_deep;
         as_far = has.as_far;
-        fit = All-push MadeFits run.server.list made has.fit stored.fit;
-        within = within_next run.server made refl stored.granted;
+        fit = All-push MadeFits host.server.list made has.fit stored.fit;
+        within = within_next host.server made refl stored.granted;
       })
 
-  opened_quiet : (run : Run D) (answer : Answer) (next : Run D) → IsOpened run → IsQuiet run answer next → IsOpened next
-  opened_quiet run answer next has quiet =
+  opened_quiet : (host : Host D) (answer : Answer) (next : Host D) → IsOpened host → IsQuiet host answer next → IsOpened next
+  opened_quiet host answer next has quiet =
       subst (λ head. HasKeys head next.server.depth next.server.limit next.server.list) (sym quiet.head)
-      (subst (λ depth. HasKeys run.head depth next.server.limit next.server.list) (sym quiet.depth)
-      (subst (λ limit. HasKeys run.head run.server.depth limit next.server.list) (sym quiet.limit)
-      (subst (HasKeys run.head run.server.depth run.server.limit) (sym quiet.list) has)))
+      (subst (λ depth. HasKeys host.head depth next.server.limit next.server.list) (sym quiet.depth)
+      (subst (λ limit. HasKeys host.head host.server.depth limit next.server.list) (sym quiet.limit)
+      (subst (HasKeys host.head host.server.depth host.server.limit) (sym quiet.list) has)))
 
   -- opened again, it goes on with what was found, whatever that is
-  opened_kind : (run : Run D) (entry : Entry) (next : Run D) → IsOpened run → IsOfAKind d g signer v verifier block run entry next → IsOpened next
-  opened_kind run entry next has (inl quiet) = opened_quiet run entry.answer next has quiet
-  opened_kind run entry next has (inr (inl stored)) = opened_stored run entry.answer entry.outside next has stored
-  opened_kind run entry next has (inr (inr found)) = opened_found run found.0 entry.answer entry.outside next found.2
+  opened_kind : (host : Host D) (entry : Entry) (next : Host D) → IsOpened host → IsOfAKind d g signer v verifier block host entry next → IsOpened next
+  opened_kind host entry next has (inl quiet) = opened_quiet host entry.answer next has quiet
+  opened_kind host entry next has (inr (inl stored)) = opened_stored host entry.answer entry.outside next has stored
+  opened_kind host entry next has (inr (inr found)) = opened_found host found.0 entry.answer entry.outside next found.2
 
   opened_after : EachStepIsOfAKind d g signer v verifier block → (first : Entry) (before : List Entry) (run : Run D) (entries : List Entry)
-      (after : Run D) → IsOpened run → AreRunSteps d g signer v verifier block (first ∷ before) run entries after → IsOpened after
-  opened_after kinds first before run [] after has steps = is_opened after run steps has
+      (after : Run D) → IsOpened run.host → AreRunSteps d g signer v verifier block (first ∷ before) run entries after → IsOpened after.host
+  opened_after kinds first before run [] after has steps = subst (λ (given : Run D). IsOpened given.host) (sym steps) has
   opened_after kinds first before run (entry ∷ entries) after has steps =
       opened_after kinds first (before ++ entry ∷ []) steps.0 entries after
-      (opened_kind run entry steps.0 has (kinds first before run entry steps.0 steps.1)) steps.2
+      (opened_kind run.host entry steps.0.host has (kinds first before run entry steps.0 steps.1)) steps.2
 
   pub opened_have_keys : EachStepIsOfAKind d g signer v verifier block → LeavesValidList d g signer v verifier block
       → OpenedGroupsHaveKeys d g signer v verifier block
@@ -194,34 +196,34 @@ module _ {D G V : Type 0} (d : DiskGhosts D) (g : SignerGhosts G) (signer : G) (
       let start = no_run disk name limit place in
       let step = history.steps.1 in
       let next = history.steps.0 in
-      let is = first_of d g signer block start v verifier [] first.asked first.answer first.outside next history.begins.0 step.answered in
-      let has = opened_first start first.answer first.outside next opened is in
-      keyed_group after.head after.server.depth after.server.limit after.server.list
+      let is = first_of d g signer block v verifier [] start first.answer first.outside next first.asked history.begins.0 step.answered in
+      let has = opened_first start.host first.answer first.outside next.host opened is in
+      keyed_group after.host.head after.host.server.depth after.host.server.limit after.host.server.list
       (opened_after kinds first [] next later after has history.steps.2) (valid disk name limit place (first ∷ later) after history)
 
   -- ---- those who have stores
 
-  -- a history that opened no group ends without peers
+  -- a history that opened no group ends without members
   pub keyed_or_alone : OpenedGroupsHaveKeys d g signer v verifier block → (disk : D) (name : Name) (limit place : ℕ) (entries : List Entry)
       (after : Run D) → IsHistory d g signer v verifier block (no_run disk name limit place) entries after
-      → IsKeyedGroup after.server.depth after.head.spi after.server.list ⊎ (after.peers ≡ [])
-  keyed_or_alone have disk name limit place [] after history = inr (ap (λ (given : Run D). given.peers) history.steps)
+      → IsKeyedGroup after.host.server.depth after.host.head.spi after.host.server.list ⊎ (after.members.all ≡ [])
+  keyed_or_alone have disk name limit place [] after history = inr (ap (λ (given : Run D). given.members.all) history.steps)
   keyed_or_alone have disk name limit place (first ∷ []) after history =
       let start = no_run disk name limit place in
       let next = history.steps.0 in
       let step = history.steps.1.answered in
-      inr (ap (λ (given : Run D). given.peers) history.steps.2
-      ∙ peers_first d g signer block start first.answer first.outside next
-      (first_of d g signer block start v verifier [] first.asked first.answer first.outside next history.begins.0 step))
+      inr (ap (λ (given : Run D). given.members.all) history.steps.2
+      ∙ ap (λ (members : Members). members.all)
+      (members_first d g signer block v verifier [] start first.answer first.outside next first.asked history.begins.0 step))
   keyed_or_alone have disk name limit place (first ∷ second ∷ later) after history = elim history.begins.1 [
     | inl none ↦ absurd (cc none)
     | inr opened ↦ inl (have disk name limit place first (second ∷ later) after history opened)
   ]
 
-  -- so where there is a peer, there is a group with keys
+  -- so where there is a member, there is a group with keys
   pub keyed_with : OpenedGroupsHaveKeys d g signer v verifier block → (disk : D) (name : Name) (limit place : ℕ) (entries : List Entry)
       (after : Run D) → IsHistory d g signer v verifier block (no_run disk name limit place) entries after → (m : Name)
-      → is_peer after.peers m ≡ true → IsKeyedGroup after.server.depth after.head.spi after.server.list
+      → is_peer after.members.all m ≡ true → IsKeyedGroup after.host.server.depth after.host.head.spi after.host.server.list
   keyed_with have disk name limit place entries after history m peer = elim (keyed_or_alone have disk name limit place entries after history) [
     | inl group ↦ group
     | inr alone ↦ absurd (false≢true (sym (ap (λ (peers : List Peer). is_peer peers m) alone) ∙ peer))

@@ -3,6 +3,7 @@ use Rattle.std.proofs.Common.{◌≡◌, ◌∙◌, ap, arith, refl, subst, sym,
 use Rattle.std.specs.Prelude.{MatchBool, option_and_then}
 use Rattle.std.specs.List.{All}
 use Rattle.std.proofs.Math.Seq.{take-length}
+use Rattle.std.proofs.lemmas.List.Elements.{All-head}
 use Rattle.std.proofs.lemmas.Option.{none-some}
 use Rattle.group_terms.specs.Names.{Name}
 use Rattle.group_terms.specs.declared.paths.Keyed.{Keyed}
@@ -12,14 +13,14 @@ use Rattle.group_values.specs.Values.{HasValue, Made, made_at, value_of}
 use Rattle.group_keys.specs.Replies.{IsKeyedOf}
 use Rattle.group_model.specs.declared.entries.Answer.{Answer}
 use Rattle.group_model.specs.declared.entries.Answer.TheVariants.{Kept}
-use Rattle.group_model.specs.declared.entries.Entry.{Entry}
-use Rattle.group_model.specs.declared.entries.Outside.{Outside}
 use Rattle.group_peers.specs.Peers.{store_of}
-use Rattle.group_steps.specs.Members.{Gets, IsKeeping, IsOld, TakesReply}
+use Rattle.server_steps.specs.Replies.{IsTold}
+use Rattle.member_steps.specs.Members.{Mail, Members, with_mail}
+use Rattle.member_steps.specs.Steps.{Gets, IsKeeping, IsOld, TakesReply}
+use Rattle.group_steps.specs.Replies.{AreRepliesNow}
 use Rattle.group_steps.specs.Runs.{Run}
 use Rattle.member_roots.specs.Roots.{IsAtRoot}
 use Rattle.member_store.specs.Stores.{Store, is_older, no_key, root_epoch, root_of, store_of as store_made}
-use Rattle.store_steps.specs.Follow.{HasThen}
 use Rattle.store_steps.proofs.PeerLemmas.{found_anew}
 
 -- ---- the epoch of a root
@@ -54,22 +55,28 @@ pub keyed_now : (depth : ℕ) (spi : List ℕ) (list : List Made) (m : Name) (ke
     → IsKeyedOf depth spi (take (length list) list) m keyed
 keyed_now depth spi list m keyed is = subst (λ (given : List Made). IsKeyedOf depth spi given m keyed) (sym (take-length list)) is
 
-module _ {D : Type 0} (before : List Entry) (m : Name) (run : Run D) (answer : Answer) (outside : Outside) (next : Run D)
-    (keeping : IsKeeping before m run answer outside next) where
+-- the first of the replies that are on their way is of the present epoch, as all of them are
+pub told_first : {D : Type 0} (run : Run D) (m : Name) (keyed : Keyed) (later : List Mail) → AreRepliesNow run → run.members.mail ≡ (m, keyed) ∷ later
+    → IsTold run.host.server.depth run.host.head.spi run.host.server.list m keyed
+told_first run m keyed later now is =
+    let Told : Mail → Type 0 = λ mail. IsTold run.host.server.depth run.host.head.spi run.host.server.list mail.0 mail.1 in
+    All-head Told (m, keyed) later (subst (All Told) is now)
+
+module _ (m : Name) (members : Members) (answer : Answer) (next : Members) (keeping : IsKeeping m members answer next) where
+  abbrev before : Members
+  before = with_mail members keeping.later
+
   gets_by : (had : Option Store) → ((store : Store) → had ≡ Some store → is_older store keeping.keyed ≡ false)
-      → TakesReply had m keeping.keyed run answer next → Gets m keeping.keyed run answer next
+      → TakesReply had m keeping.keyed before answer next → Gets m keeping.keyed before answer next
   gets_by None fresh takes = takes
   gets_by (Some store) fresh takes =
-      subst (λ older. MatchBool older (IsOld store keeping.keyed run answer next) (Gets m keeping.keyed run answer next)) (fresh store refl) takes
+      subst (λ older. MatchBool older (IsOld store keeping.keyed before answer next) (Gets m keeping.keyed before answer next)) (fresh store refl) takes
 
-  pub keeps : ((store : Store) → store_of run.peers m ≡ Some store → is_older store keeping.keyed ≡ false) → (P : Store → Type 0)
-      → P (store_made keeping.keyed) → (answer ≡ Kept (length run.server.list)) × HasThen next m P
-  keeps fresh P has =
-      let gets = gets_by (store_of run.peers m) fresh keeping.takes in (
-        gets.answers ∙ ap Kept keeping.told.epoch,
-        (
-          store_made keeping.keyed,
-          ap (λ (run : Run D). store_of run.peers m) gets.now ∙ found_anew run.peers m (store_made keeping.keyed) keeping.granted,
-          has,
-        ),
+  -- what is not older is kept
+  pub keeps : ((store : Store) → store_of members.all m ≡ Some store → is_older store keeping.keyed ≡ false)
+      → (answer ≡ Kept keeping.keyed.epoch) × (store_of next.all m ≡ Some (store_made keeping.keyed))
+  keeps fresh =
+      let gets = gets_by (store_of members.all m) fresh keeping.takes in (
+        gets.answers,
+        ap (λ (members : Members). store_of members.all m) gets.now ∙ found_anew members.all m (store_made keeping.keyed) keeping.granted,
       )

@@ -3,6 +3,7 @@ use Rattle.std.proofs.Common.{◌≡◌, ◌⊎◌, ℕ, zero, suc, ◌+◌, tru
 use Rattle.std.proofs.Common.{arith, refl, sym, subst, inl, inr}
 use Rattle.std.specs.Prelude.{◌==◌, if◌then◌else◌}
 use Rattle.std.specs.List.{All, find}
+use Rattle.std.specs.Option.{option_map}
 use Rattle.std.proofs.lemmas.Bool.{eqb-true}
 use Rattle.std.proofs.lemmas.Grind.{flat_map-append, reverse_onto}
 use Rattle.std.proofs.lemmas.List.Elements.{All-append, All-cons, All-head, All-nil, All-push, All-tail}
@@ -14,8 +15,8 @@ use Rattle.group_model.specs.declared.entries.Answer.{Answer}
 use Rattle.group_model.specs.declared.entries.Entry.{Entry}
 use Rattle.group_model.specs.declared.entries.PushPair.{PushPair}
 use Rattle.member_roots.specs.Groups.{IsPairAt}
-use Rattle.group_steps.specs.Runs.{Run}
-use Rattle.group_steps.specs.Sent.{SentPush, last_push, pair_by, pushes_by, pushes_in, pushes_sent}
+use Rattle.server_steps.specs.Hosts.{Host}
+use Rattle.server_steps.specs.Sent.{SentPush, last_push, pair_by, pushes_by, pushes_in, pushes_sent}
 use Rattle.store_steps.proofs.FrontLemmas.{pair_early}
 use Rattle.store_steps.proofs.GrowLemmas.{Grows, moved}
 use Rattle.store_steps.proofs.PushLemmas.{IsLast, Sends}
@@ -41,6 +42,10 @@ module _ {X : Type 0} (P : X → Type 0) where
       subst (All P) (sym (reverse_onto xs x [])) (All-push P (reverse xs) x (All-reverse xs (All-tail P x xs all)) (All-head P x xs all))
 
 -- ---- pushes
+
+-- the datagram of a push, if there is one
+abbrev pub datagram_in : Option SentPush → Option (List ℕ)
+datagram_in push = option_map (λ (push : SentPush). push.datagram) push
 
 module _ {G : Type 0} (g : SignerGhosts G) (signer : G) (depth : ℕ) (spi : List ℕ) (list : List Made) where
   -- it is the membership push or the traffic push of an epoch, with its number
@@ -85,12 +90,12 @@ module _ {G : Type 0} (g : SignerGhosts G) (signer : G) (depth : ℕ) (spi : Lis
       All-found IsPushAt (λ (push : SentPush). push.number == number) (reverse (pushes_sent before)) (All-reverse IsPushAt _ all) push is
       in (found.0, eqb-true push.number number found.1)
 
--- all that these entries sent are pushes of the group that a run has
-abbrev pub AreSent : {D G : Type 0} → SignerGhosts G → G → Run D → List Entry → Type 0
+-- all that these entries sent are pushes of the group that a host has
+abbrev pub AreSent : {D G : Type 0} → SignerGhosts G → G → Host D → List Entry → Type 0
 AreSent g signer after entries = All (IsPushAt g signer after.server.depth after.head.spi after.server.list) (pushes_sent entries)
 
-module _ {D G : Type 0} (g : SignerGhosts G) (signer : G) (next after : Run D) (grows : Grows next after) where
-  -- the pair of the last batch of a run that grew
+module _ {D G : Type 0} (g : SignerGhosts G) (signer : G) (next after : Host D) (grows : Grows next after) where
+  -- the pair of the last batch of a host that grew
   last_pair : (pair : PushPair) → IsLast g signer next pair
       → IsPairAt g signer after.server.depth after.head.spi after.server.list (length next.server.list) pair
   last_pair pair last =

@@ -20,7 +20,7 @@ use Rattle.member_store.specs.Steps.{IsAcceptance, IsRefused}
 use Rattle.member_store.specs.Stores.{Store, leaf_of, root_epoch}
 use Rattle.member_roots.specs.Groups.{IsPairAt}
 use Rattle.member_roots.specs.Roots.{HasTrafficOf, IsAtRoot, IsStoreOf}
-use Rattle.group_steps.specs.Members.{answer_of}
+use Rattle.member_steps.specs.Steps.{answer_of}
 use Rattle.group_steps.specs.Runs.{Run}
 use Rattle.group_steps.specs.TrueSteps.{batches_in}
 use Rattle.store_steps.specs.Follow.{HasKeysThen, HasThen, IsMembershipPush, IsOurs, IsTrafficPush, IsWhy, holders_in, number_at}
@@ -70,13 +70,13 @@ module _ {D G V : Type 0} (holders_stay : HoldersStay) (g : SignerGhosts G) (sig
     (m : Name) (store : Store) (number : ℕ) (answer : Answer) (next : Run D)
     (known : Known g signer v verifier run m store number answer next) where
   abbrev depth : ℕ
-  depth = run.server.depth
+  depth = run.host.server.depth
 
   abbrev spi : List ℕ
-  spi = run.head.spi
+  spi = run.host.head.spi
 
   abbrev list : List Made
-  list = run.server.list
+  list = run.host.server.list
 
   -- what was given is this datagram
   is_given : (datagram : List ℕ) → known.push.datagram ≡ datagram

@@ -16,7 +16,7 @@ use Rattle.group_model.specs.declared.entries.Entry.{Entry}
 use Rattle.group_model.specs.declared.entries.Outside.{Outside}
 use Rattle.group_peers.specs.Peers.{store_of}
 use Rattle.group_steps.specs.Runs.{Run, no_run}
-use Rattle.group_steps.specs.Sent.{last_push}
+use Rattle.server_steps.specs.Sent.{last_push}
 use Rattle.group_steps.specs.Steps.{IsHistory, IsRunStep}
 use Rattle.group_steps.specs.TrueSteps.{AreTrueSteps, batches_in}
 use Rattle.member_roots.specs.Groups.{Checks, IsKeyedGroup}
@@ -27,32 +27,32 @@ use Rattle.store_steps.specs.Stores.{AreForOneRoot, AreStores}
 module _ {D : Type 0} where
   -- the number of the last push up to an epoch, and who has which leaf then
   abbrev pub number_at : Run D → ℕ → ℕ
-  number_at run epoch = sequence_at run.server.depth (batches_in run) epoch
+  number_at run epoch = sequence_at run.host.server.depth (batches_in run) epoch
 
   abbrev pub holders_in : Run D → ℕ → Holders
-  holders_in run epoch = holders_at run.server.depth (batches_in run) epoch
+  holders_in run epoch = holders_at run.host.server.depth (batches_in run) epoch
 
   -- a member has a store of which this holds
   abbrev pub HasThen : Run D → Name → (Store → Type 0) → Type 0
-  HasThen run m P = (now : Store) × (store_of run.peers m ≡ Some now) × P now
+  HasThen run m P = (now : Store) × (store_of run.members.all m ≡ Some now) × P now
 
   -- a store is one that m may have in the group of a run, up to date or not
   abbrev pub IsOurs : Run D → Name → Store → Type 0
-  IsOurs run m store = IsStoreOf run.server.depth run.head.spi run.server.list m store
+  IsOurs run m store = IsStoreOf run.host.server.depth run.host.head.spi run.host.server.list m store
 
   -- it has all keys that m has at an epoch
   abbrev pub HasKeysThen : Run D → ℕ → Name → Store → Type 0
-  HasKeysThen run epoch m store = HasKeysOf run.server.depth run.head.spi run.server.list epoch m store
+  HasKeysThen run epoch m store = HasKeysOf run.host.server.depth run.host.head.spi run.host.server.list epoch m store
 
   -- ---- which push a number is that of
 
   -- the membership push of the epoch after this one, sent under the root of this one
   abbrev pub IsMembershipPush : Run D → ℕ → ℕ → Type 0
-  IsMembershipPush run number root = (number ≡ number_at run root + 1) × (stayed_at run.server.depth (batches_in run) (root + 1) ≡ true)
+  IsMembershipPush run number root = (number ≡ number_at run root + 1) × (stayed_at run.host.server.depth (batches_in run) (root + 1) ≡ true)
 
   -- the traffic push of this epoch, sent under its root
   abbrev pub IsTrafficPush : Run D → ℕ → ℕ → Type 0
-  IsTrafficPush run number root = (number ≡ number_at run root) × (stayed_at run.server.depth (batches_in run) root ≡ true)
+  IsTrafficPush run number root = (number ≡ number_at run root) × (stayed_at run.host.server.depth (batches_in run) root ≡ true)
 
   -- Why a store refuses a push: it leads past its member; its number is not greater than that of the store, which the last reply or push set; or it was sent
   -- under another root, and is malformed there at some place.
@@ -66,7 +66,7 @@ module _ {D : Type 0} where
 module _ {D G V : Type 0} (d : DiskGhosts D) (g : SignerGhosts G) (signer : G) (v : VerifierGhosts V) (verifier : V) (block : ℕ → List ℕ) where
   -- Of no push that the group of a run sends under the root of one epoch is a push read under that of another one: supposed of cipher and drawn keys.
   abbrev pub AreApart : Run D → Type 0
-  AreApart run = AreForOneRoot g signer (v.kind_of verifier) run.server.depth run.head.spi run.server.list
+  AreApart run = AreForOneRoot g signer (v.kind_of verifier) run.host.server.depth run.host.head.spi run.host.server.list
 
   -- a history of which each opening again found the group that there was
   pub record IsTrueHistory (entries : List Entry) (after : Run D) : Type 0 where
@@ -82,7 +82,7 @@ module _ {D G V : Type 0} (d : DiskGhosts D) (g : SignerGhosts G) (signer : G) (
   OpenedGroupsHaveKeys =
       (disk : D) (name : Name) (limit place : ℕ) (first : Entry) (later : List Entry) (after : Run D)
       → IsHistory d g signer v verifier block (no_run disk name limit place) (first ∷ later) after → is_open first.answer ≡ true
-      → IsKeyedGroup after.server.depth after.head.spi after.server.list
+      → IsKeyedGroup after.host.server.depth after.host.head.spi after.host.server.list
 
   -- Where keys are apart, each store is one of the group, whatever pushes came, in whatever order and how often.
   abbrev pub StoresAreOfTheGroup : Type 0
@@ -93,14 +93,14 @@ module _ {D G V : Type 0} (d : DiskGhosts D) (g : SignerGhosts G) (signer : G) (
   RepliesAreKept =
       (disk : D) (name : Name) (limit place : ℕ) (before : List Entry) (run : Run D) (m : Name) (answer : Answer) (outside : Outside) (next : Run D)
       → IsHistory d g signer v verifier block (no_run disk name limit place) before run
-      → ((store : Store) → store_of run.peers m ≡ Some store → IsOurs run m store)
+      → ((store : Store) → store_of run.members.all m ≡ Some store → IsOurs run m store)
       → IsRunStep d g signer v verifier block before run (record { asked = Keep m; outside = outside; answer = answer }) next
-      → (answer ≡ Kept (length run.server.list)) × HasThen next m (HasKeysThen run (length run.server.list) m)
+      → (answer ≡ Kept (length run.host.server.list)) × HasThen next m (HasKeysThen run (length run.host.server.list) m)
 
   -- a member with this store, which is one of the group, is given the last push of a number, of which one at least was sent
   pub record IsGivenPush (before : List Entry) (run : Run D) (m : Name) (store : Store) (number : ℕ) (answer : Answer) (next : Run D) : Type 0 where
     pub history : IsTrueHistory before run
-    pub had : store_of run.peers m ≡ Some store
+    pub had : store_of run.members.all m ≡ Some store
     pub ours : IsOurs run m store
     pub sent : IsSome (last_push before number)
     pub outside : Outside
@@ -120,7 +120,7 @@ module _ {D G V : Type 0} (d : DiskGhosts D) (g : SignerGhosts G) (signer : G) (
   TrafficPushesAreTaken =
       (before : List Entry) (run : Run D) (m : Name) (store : Store) (answer : Answer) (next : Run D) → Checks g signer v verifier
       → IsGivenPush before run m store (number_at run (root_epoch store)) answer next
-      → stayed_at run.server.depth (batches_in run) (root_epoch store) ≡ true → store.sequence < number_at run (root_epoch store)
+      → stayed_at run.host.server.depth (batches_in run) (root_epoch store) ≡ true → store.sequence < number_at run (root_epoch store)
       → (answer ≡ TookTraffic (root_epoch store)) × HasThen next m (HasKeysThen run (root_epoch store) m)
 
   -- Where keys are apart, it refuses any other push that was sent, for the reason that there is, and its store stays.

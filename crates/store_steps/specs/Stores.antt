@@ -17,7 +17,7 @@ IsPeerOf depth spi list peer = IfSome peer.store (λ (store : Store). IsStoreOf 
 
 -- each store of a run is one of its group
 abbrev pub AreStores : {D : Type 0} → Run D → Type 0
-AreStores run = All (IsPeerOf run.server.depth run.head.spi run.server.list) run.peers
+AreStores run = All (IsPeerOf run.host.server.depth run.host.head.spi run.host.server.list) run.members.all
 
 -- Of no push that the group sends under the root of one epoch is a push read under that of another one. A membership push is sent under the root of the epoch
 -- before its own, and a traffic push under that of its own. So it is supposed of the cipher, and of keys that are drawn; no clause here proves it. It

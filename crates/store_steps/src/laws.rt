@@ -6,7 +6,10 @@ ghost use Rattle.store_steps.specs.Follow.{StoresAreOfTheGroup, TrafficPushesAre
 use gd_disk::Disk;
 use gd_edges::{Signer, Verifier};
 use group_model::first_epochs_stay;
-use group_steps::{a_history_leaves_a_valid_list, each_step_is_of_a_kind};
+use group_steps::{
+    a_history_leaves_a_valid_list, each_moment_ends_a_history, each_step_is_of_a_kind,
+    replies_are_of_the_present_epoch,
+};
 use member_roots::{
     a_due_push_is_taken, a_later_reply_is_not_older, a_member_that_left_finds_no_path,
     a_push_under_another_root_is_malformed, a_repeated_push_is_stale, a_reply_is_at_its_root,
@@ -27,6 +30,8 @@ pub fn each_store_is_one_of_the_group<D: Disk, G: Signer, V: Verifier>()
 {
     an_opened_group_has_keys::<D, G, V>();
     each_step_is_of_a_kind::<D, G, V>();
+    each_moment_ends_a_history::<D, G, V>();
+    replies_are_of_the_present_epoch::<D, G, V>();
     a_reply_is_at_its_root();
     a_store_at_a_root_has_its_epoch();
     a_sent_push_leaves_a_store_of_its_group::<G, V>();
@@ -37,6 +42,7 @@ pub fn a_reply_is_kept_in_a_history<D: Disk, G: Signer, V: Verifier>()
     ensures { (signer : G) (verifier : V) (block : ℕ → List ℕ) → RepliesAreKept D.Disk G.Signer signer V.Verifier verifier block }
 {
     an_opened_group_has_keys::<D, G, V>();
+    replies_are_of_the_present_epoch::<D, G, V>();
     a_reply_is_at_its_root();
     a_later_reply_is_not_older();
 }

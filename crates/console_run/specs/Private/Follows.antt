@@ -68,6 +68,6 @@ pub record RunsScript {D G V : Type 0} (on : Devices D G V) (by : Keying G) (req
   pub given : Given
   pub came : CameFrom had.octets left.octets given
   pub after : Run D
-  pub left_disk : after.disk ≡ disk
+  pub left_disk : after.host.disk ≡ disk
   pub run : IsEnded on by (streams_of given had left was now) request start ending entries after
       ⊎ IsBroken on by (streams_of given had left was now) request start ending entries after

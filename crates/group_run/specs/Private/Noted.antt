@@ -3,7 +3,7 @@ use Rattle.std.specs.Prelude.{◌≡◌, ℕ, ◌==◌, List, All, Option, Some,
 use Rattle.std.specs.List.{find}
 use Rattle.std.specs.Option.{option_and_then}
 use Rattle.group_model.specs.declared.entries.Entry.{Entry}
-use Rattle.group_steps.specs.Sent.{SentPush, last_push, pushes_by}
+use Rattle.server_steps.specs.Sent.{SentPush, last_push, pushes_by}
 use Rattle.sent_pushes.specs.Notes.{numbers_of, place_of}
 use Rattle.sent_pushes.specs.declared.notes.Note.{Note}
 

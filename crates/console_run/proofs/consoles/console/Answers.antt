@@ -6,7 +6,7 @@ use Rattle.console_run.specs.Causes.{Given}
 use Rattle.console_run.specs.Devices.{devices, keying}
 use Rattle.console_run.specs.Promises.{Promises, console_name, request_of, start_of, streams_of}
 use Rattle.console_run.proofs.PromiseLemmas.{leaves_moments, opens_group, ran_history, ran_whole}
-use Rattle.console_run.proofs.ServeLemmas.{few_at, serves_along, true_at, valid_at}
+use Rattle.console_run.proofs.ServeLemmas.{few_at, history_at, serves_along, true_at, valid_at}
 use Rattle.console_run.proofs.StoreLemmas.{keeps_replies, stores_follow}
 use Rattle.console_run.proofs.consoles.console.Goals as goal
 
@@ -44,14 +44,16 @@ returns-in-Some-clause-run g c =
               ending ran.run;
           history = history;
           valid = valid;
-          secrecy = λ front mid moment. c.no_others_derive.ensures.traffic mid.server.depth (batches_in mid);
-          to_come = λ front mid moment. c.no_others_derive.ensures.to_come mid.server.depth (batches_in mid);
-          members = λ front mid moment deep. c.members_derive.ensures mid.server.depth (batches_in mid) deep (valid front mid moment);
+          secrecy = λ front mid moment. c.no_others_derive.ensures.traffic mid.host.server.depth (batches_in mid);
+          to_come = λ front mid moment. c.no_others_derive.ensures.to_come mid.host.server.depth (batches_in mid);
+          members = λ front mid moment deep. c.members_derive.ensures mid.host.server.depth (batches_in mid) deep (valid front mid moment);
           few_wraps = few_at on by ends lists c.args.disk console_name command.limit place entries ran.after history c.a_batch_encrypts_few.ensures.few;
           sure = true_at on by ends lists c.args.disk console_name command.limit place entries ran.after history sure;
           serves = serves_along on by ends lists c.args.disk console_name command.limit place entries ran.after history
               (c.a_group_grows_by_what_is_sent.ensures.grows by.signer on.verifier by.block) c.a_history_serves_its_members.ensures.serves sure
               c.a_history_serves_its_members.ensures.earlier;
+          mail = λ front mid moment. c.replies_are_of_the_present_epoch.ensures by.signer on.verifier by.block c.args.disk console_name command.limit place
+              front mid (history_at on by ends lists c.args.disk console_name command.limit place entries ran.after history front mid moment);
           replies = keeps_replies on by ends c.args.disk console_name command.limit place entries ran.after history
               (c.a_reply_is_kept_in_a_history.ensures by.signer on.verifier by.block);
           stores = stores_follow on by ends c.args.disk console_name command.limit place entries ran.after history

@@ -49,8 +49,8 @@ pub deliveries-smaller : goal.deliveries-smaller
 deliveries-smaller g c =
     let number : c.in-Some.delivery.number < 4294967296 = search rules in
     let held = c.deliveries.group in
-    fewer_due held.core.tree.holders held.peers c.deliver.new.self.peers held.entries c.deliveries.last c.in-Some.delivery c.deliveries.invariant.small
-    c.in-Some.ensures c.deliver.ensures.peers number
+    fewer_due held.core.tree.holders held.members.all c.deliver.new.self.members.all held.entries c.deliveries.last c.in-Some.delivery
+    c.deliveries.invariant.small c.in-Some.ensures c.deliver.ensures.peers number
 
 pub returns : goal.returns
 returns g c =

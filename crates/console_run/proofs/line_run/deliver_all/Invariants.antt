@@ -8,4 +8,4 @@ invariant-deliveries g l =
     IsGiving (devices g.D.Disk g.G.Signer g.V.Verifier l.verifier) g.R.Draws l.last l.fn.group l.group (g.K.Sink.shows l.fn.out) (g.K.Sink.shows l.out)
 
 abbrev pub decreases-deliveries : goal.decreases-deliveries
-decreases-deliveries g l = left_after (length l.group.peers) l.last
+decreases-deliveries g l = left_after (length l.group.members.all) l.last

@@ -1,5 +1,4 @@
 use Rattle.std.proofs.Common.{length}
-use Rattle.group_steps.specs.Members.{not_told}
 use Rattle.console_run.specs.Devices.{devices}
 use Rattle.console_run.proofs.ReplyLemmas.{IsTelling}
 use Rattle.console_run.proofs.line_run.run_batch.Given as goal
@@ -9,4 +8,4 @@ invariant-replies g l =
     IsTelling (devices g.D.Disk g.G.Signer g.V.Verifier l.verifier) g.R.Draws l.fn.group l.group (g.K.Sink.shows l.fn.out) (g.K.Sink.shows l.out)
 
 abbrev pub decreases-replies : goal.decreases-replies
-decreases-replies g l = length (not_told l.group.entries)
+decreases-replies g l = length l.group.members.mail

@@ -36,9 +36,10 @@ returns g c = record {
         members = c.members_after.result;
         wraps = c.in_ok-wraps_of.field-0;
         pushes = c.in_ok-pushes.pushes;
+        told = c.in_ok-told.told;
       })
-      c.in_ok-replies.replies read (c.in_ok-text.ensures.few few) c.epoch-2.ensures c.sequence-2.ensures c.members_after.ensures
+      read (c.in_ok-text.ensures.few few) c.epoch-2.ensures c.sequence-2.ensures c.members_after.ensures
       (c.in_ok-pushes.ensures list batch head.limit group.tree group.keeps drawn c.requires.step)
-      c.in_ok-wraps_of.ensures.some c.in_ok-wraps_of.ensures.none c.in_ok-replies.ensures.members
-      (c.in_ok-replies.ensures.replies list group.tree group.keeps drawn);
+      c.in_ok-wraps_of.ensures.some c.in_ok-wraps_of.ensures.none c.in_ok-told.ensures.members
+      (c.in_ok-told.ensures.replies list group.tree group.keeps drawn);
 }

@@ -1,5 +1,5 @@
 use Rattle.std.proofs.Common.{◌∙◌, ◌++◌, ◌∷◌, [], sym, ap, subst}
-use Rattle.group_steps.specs.Sent.{pair_by}
+use Rattle.server_steps.specs.Sent.{pair_by}
 use Rattle.group_run.specs.Private.Noted.{AreNoted, WereSent}
 use Rattle.group_run.proofs.SentLemmas.{noted_more, noted_still, sent_more, sent_same, with_pair}
 use Rattle.group_run.proofs.sending.note_pushes.Goals as goal

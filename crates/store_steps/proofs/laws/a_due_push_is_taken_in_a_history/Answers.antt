@@ -7,9 +7,9 @@ use Rattle.store_steps.proofs.laws.a_due_push_is_taken_in_a_history.Goals as goa
 
 pub returns-clause-membership : goal.returns-clause-membership
 returns-clause-membership g c signer verifier block before run m store answer next checks due stays =
-    let depth = run.server.depth in
-    let spi = run.head.spi in
-    let list = run.server.list in
+    let depth = run.host.server.depth in
+    let spi = run.host.head.spi in
+    let list = run.host.server.list in
     let epoch = root_epoch store in
     let number = number_at run epoch + 1 in
     let taken = c.a_due_push_is_taken.ensures in
@@ -32,6 +32,6 @@ returns-clause-traffic g c signer verifier block before run m store answer next 
     (c.an_opened_group_has_keys.ensures signer verifier block) before run m store number answer next due in
     takes_traffic c.first_epochs_stay.ensures.holders g.G.Signer signer g.V.Verifier verifier run m store number answer next is
     (λ pair now result at less step.
-    c.a_due_push_is_taken.ensures.traffic signer verifier run.server.depth epoch run.head.spi run.server.list m pair store now result is.group
+    c.a_due_push_is_taken.ensures.traffic signer verifier run.host.server.depth epoch run.host.head.spi run.host.server.list m pair store now result is.group
     checks at is.is.root less step)
     refl stayed less

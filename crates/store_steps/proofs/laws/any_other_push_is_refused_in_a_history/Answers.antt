@@ -6,9 +6,9 @@ use Rattle.store_steps.proofs.laws.any_other_push_is_refused_in_a_history.Goals 
 
 pub returns : goal.returns
 returns g c signer verifier block before run m store number answer next checks apart due gone accepted =
-    let depth = run.server.depth in
-    let spi = run.head.spi in
-    let list = run.server.list in
+    let depth = run.host.server.depth in
+    let spi = run.host.head.spi in
+    let list = run.host.server.list in
     let epoch = root_epoch store in
     let is =
     known g.D.Disk g.G.Signer signer g.V.Verifier verifier block (c.each_step_is_of_a_kind.ensures signer verifier block)

@@ -9,9 +9,9 @@ use Rattle.store_steps.proofs.laws.each_store_is_one_of_the_group.Goals as goal
 
 pub returns : goal.returns
 returns g c signer verifier block entries after history checks apart =
-    let depth = after.server.depth in
-    let spi = after.head.spi in
-    let list = after.server.list in
+    let depth = after.host.server.depth in
+    let spi = after.host.head.spi in
+    let list = after.host.server.list in
     let pushes = c.a_sent_push_leaves_a_store_of_its_group.ensures in
     elim (keyed_or_alone g.D.Disk g.G.Signer signer g.V.Verifier verifier block (c.an_opened_group_has_keys.ensures signer verifier block)
     history.disk history.name history.limit history.place entries after history.history) [
@@ -26,6 +26,7 @@ returns g c signer verifier block entries after history checks apart =
                 pushes.traffic signer verifier depth (sent + 1) spi list m pair store next result group checks at
                 (apart.traffic (sent + 1) pair at) is step;
           })
+          (c.each_moment_ends_a_history.ensures signer verifier block) (c.replies_are_of_the_present_epoch.ensures signer verifier block)
           entries history
       | inr alone ↦ subst (All (IsPeerOf depth spi list)) (sym alone) (All-nil (IsPeerOf depth spi list))
     ]

@@ -3,13 +3,10 @@ use Rattle.group_terms.specs.Names.{Name}
 use Rattle.group_terms.specs.declared.keys.KeyName.TheVariants.{Traffic}
 use Rattle.group_model.specs.Derivations.{CanDerive, held_names, pairs_sent}
 use Rattle.group_model.specs.declared.entries.Answer.TheVariants.{Derived}
-use Rattle.group_model.specs.declared.entries.Asked.TheVariants.{Derive}
-use Rattle.group_steps.specs.Changes.{IsQuestion}
 use Rattle.sym_closure.specs.Knowledge.{Knows, KnowsAll}
-use Rattle.group_run.specs.Private.Kept.{IsKept}
-use Rattle.group_run.proofs.AskLemmas.{decides}
-use Rattle.group_run.proofs.SilentLemmas.{kept_known, kept_silent}
-use Rattle.group_run.proofs.StillLemmas.{added, moves}
+use Rattle.group_run.proofs.AddLemmas.{added}
+use Rattle.group_run.proofs.KeptLemmas.{kept_as, kept_known, kept_silent}
+use Rattle.group_run.proofs.MoveLemmas.{asks}
 use Rattle.group_run.proofs.runs.GroupRun.derive.Goals as goal
 
 pub follow-requires : goal.follow-requires
@@ -18,37 +15,28 @@ follow-requires g c =
 
 pub invariant_of-self-in_err-follow : goal.invariant_of-self-in_err-follow
 invariant_of-self-in_err-follow g c =
-    let run = c.self.inside in
     let reserved = c.in_ok-reserve.ensures.items in
-    let known = subst (Knows c.follow.new.self) (c.items.ensures ∙ reserved) c.in_err-follow.ensures.err in
-    subst (IsKept run.core run.peers.items c.follow.new.self run.pushes.items) (sym reserved) (kept_known known c.self.invariant)
+    kept_as reserved (kept_known (subst (Knows c.follow.new.self) (c.items.ensures ∙ reserved) c.in_err-follow.ensures.err) c.self.invariant)
 
 pub invariant_of-self-in_err-yes : goal.invariant_of-self-in_err-yes
 invariant_of-self-in_err-yes g c =
-    let run = c.self.inside in
     let reserved = c.in_ok-reserve.ensures.items in
-    let known = subst (Knows c.follow.new.self) (c.items.ensures ∙ reserved) c.in_ok-follow.ensures.ok.knows in
-    subst (IsKept run.core run.peers.items c.follow.new.self run.pushes.items) (sym reserved) (kept_known known c.self.invariant)
+    kept_as reserved (kept_known (subst (Knows c.follow.new.self) (c.items.ensures ∙ reserved) c.in_ok-follow.ensures.ok.knows) c.self.invariant)
 
 pub invariant_of-self-2 : goal.invariant_of-self-2
 invariant_of-self-2 g c =
-    let same = c.items.ensures ∙ c.in_ok-reserve.ensures.items in
-    let known = subst (Knows c.follow.new.self) same c.in_ok-follow.ensures.ok.knows in
-    kept_silent c.what_is_known_stays_known.ensures {answer = Derived c.in_ok-yes.yes} (record { no_push = refl; nobody = refl }) refl
+    let known = subst (Knows c.follow.new.self) (c.items.ensures ∙ c.in_ok-reserve.ensures.items) c.in_ok-follow.ensures.ok.knows in
+    kept_silent c.what_is_known_stays_known.ensures {answer = Derived c.in_ok-yes.yes}
     (added c.in_ok-reserve.ensures.items c.draws_at-place.ensures c.entry.ensures c.add.ensures.items)
-    c.self.invariant.granted (kept_known known c.self.invariant)
+    c.self.invariant.granted refl (kept_known known c.self.invariant)
 
 pub returns-clause-ok : goal.returns-clause-ok
 returns-clause-ok g c =
-    let run = c.self.inside in
     let known = subst (KnowsAll c.follow.new.self) (c.items.ensures ∙ c.in_ok-reserve.ensures.items) c.in_ok-follow.ensures.ok in
     let epoch = c.args.epoch in
-    let members = c.args.members in
+    let entries = c.self.inside.entries.items in
     let yes = c.in_ok-yes.yes in
-    let entries = run.entries.items in
-    moves g.D.Disk g.R.Draws (λ held. IsQuestion held.entries epoch members) (Derive epoch members) (Derived yes) c.self.view_is
+    asks g.D.Disk g.R.Draws epoch c.args.members yes c.self.view_is
     (added c.in_ok-reserve.ensures.items c.draws_at-place.ensures c.entry.ensures c.add.ensures.items)
-    refl
-    (decides g.D.Disk g.R.Draws run.core run.peers.items entries epoch members yes
     (subst (λ (names : List Name). Decides yes (CanDerive (held_names entries names) (pairs_sent entries) (Traffic epoch))) c.names.ensures.names
-    (c.in_ok-yes.ensures entries known)))
+    (c.in_ok-yes.ensures entries known))

@@ -1,21 +1,26 @@
-use Rattle.std.proofs.Common.{refl}
+use Rattle.std.proofs.Common.{refl, sym, subst}
+use Rattle.std.specs.Prelude.{All}
+use Rattle.group_terms.specs.Changes.{joiners}
 use Rattle.group_model.specs.declared.entries.Asked.TheVariants.{Leave}
-use Rattle.group_steps.specs.Changes.{IsLeaving}
-use Rattle.group_run.proofs.SilentLemmas.{kept_silent}
-use Rattle.group_run.proofs.StillLemmas.{added, moves}
+use Rattle.group_run.specs.Private.Kept.{IsPeer}
+use Rattle.group_run.proofs.AddLemmas.{added}
+use Rattle.group_run.proofs.GrantLemmas.{still_after}
+use Rattle.group_run.proofs.KeptLemmas.{kept_silent}
+use Rattle.group_run.proofs.MoveLemmas.{serves}
 use Rattle.group_run.proofs.runs.GroupRun.leave.Goals as goal
 
 pub invariant_of-self-2 : goal.invariant_of-self-2
 invariant_of-self-2 g c =
-    let asks = c.answer_leave-answer in
-    kept_silent c.what_is_known_stays_known.ensures asks.ensures.silent refl
+    let run = c.self.inside in
+    let asks = c.leave-answer in
+    kept_silent c.what_is_known_stays_known.ensures
     (added c.in_ok-reserve.ensures.items c.draws_at-place.ensures c.entry.ensures c.add.ensures.items)
-    (asks.ensures.granted c.self.invariant.granted) c.self.invariant
+    (subst (λ queue. All (IsPeer run.members.members.all) (joiners queue)) (sym asks.ensures.waits)
+    (still_after run.members.members.all run.core.queue c.args.member.now asks.result c.self.invariant.granted))
+    asks.ensures.silent c.self.invariant
 
 pub returns-clause-ok : goal.returns-clause-ok
 returns-clause-ok g c =
-    let asks = c.answer_leave-answer in
-    let m = c.args.member.now in
-    moves g.D.Disk g.R.Draws (λ held. IsLeaving m) (Leave m) asks.result c.self.view_is
-    (added c.in_ok-reserve.ensures.items c.draws_at-place.ensures c.entry.ensures c.add.ensures.items)
-    refl asks.ensures.step
+    let asks = c.leave-answer in
+    serves g.D.Disk g.G.Signer g.R.Draws (Leave c.args.member.now) asks.result c.self.view_is
+    (added c.in_ok-reserve.ensures.items c.draws_at-place.ensures c.entry.ensures c.add.ensures.items) asks.ensures.serves (λ next. refl)

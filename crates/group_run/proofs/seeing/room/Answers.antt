@@ -1,5 +1,0 @@
-use Rattle.std.proofs.Common.{arith}
-use Rattle.group_run.proofs.seeing.room.Goals as goal
-
-pub returns-clause-spare : goal.returns-clause-spare
-returns-clause-spare c = omega (arith, c.in_ok-reserve.ensures.spare)

@@ -1,0 +1,17 @@
+use Rattle.group_steps.proofs.CountLemmas.{served_counted}
+use Rattle.group_steps.proofs.ServedLemmas.{crashes_served, reach, run_steps}
+use Rattle.group_steps.proofs.laws.what_is_served_are_steps_of_a_run.Goals as goal
+
+pub returns-clause-members : goal.returns-clause-members
+returns-clause-members g c signer block = reach g.D.Disk g.G.Signer signer block
+
+pub returns-clause-steps : goal.returns-clause-steps
+returns-clause-steps g c signer verifier block = run_steps g.D.Disk g.G.Signer signer block g.V.Verifier verifier
+
+pub returns-clause-crashes : goal.returns-clause-crashes
+returns-clause-crashes g c signer verifier block =
+    crashes_served g.D.Disk g.G.Signer signer block g.V.Verifier verifier
+    (c.a_crash_leaves_a_moment_of_the_history.ensures.crashes signer verifier block)
+
+pub returns-clause-faults : goal.returns-clause-faults
+returns-clause-faults g c signer block = served_counted g.D.Disk g.G.Signer signer block

@@ -1,0 +1,6 @@
+pub mod Keys
+pub mod Mails
+pub mod Members
+pub mod Private
+pub mod Steps
+pub mod Views

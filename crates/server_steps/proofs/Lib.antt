@@ -1,0 +1,12 @@
+mod BatchLemmas
+mod BesideLemmas
+mod ChangeLemmas
+mod CreateLemmas
+mod JournalLemmas
+mod OpenLemmas
+mod PairLemmas
+mod ReopenLemmas
+mod ReplyLemmas
+mod SeenLemmas
+mod ServedLemmas
+mod StillLemmas

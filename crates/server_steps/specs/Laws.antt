@@ -1,0 +1,32 @@
+-- What follows where a core serves one request after the other.
+use Rattle.std.specs.Prelude.{List, ◌∷◌, ◌++◌, []}
+use Rattle.gd_disk.specs.declared.disks.Disk.{Ghosts as DiskGhosts}
+use Rattle.gd_edges.specs.declared.draws.Draws.{Ghosts as DrawGhosts}
+use Rattle.gd_edges.specs.declared.signers.Signer.{Ghosts as SignerGhosts}
+use Rattle.group_terms.specs.Names.{Name}
+use Rattle.group_terms.specs.declared.paths.Keyed.{Keyed}
+use Rattle.group_model.specs.declared.entries.Answer.{Answer}
+use Rattle.group_model.specs.declared.entries.Asked.{Asked}
+use Rattle.group_model.specs.declared.entries.Asked.TheVariants.{Batch}
+use Rattle.group_model.specs.declared.entries.Entry.{Entry}
+use Rattle.gcks_core.specs.Views.{View}
+use Rattle.server_steps.specs.Entries.{noted}
+use Rattle.server_steps.specs.Serves.{IsSince, Serves, ServesBatch, Start}
+
+module _ {D G R : Type 0} (d : DiskGhosts D) (g : SignerGhosts G) (draws : DrawGhosts R) where
+  -- a core, and the history up to now: no entry was added since
+  abbrev pub BeginsNow : Type 0
+  BeginsNow = (core : View D G R) (entries : List Entry) → IsSince d g draws (record { core = core; before = entries }) core entries
+
+  -- and one more request was served, of which the entry was added
+  abbrev pub GoesOnSince : Type 0
+  GoesOnSince =
+      (start : Start D G R) (old new : View D G R) (entries : List Entry) (request : Asked) (answer : Answer) → IsSince d g draws start old entries
+      → Serves d g draws request answer old new
+      → IsSince d g draws start new (entries ++ noted request answer (draws.place_of old.draws) ∷ [])
+
+  -- A batch that was closed was served.
+  abbrev pub ClosedBatchesAreServed : Type 0
+  ClosedBatchesAreServed =
+      (answer : Answer) (told : List (Name × Keyed)) (old new : View D G R) → ServesBatch d g draws answer told old new
+      → Serves d g draws Batch answer old new

@@ -1,0 +1,16 @@
+pub mod Batches
+pub mod Changes
+pub mod Disks
+pub mod Entries
+pub mod Hosts
+pub mod Laws
+pub mod Openings
+pub mod Opens
+pub mod Outsides
+pub mod Private
+pub mod Reflects
+pub mod Replies
+pub mod Sent
+pub mod Serves
+pub mod Steps
+pub mod Waiting

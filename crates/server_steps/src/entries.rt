@@ -1,0 +1,72 @@
+//! Entries of a history.
+ghost use Rattle.std.specs.Prelude.{◌≡◌};
+ghost use Rattle.group_model.specs.Answers.{disk_failed_by, found_by, is_disk_fault};
+ghost use Rattle.server_steps.specs.Entries.{noted};
+
+use group_model::{Answer, Asked, Entry, Outside, Refusal};
+
+/// What was asked, and what was answered to it, where draws were at this place before.
+pub fn entry(asked: Asked, answer: Answer, place: u64) -> Entry
+    ensures { result ≡ noted asked answer place }
+{
+    let outside = Outside {
+        disk_failed: disk_failed_by(&answer),
+        found: found_by(&answer),
+        place,
+    };
+    Entry {
+        asked,
+        outside,
+        answer,
+    }
+}
+
+/// Whether it was refused because the disk failed.
+fn disk_failed_by(answer: &Answer) -> bool
+    ensures { result ≡ disk_failed_by answer.now }
+{
+    match answer {
+        Answer::Refused { why } => is_disk_fault(*why),
+        Answer::Done
+        | Answer::Queued
+        | Answer::Batched { .. }
+        | Answer::Opened { .. }
+        | Answer::Shown { .. }
+        | Answer::Kept { .. }
+        | Answer::Older { .. }
+        | Answer::TookRoot { .. }
+        | Answer::TookTraffic { .. }
+        | Answer::PushRefused { .. }
+        | Answer::KeyIs { .. }
+        | Answer::Nothing
+        | Answer::Derived { .. } => false,
+    }
+}
+
+fn is_disk_fault(why: Refusal) -> bool
+    ensures { result ≡ is_disk_fault why }
+{
+    matches!(why, Refusal::DiskFault)
+}
+
+/// The epoch at which an opening found the group.
+fn found_by(answer: &Answer) -> Option<u32>
+    ensures { result ≡ found_by answer.now }
+{
+    match answer {
+        Answer::Opened { group, .. } => Some(group.epoch),
+        Answer::Done
+        | Answer::Queued
+        | Answer::Batched { .. }
+        | Answer::Shown { .. }
+        | Answer::Kept { .. }
+        | Answer::Older { .. }
+        | Answer::TookRoot { .. }
+        | Answer::TookTraffic { .. }
+        | Answer::PushRefused { .. }
+        | Answer::KeyIs { .. }
+        | Answer::Nothing
+        | Answer::Derived { .. }
+        | Answer::Refused { .. } => None,
+    }
+}

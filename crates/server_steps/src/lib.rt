@@ -1,0 +1,17 @@
+//! The steps of a key server on its disk: the definitions of what it answers to each request and what it is after it, and the calls on a core by which it
+//! does so.
+#![tactic(auto)]
+
+pub use batching::{Closed, close_batch};
+pub use changing::{halt, join, leave};
+pub use entries::entry;
+pub use laws::{a_closed_batch_is_served, nothing_was_served_yet, one_more_is_served};
+pub use opening::{Opened, create, open, reopen};
+pub use seeing::{ShowRoom, refuse_deliveries, show};
+
+mod batching;
+mod changing;
+mod entries;
+mod laws;
+mod opening;
+mod seeing;
