@@ -24,6 +24,7 @@ argument_with name text =
     else (if bytes_eq name (codes "--seed") then option_map Seed (number_between 0 (2 ^ 64 - 1) text)
     else None))
 
+-- whether a character is the equals sign
 abbrev pub is_equals_sign : ℕ → Bool
 is_equals_sign c = c == 61
 

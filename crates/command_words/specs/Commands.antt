@@ -9,15 +9,17 @@ use Rattle.command_words.specs.declared.arguments.Argument.TheVariants.{Opens, L
 use Rattle.command_words.specs.Options.{◌>>=◌, one, one_or}
 use Rattle.command_words.specs.Arguments.{arguments_of}
 
--- what an argument says, where it is of this kind
+-- the opening that an argument asks for, where it asks for one
 abbrev pub opening_in : Argument → Option Opening
 opening_in (Opens opening) = Some opening
 opening_in _ = None
 
+-- the limit that an argument gives, where it gives one
 abbrev pub limit_in : Argument → Option ℕ
 limit_in (Limit limit) = Some limit
 limit_in _ = None
 
+-- the seed that an argument gives, where it gives one
 abbrev pub seed_in : Argument → Option ℕ
 seed_in (Seed seed) = Some seed
 seed_in _ = None

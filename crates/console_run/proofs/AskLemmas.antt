@@ -1,4 +1,7 @@
 -- One line of a script, request by request.
+-- What a line gives is a recursion over its entries (`GoesThrough`), each of which answers what `AsksNext` says; `GoesThrough-then` adds one at the end, where
+-- code adds. `Going` is a loop of requests with a property of the run (`keeps`): nothing for a batch, the last delivery for deliver-all, `any_run` for a line
+-- of one request.
 use Rattle.std.proofs.Common.{◌≡◌, ℕ, false, ◌||◌, List, [], ◌∷◌, ◌++◌, Option, None, Some, Result, Ok, Err, sym, refl, ap, ◌∙◌, subst, inl, inr, append_assoc}
 use Rattle.std.specs.Prelude.{IfErr, MatchResult, OnOk}
 use Rattle.std.proofs.lemmas.Bool.{or_parts}

@@ -1,4 +1,5 @@
 -- A text, its octets and its lines.
+-- `rw` by a test finds nothing in a fold over `octet ∷ octets`: `cut_parts` unfolds it by `ap (λ b. fold cut_more (cond b ended kept) octets)`.
 use Rattle.std.proofs.Common.{Fits, w8, get_or, true, ◌≡◌, ℕ, suc, ◌<◌, cond, List, [], ◌∷◌, ◌++◌, length, sym, refl, ap, ◌∙◌, arith, inl, inr}
 use Rattle.std.specs.List.{fold, slice_split, onto_first}
 use Rattle.std.proofs.lemmas.Bool.{cases_Bool, lt-ltb, and_from}

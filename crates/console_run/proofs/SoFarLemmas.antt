@@ -1,4 +1,5 @@
 -- A run so far, and the octets that come next.
+-- One octet, a piece and the whole script are each `GoesOn octets old new`, so `GoesOn-then` and `append_assoc` put them together.
 use Rattle.std.proofs.Common.{◌≡◌, ℕ, ◌+◌, ◌<◌, ◌≤◌, true, cond, List, [], ◌∷◌, ◌++◌, length, sym, refl, ap, ◌∙◌, subst, arith, append_assoc, inl, inr}
 use Rattle.std.specs.Prelude.{nat_lt}
 use Rattle.std.proofs.lemmas.Bool.{or_from, ne_eqb, lt-ltb, and_from}

@@ -1,4 +1,5 @@
 -- Where and why a run stops.
+-- `IsStoppedAt stop` computes to the final form of each way in which a run stops, so nothing is translated from level to level.
 use Rattle.std.proofs.Common.{◌≡◌, ℕ, ◌+◌, ◌<◌, ◌≤◌, Bool, true, false, List, [], ◌∷◌, ◌++◌, length, take, drop, get_or, sym, refl, ap, ◌∙◌, subst}
 use Rattle.std.proofs.Common.{arith, append_assoc, inl, inr}
 use Rattle.std.specs.Prelude.{nat_lt}

@@ -126,6 +126,7 @@ module _ {D G V : Type 0} (on : Devices D G V) (by : Keying G) (given : Given) (
     pub parts : entries ≡ done ++ more
     pub up_to : IsUpToLine done more after
 
+  -- memory ran out, at the opening or in the lines after it
   abbrev pub EndsForMemory : List Entry → Run D → Type 0
   EndsForMemory entries after = RunsOutAtOpening entries after ⊎ RunsOutInLines entries after
 

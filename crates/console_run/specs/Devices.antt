@@ -25,6 +25,7 @@ pub record Keying (G : Type 0) : Type 0 where
   pub signer : G
   pub block : ℕ → List ℕ
 
+-- a key server signs with this signer, and draws these blocks
 abbrev pub keying : {G : Type 0} → G → (ℕ → List ℕ) → Keying G
 keying signer block = record { signer = signer; block = block }
 

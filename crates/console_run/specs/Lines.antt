@@ -44,6 +44,7 @@ module _ {D : Type 0} (run : Run D) (before so_far : List Entry) where
       ⊎ ((delivery : Delivery) × (next ≡ Some (requests.Deliver delivery.member delivery.number))
       × IsFirstDue (members_now run.host.server) run.members.all (before ++ so_far) last delivery)
 
+  -- the line goes on with the push that is due after the one that it gave last, and asks nothing more where none is due
   abbrev pub GivesWhatIsDue : Option Asked → Type 0
   GivesWhatIsDue next = (last : Option Delivery) × WasGivenLast run.members.all so_far last × IsNextGiven last next
 

@@ -59,6 +59,7 @@ pub record Streams : Type 0 where
   pub sink_before : Shown
   pub sink_after : Shown
 
+-- the streams of a run: what the source gave, the source before and after it, and the sink before and after it
 abbrev pub streams_of : Given → Shown → Shown → Shown → Shown → Streams
 streams_of given had left was now = record { given = given; source_before = had; source_after = left; sink_before = was; sink_after = now }
 
@@ -105,8 +106,9 @@ module _ {D G V : Type 0} (on : Devices D G V) (by : Keying G) where
 
   -- ---- crashes
 
-  -- The first entry is that of the opening. Where that opened the group, and the disk is honest and exposes its octets, then from any place of the history on a
-  -- crash leaves the journal as it was at some moment from that place on, perhaps with the batch that is being written, and with all that were stored up to there.
+  -- The first entry is that of the opening. Where that opened the group, and the disk is honest and exposes its octets, then from any place of the history on
+  -- a crash leaves the journal as it was at some moment from that place on, with all batches that were stored up to there, and perhaps with the one that is
+  -- being written.
   pub record LeavesMomentsAfterOpening (start : Run D) (entries : List Entry) (after : Run D) : Type 0 where
     pub first : Entry
     pub later : List Entry
@@ -143,8 +145,8 @@ module _ {D G V : Type 0} (on : Devices D G V) (by : Keying G) where
     -- And nobody derives that of an epoch to come. Nothing is said of guessing what is drawn.
     pub to_come : (front : List Entry) (mid : Run D) → HasMoment on by (start_of command old place) entries after front mid
         → NobodyDerivesYet mid.host.server.depth (batches_in mid)
-    -- A member at each epoch from one to another derives the traffic key of the second from what it may be told at the first, whether it was told or not, by the
-    -- encryptions since.
+    -- A member at each epoch from one to another derives the traffic key of the second from what it may be told at the first, whether it was told or not, by
+    -- the encryptions since.
     pub members : (front : List Entry) (mid : Run D) → HasMoment on by (start_of command old place) entries after front mid → 1 ≤ mid.host.server.depth
         → MembersDerive mid.host.server.depth (batches_in mid)
     -- A batch encrypts two keys at most for the root and for each position between it and a changed leaf, and the traffic key. Replies are not counted.

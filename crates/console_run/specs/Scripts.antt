@@ -3,10 +3,11 @@ use Rattle.std.specs.Prelude.{◌≡◌, ◌⊎◌, ℕ, ◌==◌, ◌&&◌, nat
 use Rattle.std.specs.List.{list_all, slice_split}
 use Rattle.script_text.specs.Lines.{line_of}
 
--- a line has at most so many octets, and a script so many lines
+-- a line has at most so many octets
 abbrev pub longest_line : ℕ
 longest_line = 200
 
+-- a script has at most so many lines
 abbrev pub most_lines : ℕ
 most_lines = 16384
 
@@ -14,6 +15,7 @@ most_lines = 16384
 abbrev pub longest_piece : ℕ
 longest_piece = 4096
 
+-- whether each of these numbers is an octet
 abbrev pub are_octets : List ℕ → Bool
 are_octets octets = list_all (λ octet. nat_lt octet 256) octets
 
@@ -32,6 +34,7 @@ lines_of_parts [] = []
 lines_of_parts (part ∷ []) = unfinished part
 lines_of_parts (part ∷ next ∷ parts) = part ∷ lines_of_parts (next ∷ parts)
 
+-- the lines of a script, each without its line end
 abbrev pub script_lines : List ℕ → List (List ℕ)
 script_lines octets = lines_of_parts (slice_split ends_line octets)
 
@@ -39,6 +42,7 @@ script_lines octets = lines_of_parts (slice_split ends_line octets)
 abbrev pub EndsLine : List ℕ → Type 0
 EndsLine text = (text ≡ []) ⊎ ((front : List ℕ) × (text ≡ front ++ 10 ∷ []))
 
+-- whether a text is a line of the grammar
 abbrev pub is_line : List ℕ → Bool
 is_line text = is_some (line_of text)
 

@@ -1,4 +1,6 @@
 -- What stays of the rule when one view changes.
+-- A step that changes one view and neither its shares nor its turns gives only words, tickets, slot and who is served; `put` carries each other view, by
+-- `j ≢ id`.
 use Rattle.std.proofs.Common.{◌≡◌, ◌≢◌, ℕ, zero, suc, ◌+◌, ◌%◌, ◌^◌, ◌⊎◌, eqb, List, [], ◌∷◌, ◌++◌, length, set, All, slice_get, sym, refl, ap, subst, ◌∙◌, inl, inr, ⊎_elim, Option, Some, None, arith, append_assoc, append-nil}
 use Rattle.std.proofs.lemmas.Option.{slice_get_within}
 use Rattle.std.proofs.lemmas.List.Elements.{All-weaker}

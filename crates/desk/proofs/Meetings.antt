@@ -1,4 +1,5 @@
 -- What is cut in two, taken in, learned, made and given back keeps the rule of the table.
+-- Seats that are cut in two or joined: all views together have what they had (`regrouped`).
 use Rattle.std.proofs.Common.{◌≡◌, ◌≢◌, ℕ, zero, suc, ◌+◌, ◌*◌, ◌≤◌, eqb, List, [], ◌∷◌, ◌++◌, map, length, set, All, sum_by, sym, refl, ap, subst, ◌∙◌, inl, ⊎_elim, Option, Some, arith, length-append, add-mul, append-nil, suc-mul}
 use Rattle.std.specs.List.{range_with_len}
 use Rattle.std.proofs.lemmas.List.Elements.{All-nil, All-push, All-append, All-map}

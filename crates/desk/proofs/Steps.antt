@@ -1,4 +1,6 @@
 -- Each step of a turn keeps the rule of the table.
+-- Each number that two steps have to agree on is read in the step (`Read`), and `prove!` shows that it was the one counted; `counted` holds for every value,
+-- entry and ticket.
 use Rattle.std.proofs.Common.{◌≡◌, ◌≢◌, ℕ, ◌+◌, ◌-◌, ◌*◌, ◌%◌, ◌^◌, ◌<◌, ◌≤◌, eqb, List, [], ◌∷◌, ◌++◌, length, set, get_or, All, slice_get, sym, refl, ap, subst, ◌∙◌, inl, inr, ⊎_elim, Option, Some, None, arith, length-append, append_assoc}
 use Rattle.std.proofs.Math.Nat.{mod-add-mod, mod-eq_of_lt, mul-le-mul}
 use Rattle.std.proofs.lemmas.Option.{slice_get_within}

@@ -1,4 +1,6 @@
 -- Sums over all views, where one view changes, one is cut in two, or two become one.
+-- "Each ticket in just one view" is a sum: two views with one ticket give 2 ≤ 1 (`sum-two`), and who has all pass numbers leaves none (`sum-alone`). Both sides
+-- take what was served before as a term, so a bound that moves needs no cases (`below-next`).
 use Rattle.std.proofs.Common.{◌≡◌, ◌≢◌, ℕ, zero, suc, ◌+◌, ◌<◌, ◌≤◌, eqb, List, [], ◌∷◌, ◌++◌, map, set, sum_by, sym, refl, ap, eq-eqb, arith}
 use Rattle.std.proofs.lemmas.Bool.{lt-ltb, le-ltb, ne_eqb}
 use Rattle.std.proofs.lemmas.List.Sums.{sum_by-cons, sum_by_push}

@@ -15,26 +15,31 @@ module _ {E : Type 0} where
   with_call call [] = []
   with_call call (share ∷ shares) = record share { mine = share.mine ++ call ∷ [] } ∷ shares
 
+  -- the first share alone, where there is one
   abbrev pub first_of : List (Share E) → List (Share E)
   first_of [] = []
   first_of (share ∷ shares) = share ∷ []
 
+  -- all shares but the first one
   abbrev pub others_of : List (Share E) → List (Share E)
   others_of [] = []
   others_of (share ∷ shares) = shares
 
 module _ {E G : Type 0} where
+  -- a view whose turn has come this far
   abbrev pub in_phase : Phase → View E G → View E G
   in_phase phase view = record view { phase = phase }
 
+  -- how many turns each pass has, where a view knows it, and else 0
   abbrev pub turns_told : Option (Terms E G) → ℕ
   turns_told None = 0
   turns_told (Some terms) = terms.turns
 
-  -- the view without its first share, and a view with that one
+  -- the view without its first share, and without the turns of one pass
   abbrev pub without_first : View E G → View E G
   without_first view = record view { shares = others_of view.shares; left = view.left - turns_told view.terms }
 
+  -- a view with the first share alone, and with the turns of one pass
   abbrev pub with_first : View E G → View E G
   with_first view = record view { shares = first_of view.shares; left = turns_told view.terms }
 
@@ -95,6 +100,8 @@ module _ {K E G : Type 0} (listed : K → List E) where
         left = view.left - 1;
       }
 
+  -- A view that is served counts the entry that its value got while it was out. What it had seen is the history at the making of the desk, and as many
+  -- entries as were counted before.
   abbrev pub counted : Step (Option K) → Mine K E G → ℕ → Mine K E G → Type 0
   counted step me found after = (kept : K) (ticket room : ℕ) (entry : E) → me.1 ≡ (0, Some kept) ∷ []
       → me.0.phase ≡ Serves ticket room → listed kept ≡ me.0.seen ++ entry ∷ []

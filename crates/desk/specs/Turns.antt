@@ -14,6 +14,7 @@ use Rattle.desk.specs.declared.views.View.{View}
 use Rattle.desk.specs.Calls.{StandsIn, IsRising, times}
 use Rattle.desk.specs.Views.{StartsWith}
 
+-- 1 where a test holds, and 0 where it does not
 abbrev pub one_if : Bool → ℕ
 one_if test = cond test 1 0
 
@@ -121,6 +122,7 @@ module _ {K E G : Type 0} (listed : K → List E) (spare : K → ℕ) (tag : K �
     pub budget : left_in state.views + length news ≡ terms.passes * terms.turns
 
 module _ {E : Type 0} where
+  -- a share of this pass number, which has no call yet
   abbrev pub blank_share : ℕ → Share E
   blank_share number = record { number = number; mine = [] }
 

@@ -28,10 +28,12 @@ module _ {E : Type 0} where
   abbrev pub StartsWith : List E → List E → Type 0
   StartsWith history seen = (more : List E) × (history ≡ seen ++ more)
 
+  -- the pass number of the first share, and 0 where there is no share
   abbrev pub first_number : List (Share E) → ℕ
   first_number [] = 0
   first_number (share ∷ shares) = share.number
 
+  -- the calls of the first share, and none where there is no share
   abbrev pub first_mine : List (Share E) → List (Call E)
   first_mine [] = []
   first_mine (share ∷ shares) = share.mine

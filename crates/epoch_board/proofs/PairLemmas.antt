@@ -1,4 +1,5 @@
 -- What a board shows after more was published, and lists that begin with others.
+-- `is_less (slice_index_or (pair ∷ pairs) (suc k + 1) d)` does not compute: `ap` with `{x = suc (k + 1)} {y = suc k + 1} (omega arith)`.
 use Rattle.std.proofs.Common.{◌≡◌, zero, suc, ◌+◌, false, length, slice_index_or, arith, List, [], ◌∷◌, ◌++◌, refl, ap, subst, sym, ◌∙◌}
 use Rattle.std.proofs.lemmas.List.{append_assoc, append-nil, length-append, nil_from_length}
 use Rattle.epoch_board.specs.declared.pairs.Seen.{Seen}

@@ -1,4 +1,5 @@
 -- What the seats of a board know stays true, where one of them learns something true.
+-- Two lemmas serve all steps: one seat learns something true (`AllFit-set`), a new seat begins with something true (`AllFit-push`).
 use Rattle.std.proofs.Common.{◌≡◌, ◌≢◌, ℕ, List, [], ◌∷◌, ◌++◌, subst, sym, ⊎_elim, set}
 use mathlib.Core.Option.{some}
 use lib.ListN.{get_elem?}

@@ -1,4 +1,6 @@
 -- Each step on a board keeps its rule.
+-- What is left of each step is one goal, `(search rules, search rules, looks _ _ _)`. The word is given by its inverse (`pair_of word`), so the log needs no
+-- bounds.
 use Rattle.std.proofs.Common.{◌≡◌, ◌≢◌, ℕ, zero, suc, List, [], ◌∷◌, ◌++◌, refl, ap, subst, sym, ◌∙◌, ⊎_elim, set, slice_index, slice_set}
 use mathlib.Core.Option.{some, some-injective, some-ne-none}
 use lib.ListN.{get_elem?}

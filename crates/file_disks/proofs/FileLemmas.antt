@@ -1,4 +1,5 @@
 -- A file in memory after one call more.
+-- A flag that is false while a call is made and true again after its Ok, in place of one that is set on failure: then `?` needs no arm (`MemFile::sync`).
 use Rattle.std.specs.Prelude.{◌⊎◌}
 use Rattle.std.proofs.Common.{◌≡◌, ◌∙◌, inl, inr, ⊎_elim, Bool, true, false, ℕ, ◌≤◌, ◌<◌, List, [], length, refl, sym, subst, arith}
 use Rattle.std.proofs.lemmas.List.{take_all}

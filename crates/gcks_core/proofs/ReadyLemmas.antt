@@ -1,4 +1,5 @@
 -- Those who come in with a batch, and what they are told.
+-- A loop that answers some items of a list: the names so far and those of what is left are all names, which also bounds the index.
 use Rattle.std.proofs.Common.{◌≡◌, ◌∙◌, ℕ, ◌+◌, ◌*◌, ◌^◌, ◌<◌, ◌≤◌, Bool, true, false, List, [], ◌∷◌, ◌++◌, length, map, get_or, drop, Option, None, Some, refl, sym, ap, subst, arith}
 use Rattle.std.specs.List.{All, position}
 use Rattle.std.specs.Option.{option_map}

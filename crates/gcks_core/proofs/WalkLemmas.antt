@@ -1,4 +1,5 @@
 -- What was read of a journal, batch after batch.
+-- What was read so far is one record with the first store in it (`IsReading`), and each way out of the loop takes its fields.
 use Rattle.std.proofs.Common.{◌≡◌, ◌∙◌, ℕ, ◌+◌, ◌^◌, false, List, [], ◌∷◌, ◌++◌, length, Option, None, Some, refl, sym, ap, subst}
 use Rattle.std.proofs.lemmas.List.Elements.{All-nil}
 use Rattle.gd_disk.specs.Disks.{Knows}

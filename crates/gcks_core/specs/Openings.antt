@@ -10,11 +10,12 @@ use Rattle.gcks_core.specs.Views.{View}
 abbrev pub head_of : NewGroup → List ℕ → Head
 head_of group spi = record { depth = group.depth; name = group.name; spi = spi; limit = group.limit }
 
--- the disk that an answer has, or gives back
+-- the disk of a core that was made, or the one that is given back where none was
 abbrev pub core_disk : {D G R : Type 0} → Result (View D G R) (Opening D G R) → D
 core_disk (Ok core) = core.disk
 core_disk (Err opening) = opening.parts.disk
 
+-- the disk of a core that was opened, or the one that is given back where none was
 abbrev pub opened_disk : {D G R : Type 0} → Result (CoreOpened D G R) (Opening D G R) → D
 opened_disk (Ok opened) = opened.core.disk
 opened_disk (Err opening) = opening.parts.disk

@@ -29,6 +29,7 @@ abbrev pub stored_from : ℕ → List (List Change) → List Made → List Store
 stored_from depth before [] = []
 stored_from depth before (made ∷ list) = stored_after depth before made ∷ stored_from depth (before ++ made.changes ∷ []) list
 
+-- batches from the first one on, as a journal has them
 abbrev pub stored_list : ℕ → List Made → List Stored
 stored_list depth list = stored_from depth [] list
 
@@ -38,6 +39,7 @@ AreDueFrom depth limit before [] = Unit {0}
 AreDueFrom depth limit before (made ∷ list) =
     IsDue depth limit before (stored_after depth before made) × AreDueFrom depth limit (before ++ made.changes ∷ []) list
 
+-- batches from the first one on are due, each after those before it
 abbrev pub AreDue : ℕ → ℕ → List Made → Type 0
 AreDue depth limit list = AreDueFrom depth limit [] list
 

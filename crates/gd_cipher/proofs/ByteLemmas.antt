@@ -1,4 +1,6 @@
 -- Facts of each byte, most of them computed over all bytes.
+-- Two tables over `range_with_len 0 256` are equal by `refl`, and `each_byte` gives that for a byte that is a variable. The inverse of the substitution takes
+-- some seconds.
 use Rattle.std.proofs.Common.{◌≡◌, ℕ, ◌*◌, ◌/◌, ◌<◌, ◌==◌, Bool, true, false, cond, ltb, List, length, Some, None, map, bit_xor, refl, ap, sym, ◌∙◌, get_or, arith}
 use Rattle.std.specs.Option.{unwrap_or}
 use Rattle.std.proofs.lemmas.Bool.{ltb-true}

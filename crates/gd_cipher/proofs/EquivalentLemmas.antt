@@ -1,4 +1,5 @@
 -- That the equivalent inverse cipher, under keys that were changed for it, is the inverse cipher.
+-- A step without mixing is one that mixes by the matrix of ones (`mix_by_one`), so one function with tables as its argument serves both kinds of rounds.
 use Rattle.std.proofs.Common.{◌≡◌, ℕ, zero, suc, ◌+◌, ◌-◌, ◌<◌, ◌≤◌, List, [], ◌∷◌, ◌++◌, map, length, get_or, bit_xor, refl, ap, sym, ◌∙◌, arith}
 use Rattle.gd_cipher.specs.Bytes.{AreBytes}
 use Rattle.gd_cipher.specs.Fields.{undo_substitute}

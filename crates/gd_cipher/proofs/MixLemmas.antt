@@ -1,4 +1,5 @@
 -- That mixing a column can be undone.
+-- `row_by_bytes` and `map_back` (UndoLemmas) are stated for any function: with `times 14` or `substitute` written out, terms over a variable grow at each step.
 use Rattle.std.proofs.Common.{◌≡◌, ℕ, zero, suc, ◌+◌, ◌*◌, ◌/◌, ◌%◌, ◌<◌, Bool, true, false, [], ◌∷◌, map, bit_xor, ◌==◌, cond, refl, ap, ap₂, sym, ◌∙◌, arith}
 use lib.Bits.{xor_assoc, xor_zero_r}
 use Rattle.std.specs.List.{range_with_len}

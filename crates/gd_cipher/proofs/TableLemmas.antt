@@ -1,4 +1,5 @@
 -- Tables of 256 entries, each the value of one function at its place.
+-- The first table is compared with the rule, and the others with the first one turned, so the rule is computed once (`tables_are`).
 use Rattle.std.proofs.Common.{◌≡◌, ◌<◌, ◌∙◌, ℕ, List, ap}
 use Rattle.gd_cipher.specs.Private.Tables.{AreTables, table, tables_from}
 

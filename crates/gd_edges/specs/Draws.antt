@@ -21,6 +21,7 @@ pub record KeyStream : Type 0 where
 abbrev pub stream_seed : ℕ → ℕ → List ℕ
 stream_seed seed stream = to_be_bytes w64 seed ++ replicate 23 0 ++ stream ∷ []
 
+-- the words of the cipher's key for this seed and this stream
 abbrev pub stream_key : ℕ → ℕ → List ℕ
 stream_key seed stream = key_of (stream_seed seed stream)
 
@@ -32,5 +33,6 @@ stream_word key n = to_be_bytes w32 (word_at 10 key 0 n)
 abbrev pub stream_words : List ℕ → ℕ → List ℕ
 stream_words key n = stream_word key n ++ stream_word key (n + 1) ++ stream_word key (n + 2) ++ stream_word key (n + 3)
 
+-- the block that is drawn at a place: the four words of the key stream that come after those of the blocks before it
 abbrev pub stream_block : List ℕ → ℕ → List ℕ
 stream_block key k = stream_words key (4 * k)

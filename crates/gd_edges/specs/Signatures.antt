@@ -4,6 +4,7 @@ use Rattle.std.specs.Str.{bytes_eq}
 use Rattle.gd_cipher.specs.Macs.{hmac}
 use Rattle.group_terms.specs.declared.signatures.SignKind.{SignKind}
 
+-- the key of these signatures, which everybody knows
 abbrev pub test_key : List ℕ
 test_key = codes "gdoi test signer"
 

@@ -1,4 +1,6 @@
 -- Fields that were read, and fields that were written.
+-- `nested` (ReadingLemmas) moves a block within a block out, so what is known of a whole header is one `let` for each line of its block. `octets_written`,
+-- `number_written`: `rw` with one for each line of a block, and one for each test, ends in `refl`.
 use Rattle.std.proofs.Common.{◌≡◌, ℕ, ◌+◌, ◌<◌, ◌≤◌, true, List, [], ◌∷◌, ◌++◌, length, take, drop, leb, slice_index_or, Ok, refl, sym, ap}
 use Rattle.std.proofs.Common.{◌∙◌, subst, length-append, arith}
 use Rattle.std.specs.Prelude.{◌==◌}

@@ -11,10 +11,11 @@ use Rattle.gd_wire.specs.Readings.{Cursor, Reading, ◌>>=◌, give, place, here
 
 -- ---- texts
 
--- the texts of an attribute of each form
+-- the text of an attribute in the short form (RFC 2408 section 3.3): its kind, with the first bit set, and its number, in 2 octets each
 abbrev pub short_text : ℕ → ℕ → List ℕ
 short_text kind number = big_bytes 2 (32768 + kind) ++ big_bytes 2 number
 
+-- the text of an attribute in the long form (RFC 2408 section 3.3): its kind and the size of its value, in 2 octets each, and the value
 abbrev pub long_text : ℕ → List ℕ → List ℕ
 long_text kind value = big_bytes 2 kind ++ big_bytes 2 (length value) ++ value
 

@@ -8,10 +8,11 @@ use Rattle.gd_wire.specs.Readings.{Cursor, Reading, ◌>>=◌, ◌>>◌, give, c
 use Rattle.gd_wire.specs.Readings.{long_number}
 use Rattle.gd_wire.specs.Chains.{body_of}
 
--- the body of a payload, as a text of its own, and the place of the length in that payload's header
+-- the body of a payload, as a text of its own, which begins after the four octets of the payload's header
 abbrev pub body_cursor : List ℕ → Part → Cursor
 body_cursor text part = from_start (part.at + 4) (body_of text part)
 
+-- the place in the datagram of the length in a payload's header, after the kind of the next one and a reserved octet (RFC 2408 section 3.2)
 abbrev pub length_place : Part → ℕ
 length_place part = part.at + 2
 
@@ -28,10 +29,11 @@ sized least most at = do
   check (nat_le least left && nat_le left most) Length at
   rest
 
--- the hash of HMAC with SHA-256 (RFC 2408 section 3.11)
+-- how many octets a hash of HMAC with SHA-256 has
 abbrev pub hash_octets : ℕ
 hash_octets = 32
 
+-- a hash (RFC 2408 section 3.11), which has just as many octets as HMAC with SHA-256 gives
 unfoldable pub hash : ℕ → Reading (List ℕ)
 hash at = do
   due_size hash_octets at
@@ -51,6 +53,7 @@ sequence at = do
   due_size 4 at
   long_number
 
+-- the text of a sequence number (RFC 6407 section 5.7), in 4 octets, the highest first
 abbrev pub sequence_text : ℕ → List ℕ
 sequence_text number = big_bytes 4 number
 

@@ -28,6 +28,7 @@ abbrev pub first_kind : List Payload → ℕ
 first_kind [] = 0
 first_kind (payload ∷ payloads) = payload.kind
 
+-- the text of payloads one after the other, each of which names the kind of the next one, and the last one 0 (RFC 2408 section 3.2)
 abbrev pub payloads_text : List Payload → List ℕ
 payloads_text [] = []
 payloads_text (payload ∷ payloads) = payload_text (first_kind payloads) payload.body ++ payloads_text payloads
@@ -40,12 +41,13 @@ filled size = size + (16 - size % 16) % 16
 abbrev pub padded : List ℕ → List ℕ
 padded text = text ++ replicate ((16 - length text % 16) % 16) 0
 
--- payloads that can be written: kinds that are octets, and bodies of octets whose lengths can be written
+-- a payload that can be written: its kind is an octet, and its body has octets, so few that the payload's length fits in 2 octets
 pub record PayloadFits (payload : Payload) : Type 0 where
   pub kind : payload.kind < 256
   pub size : length payload.body ≤ 65531
   pub octets : AreOctets payload.body
 
+-- payloads each of which can be written
 abbrev pub PayloadsFit : List Payload → Type 0
 PayloadsFit payloads = All PayloadFits payloads
 
@@ -96,6 +98,7 @@ abbrev pub payload_then : Result ((Part × Named) × Cursor) WireFault → (Name
 payload_then (Ok read) later = after_parts (read.0.0 ∷ []) (later read.0.1 read.1)
 payload_then (Err fault) later = Err (record { fault = fault; before = [] })
 
+-- what the end of a chain gives: no payload more, or the fault that was found there
 abbrev pub no_payload : Result (Unit {0}) WireFault → Result (List Part) ChainFault
 no_payload (Ok read) = Ok []
 no_payload (Err fault) = Err (record { fault = fault; before = [] })
@@ -109,6 +112,7 @@ chain_from (kind ∷ due) named cursor = payload_then (payload kind named cursor
 abbrev pub named_first : ℕ → Named
 named_first kind = record { kind = kind; at = 16 }
 
+-- a chain of just these kinds, given the kind that the header of the datagram names as that of the first payload
 abbrev pub chain : ℕ → List ℕ → Cursor → Result (List Part) ChainFault
 chain first due cursor = chain_from due (named_first first) cursor
 
@@ -133,6 +137,7 @@ body_of text part = take part.length (drop part.start text)
 abbrev pub payloads_at : List ℕ → List Part → List Payload
 payloads_at text parts = map (λ (part : Part). record { kind = part.kind; body = body_of text part }) parts
 
+-- the kinds of some payloads, in their order
 abbrev pub kinds_of : List Payload → List ℕ
 kinds_of payloads = map (λ (payload : Payload). payload.kind) payloads
 

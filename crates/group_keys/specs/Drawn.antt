@@ -14,6 +14,7 @@ AreDrawnFrom depth before [] = Unit {0}
 AreDrawnFrom depth before (made ∷ list) =
     (ids_of made.values.nodes ≡ drawn_at depth (before ++ made.changes ∷ []) (length before + 1)) × AreDrawnFrom depth (before ++ made.changes ∷ []) list
 
+-- batches from the first one on, each with the values of the positions for which it draws some
 abbrev pub AreDrawn : ℕ → List Made → Type 0
 AreDrawn depth list = AreDrawnFrom depth [] list
 

@@ -1,4 +1,5 @@
 -- Who comes in with a batch has a leaf after it, and who goes out has none.
+-- `1 + n` does not compute for a variable, so neither does a search past a first element: `placed-taken` is the equation that `rw` takes.
 use Rattle.std.proofs.Common.{◌≡◌, ℕ, suc, ◌+◌, ◌<◌, ◌≤◌, Bool, true, false, not, ◌&&◌, ◌||◌, List, [], ◌∷◌, ◌++◌, Some, None, length, get_or, sym, refl, ap, ◌∙◌, arith, inl, inr}
 use Rattle.std.specs.Prelude.{is_none, slice_set}
 use Rattle.std.specs.List.{fold, list_any, list_all, position_or_len}

@@ -1,4 +1,5 @@
 -- What the batch of a step encrypts is what the list says of its epoch.
+-- `wraps_up` puts the first position's part last, since the loop counts down.
 use Rattle.std.proofs.Common.{◌≡◌, ℕ, zero, suc, ◌+◌, ◌-◌, ◌*◌, ◌^◌, ◌<◌, ◌≤◌, Bool, true, false, cond, ◌||◌, List, [], ◌∷◌, ◌++◌, None, Some, length, get_or, refl, sym, ap, ◌∙◌, subst, arith, inl, inr, append_assoc}
 use Rattle.std.proofs.Math.Dec.{eqb}
 use Rattle.std.proofs.lemmas.Bool.{cases_Bool, lt-ltb, le-ltb}

@@ -32,6 +32,7 @@ module _ (need : Bool) (depth : ℕ) (holders : Holders) (queue : List Change) w
       if need then Refused NeedsReopen
       else (if is_member holders m then Nothing else unless_refused (why_no_join need depth holders queue m) Queued)
 
+  -- a leave is granted, unless there is a reason against it; the member goes out with the next batch
   abbrev pub answer_to_leave : Name → Answer
   answer_to_leave m = unless_refused (why_no_leave need depth holders queue m) Done
 
@@ -68,6 +69,7 @@ BeginsWithOpening (entry ∷ entries) = (opens entry.asked ≡ true) × ((entrie
 
 -- ---- failures
 
+-- whether the reason for a refusal is that the disk failed
 abbrev pub is_disk_fault : Refusal → Bool
 is_disk_fault DiskFault = true
 is_disk_fault why = false
@@ -77,6 +79,7 @@ abbrev pub disk_failed_by : Answer → Bool
 disk_failed_by (Refused why) = is_disk_fault why
 disk_failed_by answer = false
 
+-- whether the reason for a refusal is that memory ran out
 abbrev pub is_no_memory : Refusal → Bool
 is_no_memory NoMemory = true
 is_no_memory why = false

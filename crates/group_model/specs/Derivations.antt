@@ -71,5 +71,6 @@ pairs_in (Batched output) = output.wraps ++ flat_map reply_pairs (says_of output
 pairs_in (Opened seen resent) = pairs_resent resent
 pairs_in answer = []
 
+-- all that the answers of a history sent, one after the other
 abbrev pub pairs_sent : List Entry → List Wrap
 pairs_sent entries = flat_map (λ (entry : Entry). pairs_in entry.answer) entries

@@ -22,6 +22,7 @@ module _ (need : Bool) (depth : ℕ) (holders : Holders) (queue : List Change) w
       else (if leaves_taken depth holders queue == 2 ^ depth then Some (TreeFull (leaves_taken depth holders queue))
       else (if nat_lt (length queue) 32 then None else Some (BatchFull (length queue)))))
 
+  -- who goes out has to be a member of whom no change waits yet
   abbrev pub why_no_leave : Name → Option Refusal
   why_no_leave m =
       if need then Some NeedsReopen

@@ -34,15 +34,19 @@ abbrev pub opened_server : ℕ → ℕ → List Made → ℕ → Server
 opened_server depth limit list place = record { depth = depth; limit = limit; list = list; doubt = None; need = false; queue = []; place = place }
 
 module _ (server : Server) where
+  -- the changes of the batches that made its epochs
   abbrev pub present_batches : List (List Change)
   present_batches = batches_made server.list
 
+  -- the present epoch: each batch made one
   abbrev pub present_epoch : ℕ
   present_epoch = length server.list
 
+  -- the number of the last push up to the present epoch (RFC 6407 section 5.7)
   abbrev pub present_sequence : ℕ
   present_sequence = sequence_at server.depth present_batches present_epoch
 
+  -- who has which leaf at the present epoch
   abbrev pub members_now : Holders
   members_now = holders_of server.depth present_batches
 
@@ -50,21 +54,27 @@ module _ (server : Server) where
   abbrev pub coming_batches : List (List Change)
   coming_batches = present_batches ++ server.queue ∷ []
 
+  -- the epoch that the next batch would make
   abbrev pub coming_epoch : ℕ
   coming_epoch = present_epoch + 1
 
+  -- the number that the last push would have after the next batch
   abbrev pub coming_sequence : ℕ
   coming_sequence = sequence_at server.depth coming_batches coming_epoch
 
+  -- the positions for which the next batch would draw values
   abbrev pub coming_positions : List ℕ
   coming_positions = drawn_at server.depth coming_batches coming_epoch
 
+  -- why the join of a name may not wait for the next batch, if there is a reason
   abbrev pub refusal_to_join : Name → Option Refusal
   refusal_to_join m = why_no_join server.need server.depth members_now server.queue m
 
+  -- why the leave of a name may not wait for the next batch, if there is a reason
   abbrev pub refusal_to_leave : Name → Option Refusal
   refusal_to_leave m = why_no_leave server.need server.depth members_now server.queue m
 
+  -- why no batch is made of the changes that wait, if there is a reason
   abbrev pub refusal_to_batch : Option Refusal
   refusal_to_batch = why_no_batch server.need server.limit present_epoch present_sequence coming_sequence
 

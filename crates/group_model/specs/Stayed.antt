@@ -18,6 +18,7 @@ is_kept before (Some holder) = is_member before holder
 abbrev pub kept_leaves : Holders → Holders → List Bool
 kept_leaves before after = map (is_kept before) after
 
+-- whether somebody who has a leaf after the batch was a member before it
 abbrev pub somebody_stayed : Holders → Holders → Bool
 somebody_stayed before after = list_any (is_kept before) after
 

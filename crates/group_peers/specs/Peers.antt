@@ -13,10 +13,11 @@ names_of peers = map (λ (peer : Peer). peer.name) peers
 abbrev pub AreOnce : List Peer → Type 0
 AreOnce peers = IsDistinct same_name (names_of peers)
 
--- whether a peer has this name, and whether some peer has it
+-- whether a peer has this name
 abbrev pub is_named : Name → Peer → Bool
 is_named name peer = same_name name peer.name
 
+-- whether one of the peers has this name
 abbrev pub is_peer : List Peer → Name → Bool
 is_peer peers name = list_any (is_named name) peers
 

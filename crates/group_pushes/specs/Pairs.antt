@@ -24,6 +24,7 @@ pub record IsJobOf (list : List Made) (wrap : Wrap) (job : WrapJob) : Type 0 whe
   pub gives : wrap.gives ≡ Node job.gives.id job.gives.made
   pub gives_value : HasValue list job.gives
 
+-- there is one job for each wrap, in their order, and no other
 abbrev pub AreJobsOf : List Made → List Wrap → List WrapJob → Type 0
 AreJobsOf list [] [] = ⊤
 AreJobsOf list [] (job ∷ jobs) = ⊥

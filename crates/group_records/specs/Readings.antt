@@ -31,7 +31,7 @@ name_size at = do
   check (nat_le 1 size && nat_le size 32) Value at
   give size
 
--- the name of a member, which has 1 to 32 octets of its grammar, and that of a group, of any octets
+-- the name of a member, which has 1 to 32 octets of its grammar
 unfoldable pub member_name : Reading Name
 member_name = do
   at ← here
@@ -40,6 +40,7 @@ member_name = do
   check (is_name text) Value at
   give text
 
+-- the name of a group, which has 1 to 32 octets of any kind
 unfoldable pub group_name : Reading (List ℕ)
 group_name = do
   at ← here
@@ -108,12 +109,13 @@ batch_record = do
   end
   give (record { batch = batch; epoch = epoch; sequence = sequence; values = record { nodes = nodes; traffic = traffic } })
 
--- what a reading gives, or its fault, or no memory for it
+-- what reading the values of positions answers: the values, and where reading goes on; or the first fault; or that there was no memory for it
 abbrev pub NodesGive : Result (List Drawn) RecordFault → Cursor → Result (List Drawn × Cursor) WireFault → Type 0
 NodesGive (Ok drawn) now reading = reading ≡ Ok (drawn, now)
 NodesGive (Err (Malformed fault)) now reading = reading ≡ Err fault
 NodesGive (Err NoMemory) now reading = ⊤
 
+-- what reading a batch answers: the batch; or the first fault; or that there was no memory for it
 abbrev pub BatchAnswers : Result Stored RecordFault → Result (Stored × Cursor) WireFault → Type 0
 BatchAnswers (Ok stored) reading = value_of reading ≡ Ok stored
 BatchAnswers (Err (Malformed fault)) reading = reading ≡ Err fault

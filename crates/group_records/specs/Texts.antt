@@ -9,13 +9,15 @@ use Rattle.group_terms.specs.declared.values.Drawn.{Drawn}
 use Rattle.group_terms.specs.declared.values.TrafficValue.{TrafficValue}
 use Rattle.group_records.specs.declared.heads.Head.{Head}
 
--- the kinds, and the version
+-- the kind of the record of a head
 abbrev pub head_kind : ℕ
 head_kind = 0
 
+-- the kind of the record of a batch
 abbrev pub batch_kind : ℕ
 batch_kind = 1
 
+-- the version of the format of both kinds of records
 abbrev pub version : ℕ
 version = 1
 
@@ -32,6 +34,7 @@ abbrev pub change_text : Change → List ℕ
 change_text (Out member) = 0 ∷ named_text member
 change_text (In member) = 1 ∷ named_text member
 
+-- the changes of a batch, one after the other
 abbrev pub changes_text : List Change → List ℕ
 changes_text batch = flat_map change_text batch
 
@@ -39,6 +42,7 @@ changes_text batch = flat_map change_text batch
 abbrev pub node_text : Drawn → List ℕ
 node_text drawn = big_bytes 2 drawn.id ++ (drawn.value.iv ++ drawn.value.key)
 
+-- the values of positions, one after the other
 abbrev pub nodes_text : List Drawn → List ℕ
 nodes_text nodes = flat_map node_text nodes
 

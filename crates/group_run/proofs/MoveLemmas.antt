@@ -1,4 +1,5 @@
 -- What a request does to a group, from what it does to its server, or to its members.
+-- One lemma serves all requests that the server serves (`served`), one all that members do (`acts`), one questions (`asks`).
 use Rattle.std.proofs.Common.{◌≡◌, ◌∙◌, ℕ, Bool, false, List, ◌∷◌, Decides, None, refl, sym, ap, subst, arith}
 use Rattle.gd_disk.specs.declared.disks.Disk.{Ghosts as DiskGhosts}
 use Rattle.gd_edges.specs.declared.draws.Draws.{Ghosts as DrawGhosts}

@@ -1,4 +1,5 @@
 -- A group grows by what the steps of its run send and tell.
+-- What an answer adds has no state in it: what it sends, and whom it tells what. An induction over entries needs no more.
 use Rattle.std.proofs.Common.{◌≡◌, ◌∙◌, ◌⊎◌, ◌&&◌, ℕ, ◌≤◌, Bool, true, false, cond, List, [], ◌∷◌, ◌++◌, Option, None, Some, length}
 use Rattle.std.proofs.Common.{sym, refl, ap, subst, arith, inl, inr}
 use Rattle.std.specs.Prelude.{Contains, MatchBool}

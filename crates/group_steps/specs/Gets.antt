@@ -14,8 +14,8 @@ abbrev pub granted_by : Answer → Name → Members → Members
 granted_by Queued m members = with_member members m
 granted_by answer m members = members
 
--- By what was asked, the answer, and the host after it. A request for a batch, or to open the group again, loses the replies that were on their way before, even
--- where it is refused. With a batch that is made, a reply is on its way to each who came in, with its keys (RFC 6407 section 3.2).
+-- By what was asked, the answer, and the host after it. A request for a batch, or to open the group again, loses the replies that were on their way before,
+-- even where it is refused. With a batch that is made, a reply is on its way to each who came in, with its keys (RFC 6407 section 3.2).
 abbrev pub Get : {D : Type 0} → Asked → Answer → Host D → Members → Members → Type 0
 Get (Join m) answer host members next = next ≡ granted_by answer m members
 Get Batch answer host members next = (told : List Mail) × AreToldBy answer host told × (next ≡ with_mail members told)

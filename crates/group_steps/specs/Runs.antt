@@ -4,6 +4,7 @@ use Rattle.group_terms.specs.Names.{Name}
 use Rattle.server_steps.specs.Hosts.{Host, no_host}
 use Rattle.member_steps.specs.Members.{Members, nobody}
 
+-- what hosts the group, and its members
 pub record Run (D : Type 0) : Type 0 where
   pub host : Host D
   pub members : Members

@@ -1,4 +1,6 @@
 -- Marks after the mark of one leaf changed.
+-- `MarkedBut v`: the marks above v alone are still wrong. `Climbs v`: marks of lower numbers, and those not above v, are as they were. Where a mark does not
+-- change, those above it are as they were, and the way up may end there (`MarkedBut-settled`).
 use Rattle.std.proofs.Common.{◌≡◌, ℕ, zero, suc, ◌+◌, ◌-◌, ◌*◌, ◌/◌, ◌^◌, ◌<◌, ◌≤◌, Bool, true, false, cond, eqb, ltb, None, Some, ◌||◌, ◌&&◌, List, [], ◌∷◌, ◌++◌, length, take, drop, replicate, get_or, set, sym, refl, ap, subst, ◌∙◌, arith, inl, inr}
 use Rattle.std.specs.List.{count_by, list_any, position, position_or_len}
 use Rattle.std.proofs.Math.Bool.{beq}

@@ -14,18 +14,20 @@ member_of (In member) = member
 abbrev pub is_pending : List Change → Name → Bool
 is_pending queue m = list_any (λ change. same_name m (member_of change)) queue
 
--- whom a change takes out, and whom it lets in
+-- whom a change takes out, if anybody
 abbrev pub leaver : Change → Option Name
 leaver (Out m) = Some m
 leaver (In m) = None
 
+-- whom a change lets in, if anybody
 abbrev pub joiner : Change → Option Name
 joiner (Out m) = None
 joiner (In m) = Some m
 
--- the names of a batch's Outs and of its Ins, each in the order of the batch
+-- whom a batch takes out, in the order of the batch
 abbrev pub leavers : List Change → List Name
 leavers batch = filter_map leaver batch
 
+-- whom a batch lets in, in the order of the batch
 abbrev pub joiners : List Change → List Name
 joiners batch = filter_map joiner batch

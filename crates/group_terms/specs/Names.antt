@@ -21,6 +21,7 @@ is_name text = nat_le 1 (length text) && (nat_le (length text) 32 && list_all is
 abbrev pub name_of : List ℕ → Option Name
 name_of text = if is_name text then Some text else None
 
+-- whether two names are equal, octet by octet
 abbrev pub same_name : Name → Name → Bool
 same_name = bytes_eq
 

@@ -1,4 +1,5 @@
 -- Draws that go on.
+-- The blocks of the draws are a function of places, an argument of `nodes_drawn`, with pointwise equations in the loop's invariant.
 use Rattle.std.proofs.Common.{◌≡◌, ℕ, zero, suc, ◌+◌, ◌<◌, List, [], ◌∷◌, ◌++◌, length, drop, get_or, sym, ap, ◌∙◌, append_assoc, arith, add-one}
 use Rattle.std.proofs.Math.Seq.{drop-cons}
 use Rattle.group_terms.specs.declared.values.Drawn.{Drawn}

@@ -5,10 +5,11 @@ use Rattle.group_terms.specs.declared.values.Drawn.{Drawn}
 use Rattle.group_terms.specs.declared.values.NodeValue.{NodeValue}
 use Rattle.group_terms.specs.declared.values.TrafficValue.{TrafficValue}
 
--- the place after one, and after so many
+-- the place of the next block; after the greatest number of 64 bits comes 0
 abbrev pub next_place : ℕ → ℕ
 next_place place = (place + 1) % 2 ^ 64
 
+-- the place that comes so many blocks later
 abbrev pub place_after : ℕ → ℕ → ℕ
 place_after zero place = place
 place_after (suc n) place = place_after n (next_place place)

@@ -43,10 +43,11 @@ traffic_value list epoch = option_map (λ (made : Made). made.values.traffic) (m
 abbrev pub HasValue : List Made → PathKey → Type 0
 HasValue list key = node_value list key.id key.made ≡ Some key.value
 
--- all values that were drawn for positions, batch after batch, and the last one of a position
+-- all values that were drawn for positions, batch after batch
 abbrev pub all_drawn : List Made → List Drawn
 all_drawn list = flat_map (λ (made : Made). made.values.nodes) list
 
+-- the value that was drawn last for a position, if one was
 abbrev pub last_value : List Made → ℕ → Option NodeValue
 last_value list v = value_of (all_drawn list) v
 

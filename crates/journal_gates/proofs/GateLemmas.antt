@@ -1,4 +1,5 @@
 -- What a write behind a closed gate, and one on it, leave.
+-- After one write a crash leaves the old image with that write torn (`IsTorn`), after both one of two forms of file (`IsGated`).
 use Rattle.std.proofs.Common.{◌≡◌, ◌∙◌, ℕ, ◌+◌, ◌≤◌, min, List, [], ◌∷◌, ◌++◌, length, get_or, take, drop, refl, sym, ap, arith, append_assoc, length-append, length-take, take-append-drop, subst, inl, inr}
 use Rattle.std.proofs.lemmas.List.{take_at, drop_at, drop_more, take_all, drop-drop}
 use Rattle.gd_disk.specs.Disks.{Torn, Only, written}

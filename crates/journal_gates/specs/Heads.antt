@@ -8,6 +8,8 @@ use Rattle.journal_gates.specs.declared.heads.Head.TheVariants.{Shut, Open, Brok
 abbrev pub most_octets : ℕ
 most_octets = 65536
 
+-- What octets at a gate say: an open gate is 1, and is followed by the size of a body in 4 octets; any other gate is closed.
+-- Octets without a gate, or without a size within the limit after an open one, are broken.
 abbrev pub head_in : List ℕ → Head
 head_in [] = Broken
 head_in (gate ∷ rest) =

@@ -21,6 +21,7 @@ name_text name = if is_name name then name else codes "hex:" ++ encode_lower nam
 abbrev pub head_line : Head → List ℕ
 head_line head = line_with (codes "depth" ∷ decimal head.depth ∷ codes "limit" ∷ decimal head.limit ∷ codes "name" ∷ name_text head.name ∷ [])
 
+-- the line of a journal's group, or no line where the journal has no head
 abbrev pub head_lines : Option Head → List ℕ
 head_lines None = []
 head_lines (Some head) = head_line head
@@ -30,23 +31,26 @@ abbrev pub change_text : Change → List ℕ
 change_text (Out member) = codes " out " ++ member
 change_text (In member) = codes " in " ++ member
 
--- the epoch, the number of the last push after it, and how many positions of the tree have new keys; then the changes
+-- the numbers of a batch: its epoch, the number of the last push after it, and how many positions of the tree have new keys
 abbrev pub counts_text : ListedBatch → List ℕ
 counts_text batch =
     codes "epoch " ++ (decimal batch.epoch ++ (codes " sequence " ++ (decimal batch.sequence ++ (codes " keys " ++ decimal batch.keys))))
 
+-- the line of a batch: its numbers, and who went and who came
 abbrev pub batch_line : ListedBatch → List ℕ
 batch_line batch = counts_text batch ++ (flat_map change_text batch.changes ++ 10 ∷ [])
 
--- how the journal ends, and where
+-- a line of how the journal ends, with the place where it does
 abbrev pub place_line : List ℕ → ℕ → List ℕ
 place_line front at = front ++ (decimal at ++ 10 ∷ [])
 
+-- the line of how a journal ends: it is whole, or has a record that was begun and not closed, or is no journal
 abbrev pub end_line : JournalEnd → List ℕ
 end_line Whole = line_with (codes "whole" ∷ [])
 end_line (Begun at) = place_line (codes "a record begun and not closed at ") at
 end_line (NotAJournal at) = place_line (codes "not a journal at ") at
 
+-- the text of a whole listing: the line of the group, the lines of the batches in their order, and the line of the end
 abbrev pub listing_text : Listing → List ℕ
 listing_text listing = head_lines listing.head ++ (flat_map batch_line listing.batches ++ end_line listing.end)
 

@@ -1,5 +1,7 @@
 -- A reading takes octets from the front, and what it gives hangs on these alone: not on the place where they stand, nor on what comes
 -- after.
+-- `IsLocal`: what is given depends on the octets that are taken alone; places of faults are its parameter. A span that is read up to the end of its body, in
+-- place of its own, would not need what comes after it.
 use Rattle.std.proofs.Common.{◌≡◌, ℕ, ◌+◌, ◌≤◌, Bool, true, false, List, [], ◌++◌, length, take, drop, Result, Ok, Err, if◌then◌else◌, refl}
 use Rattle.std.proofs.Common.{sym, ap, ◌∙◌, subst, append_assoc, length-append, arith}
 use Rattle.std.specs.Prelude.{◌==◌, nat_le, slice_index_or}

@@ -40,16 +40,17 @@ signature_keys = do
 
 -- ---- the head of an array
 
--- Of each kind of array: how many octets come before its keys, after the header of its attribute; and the least and the most of them,
--- which are our choice. A download array has the keys of a path, and an update array one at least.
+-- How many octets come before the keys of an array of each kind, after the header of its attribute.
 abbrev pub head_size : ArrayKind → ℕ
 head_size Download = 4
 head_size Update = 12
 
+-- The fewest keys of an array of each kind, by our choice: a download array has a path, which is two keys at least, and an update array one key.
 abbrev pub least_keys : ArrayKind → ℕ
 least_keys Download = 2
 least_keys Update = 1
 
+-- The most keys of an array of each kind, by our choice: a path has at most 16, and an update array as many as 2 octets can count.
 abbrev pub most_keys : ArrayKind → ℕ
 most_keys Download = 16
 most_keys Update = 65535
@@ -87,6 +88,7 @@ update_array handle length_at = do
   keys ← given_keys count handle
   give (record { by = by.0; by_made = by.1; keys = sealed_under by.0 by.1 keys })
 
+-- an attribute of kind 2, in the long form, whose value is an update array (RFC 6407 section 5.6.3.2)
 unfoldable pub update_attribute : Option ℕ → Reading UpdateArray
 update_attribute handle = do
   long_type (2 ∷ [])
@@ -128,6 +130,7 @@ pub record PlacedUpdates : Type 0 where
   pub arrays : List UpdateArray
   pub span : UpdateSpan
 
+-- the arrays alone, without the places after them
 abbrev pub arrays_of : List PlacedArray → List UpdateArray
 arrays_of [] = []
 arrays_of (placed ∷ more) = placed.array ∷ arrays_of more
@@ -157,12 +160,13 @@ gives_root arrays = list_any (λ (array : UpdateArray). list_any is_root array.k
 
 -- ---- a download array
 
+-- a download array (RFC 6407 section 5.6.3.1), whose attribute's length is at this place: its head, and the keys of a path up to the root's
 unfoldable pub download_array : ℕ → Reading (List PathKey)
 download_array length_at = do
   count ← array_head Download length_at
   path_keys count None
 
--- just one
+-- just one download array among the attributes of a packet, before and after which those of kind 3 are passed over
 unfoldable pub download : Reading (List PathKey)
 download = do
   signature_keys

@@ -56,6 +56,7 @@ updates_alone packet = do
     arrays = lkh.1.1.arrays;
   })
 
+-- a body with one packet: that of a traffic key (1), or that of keys of the tree (3), which has update arrays
 unfoldable pub one_packet : Reading Kd
 one_packet = do
   packet ← section (1 ∷ 3 ∷ [])
@@ -88,6 +89,7 @@ two_packets = do
     arrays = [];
   })
 
+-- the body of a key download payload (RFC 6407 section 5.6): the number of packets, by our choice 1 or 2, a reserved field, and the packets
 unfoldable pub kd : Reading Kd
 kd = do
   at ← here

@@ -26,6 +26,7 @@ is_above (Some below) id = id == below / 2
 abbrev pub is_on_path : ℕ → Option ℕ → ℕ → Bool
 is_on_path more below id = not (id == 0) && (is_above below id && (not (more == 0) || id == 1))
 
+-- A key of a path, after which this number of keys comes, and whose ID is that of the parent of the one below, if there is one.
 unfoldable pub path_key : ℕ → Option ℕ → Reading PathKey
 path_key more below = do
   at ← here
@@ -53,6 +54,7 @@ abbrev pub has_handle : Option ℕ → ℕ → Bool
 has_handle None made = true
 has_handle (Some handle) made = made == handle
 
+-- a key that an update gives, whose data is still sealed, with a handle that is the one asked for, if any
 unfoldable pub given_key : Option ℕ → Reading UpdateKey
 given_key handle = do
   at ← here

@@ -6,6 +6,7 @@ use Rattle.kd_wire.specs.declared.updates.UpdateArray.{UpdateArray}
 use Rattle.kd_wire.specs.Arrays.{next_update}
 use Rattle.kd_wire.specs.Seals.{handle_after, read_or_none}
 
+-- the list that begins with what was found, or an empty one where nothing was
 abbrev pub found_or_none : {A B : Type 0} → Option A → (A → List B) → List B
 found_or_none None more = []
 found_or_none (Some found) more = more found

@@ -17,6 +17,7 @@ use Rattle.kd_wire.specs.Widths.{update_octets}
 abbrev pub packet_head : ℕ → List ℕ → ℕ → List ℕ
 packet_head kind spi size = kind ∷ 0 ∷ big_bytes 2 (5 + length spi + size) ++ length spi ∷ spi
 
+-- a key packet (RFC 6407 section 5.6): what comes before its attributes, and these
 abbrev pub packet_text : ℕ → List ℕ → List ℕ → List ℕ
 packet_text kind spi attributes = packet_head kind spi (length attributes) ++ attributes
 
@@ -24,10 +25,11 @@ packet_text kind spi attributes = packet_head kind spi (length attributes) ++ at
 abbrev pub body_text : ℕ → List ℕ → List ℕ
 body_text count packets = big_bytes 2 count ++ big_bytes 2 0 ++ packets
 
--- a key of LKH (section 5.6.3.1), and what comes before its data
+-- what comes before the data of a key of LKH (section 5.6.3.1): its ID, its type, a reserved octet, both dates, and its handle
 abbrev pub key_head : ℕ → ℕ → List ℕ
 key_head id made = big_bytes 2 id ++ 3 ∷ 0 ∷ big_bytes 4 0 ++ big_bytes 4 0 ++ big_bytes 4 made
 
+-- a key of LKH (section 5.6.3.1): what comes before its data, and the data, sealed or not
 abbrev pub key_text : ℕ → ℕ → List ℕ → List ℕ
 key_text id made octets = key_head id made ++ octets
 
@@ -39,10 +41,11 @@ data_of value = value.iv ++ value.key
 abbrev pub traffic_text : TrafficValue → List ℕ
 traffic_text traffic = packet_text 1 traffic.spi (long_text 1 traffic.cipher_key ++ long_text 2 traffic.integrity_key)
 
--- the download array of a path (section 5.6.3.1)
+-- the keys of a path, one after the other, as they stand in a download array (section 5.6.3.1)
 abbrev pub path_text : List PathKey → List ℕ
 path_text path = flat_map (λ (key : PathKey). key_text key.id key.made (data_of key.value)) path
 
+-- the attribute with the download array of a path (section 5.6.3.1): a version, the number of keys, a reserved octet, and the keys
 abbrev pub download_text : List PathKey → List ℕ
 download_text path = long_text 1 (1 ∷ big_bytes 2 (length path) ++ 0 ∷ path_text path)
 
@@ -53,6 +56,7 @@ update_text job sealed =
     long_text 2 (1 ∷ big_bytes 2 1 ++ 0 ∷ big_bytes 2 job.by.id ++ big_bytes 2 0 ++ big_bytes 4 job.by.made
     ++ key_text job.gives.id job.gives.made sealed)
 
+-- This text is the update array of a job: it has the data of the key that the job gives, sealed under the other key of the job, with that one's IV.
 pub record IsUpdate (job : WrapJob) (text : List ℕ) : Type 0 where
   pub sealed : List ℕ
   pub is_sealed : IsSealed job.by.value.key job.by.value.iv (data_of job.gives.value) sealed
@@ -66,18 +70,19 @@ AreUpdateTexts [] text = text ≡ []
 AreUpdateTexts (job ∷ jobs) text =
     (first : List ℕ) × (rest : List ℕ) × IsUpdate job first × AreUpdateTexts jobs rest × (text ≡ first ++ rest)
 
--- the body with a traffic key alone, that with update arrays alone, and that for a member that registers
+-- the body with a traffic key alone
 abbrev pub traffic_kd : TrafficValue → List ℕ
 traffic_kd traffic = body_text 1 (traffic_text traffic)
 
+-- the body with update arrays alone, in one packet with this SPI
 abbrev pub update_kd : List ℕ → List ℕ → List ℕ
 update_kd spi arrays = body_text 1 (packet_text 3 spi arrays)
 
+-- the body for a member that registers: a packet with the traffic key, and one with the download array of the member's path
 abbrev pub reply_kd : Keyed → List ℕ
 reply_kd keyed = body_text 2 (traffic_text keyed.traffic ++ packet_text 3 keyed.spi (download_text keyed.path))
 
--- Values that can be written: a key with a position that has a number of 2 octets, an epoch of 4, and as many octets as are due for its IV
--- and itself.
+-- A key that can be written: its position has a number of 2 octets, which is not 0, its epoch one of 4, and its IV and itself have as many octets as are due.
 pub record PathKeyFits (key : PathKey) : Type 0 where
   pub some : 0 < key.id
   pub id : key.id < 65536
@@ -87,6 +92,7 @@ pub record PathKeyFits (key : PathKey) : Type 0 where
   pub small_iv : AreOctets key.value.iv
   pub small_octets : AreOctets key.value.key
 
+-- A traffic key that can be written: the key of the cipher, that of the integrity, and the SPI have as many octets as are due.
 pub record TrafficFits (traffic : TrafficValue) : Type 0 where
   pub cipher_key : length traffic.cipher_key ≡ key_octets
   pub integrity_key : length traffic.integrity_key ≡ integrity_octets
@@ -107,6 +113,7 @@ pub record IsPath (path : List PathKey) : Type 0 where
   pub least : 2 ≤ length path
   pub most : length path ≤ 16
 
+-- what a member learns when it registers, where it can be written: a path that leads to the root, its keys, the SPI, and the traffic key
 pub record KeyedFits (keyed : Keyed) : Type 0 where
   pub path : IsPath keyed.path
   pub keys : All PathKeyFits keyed.path
@@ -114,6 +121,7 @@ pub record KeyedFits (keyed : Keyed) : Type 0 where
   pub small_spi : AreOctets keyed.spi
   pub traffic : TrafficFits keyed.traffic
 
+-- a job that can be written, since its two keys can be
 pub record JobFits (job : WrapJob) : Type 0 where
   pub by : PathKeyFits job.by
   pub gives : PathKeyFits job.gives
@@ -123,12 +131,14 @@ pub record Sealed : Type 0 where
   pub job : WrapJob
   pub octets : List ℕ
 
+-- a job that can be written with its sealed data: its two keys can be, and the sealed data has as many octets as are due
 pub record SealedFits (sealed : Sealed) : Type 0 where
   pub by : PathKeyFits sealed.job.by
   pub gives : PathKeyFits sealed.job.gives
   pub octets : length sealed.octets ≡ data_octets
   pub small_octets : AreOctets sealed.octets
 
+-- the text of jobs whose data is sealed: their update arrays, one after the other, in their order
 abbrev pub updates_text : List Sealed → List ℕ
 updates_text updates = flat_map (λ (update : Sealed). update_text update.job update.octets) updates
 
@@ -148,10 +158,11 @@ pub record AreJobsOfOnePush (jobs : List WrapJob) : Type 0 where
   pub made : All (λ (job : WrapJob). job.gives.made ≡ epoch) jobs
   pub root : list_any (λ (job : WrapJob). job.gives.id == 1) jobs ≡ true
 
--- jobs with the sealed data in their texts
+-- The sealed data of a job is that of the key that the job gives, sealed under the other key of the job, with that one's IV.
 abbrev pub IsSealedJob : Sealed → Type 0
 IsSealedJob update = IsSealed update.job.by.value.key update.job.by.value.iv (data_of update.job.gives.value) update.octets
 
+-- These are the jobs, in their order, each with its sealed data; they are of one push, and the text is that of their update arrays.
 pub record AreSealedJobs (jobs : List WrapJob) (text : List ℕ) (updates : List Sealed) : Type 0 where
   pub are_jobs : map (λ (update : Sealed). update.job) updates ≡ jobs
   pub are_sealed : All IsSealedJob updates

@@ -22,7 +22,7 @@ key_kind kinds = do
   check (size == key_size kind) (Kind kind) at
   give kind
 
--- after the head of the cipher's key, that key and the other one; and the other way round
+-- after the head of the cipher's key: that key, and then the key of the integrity with its head
 unfoldable pub cipher_key_first : Reading (List ℕ × List ℕ)
 cipher_key_first = do
   cipher_key ← octets key_octets
@@ -30,6 +30,7 @@ cipher_key_first = do
   integrity_key ← octets integrity_octets
   give (cipher_key, integrity_key)
 
+-- after the head of the integrity's key: that key, and then the key of the cipher with its head
 unfoldable pub integrity_key_first : Reading (List ℕ × List ℕ)
 integrity_key_first = do
   integrity_key ← octets integrity_octets

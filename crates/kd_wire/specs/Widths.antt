@@ -10,18 +10,20 @@ attribute_head_octets = 4
 abbrev pub lkh_key_octets : ℕ
 lkh_key_octets = 16 + data_octets
 
--- a download array of so many keys, after its version, their number and a reserved octet; and with the header of its attribute
+-- a download array of so many keys (RFC 6407 section 5.6.3.1): its version, their number, a reserved octet, and the keys
 abbrev pub download_array_octets : ℕ → ℕ
 download_array_octets count = 4 + lkh_key_octets * count
 
+-- a download array of so many keys, with the header of its attribute
 abbrev pub download_octets : ℕ → ℕ
 download_octets count = attribute_head_octets + download_array_octets count
 
--- An update array that gives one key has these too, and before the key the ID, a reserved number and the handle of the one that seals it
--- (section 5.6.3.2); and with the header of its attribute.
+-- An update array that gives one key has a version, a number of keys and a reserved octet too, and before the key the ID, a reserved number
+-- and the handle of the one that seals it (section 5.6.3.2).
 abbrev pub update_array_octets : ℕ
 update_array_octets = 12 + lkh_key_octets
 
+-- an update array that gives one key, with the header of its attribute
 abbrev pub update_octets : ℕ
 update_octets = attribute_head_octets + update_array_octets
 
@@ -33,13 +35,14 @@ packet_head_octets spi_octets = 5 + spi_octets
 abbrev pub traffic_octets : ℕ
 traffic_octets = packet_head_octets traffic_spi_octets + (attribute_head_octets + key_octets) + (attribute_head_octets + integrity_octets)
 
--- the three bodies, after the number of packets and a reserved number: with a traffic key alone, with so many update arrays of one key, and
--- for a member that registers, with so many keys of its path
+-- the body with a traffic key alone: the number of packets and a reserved number, and the packet of that key
 abbrev pub traffic_kd_octets : ℕ
 traffic_kd_octets = 4 + traffic_octets
 
+-- the body with so many update arrays of one key: the number of packets and a reserved number, and one packet with these arrays
 abbrev pub update_kd_octets : ℕ → ℕ
 update_kd_octets arrays = 4 + packet_head_octets rekey_spi_octets + update_octets * arrays
 
+-- the body for a member that registers: the number of packets, a reserved number, the packet of a traffic key, and one with so many keys of a path
 abbrev pub reply_kd_octets : ℕ → ℕ
 reply_kd_octets keys = 4 + traffic_octets + packet_head_octets rekey_spi_octets + download_octets keys

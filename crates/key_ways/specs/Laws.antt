@@ -28,6 +28,7 @@ pub record IsStepUp (depth : ℕ) (batches : List (List Change)) (epoch : ℕ) (
   pub by : wrap.by ≡ node_name depth batches (epoch + 1) child
   pub gives : wrap.gives ≡ Node (child / 2) (epoch + 1)
 
+-- Each encryption that a batch makes for a position goes one step up.
 abbrev pub EncryptionsGoUp : Type 0
 EncryptionsGoUp = (depth epoch : ℕ) (batches : List (List Change)) → All (IsStepUp depth batches epoch) (node_wraps depth batches (epoch + 1))
 

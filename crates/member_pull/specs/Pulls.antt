@@ -1,4 +1,6 @@
 -- What each step of a member's pull does (RFC 6407 section 3.2).
+-- A step is a definition by the step that was (`AtSecond`, `AtFourth`), with a record for each way on, and refusals for the rest; so the search proves the
+-- methods.
 use Rattle.std.specs.Prelude.{◌≡◌, ◌⊎◌, ℕ, List, [], Option, Some, None, Result, Ok, Err}
 use Rattle.group_terms.specs.declared.paths.Keyed.{Keyed}
 use Rattle.group_terms.specs.declared.phases.Phase1.{Phase1}
@@ -35,11 +37,12 @@ pub record IsRefused (A : Type 0) (old : Pull) (why : PullRefusal) (result : Res
   pub is : result ≡ Err why
   pub stays : new ≡ old
 
--- the SPI of the policy of a KEK
+-- the SPI of the policy of a KEK; no octets where there is no policy
 abbrev pub spi_of_kek : Option KekPolicy → List ℕ
 spi_of_kek (Some kek) = kek.spi
 spi_of_kek None = []
 
+-- the SPI of the Rekey SA, by the policies that the answer of a server has
 abbrev pub spi_of : SaPolicy → List ℕ
 spi_of policy = spi_of_kek policy.kek
 
@@ -50,6 +53,7 @@ pub record Agrees (old : Pull) (second : Second) (result : Result (List ℕ) Pul
   pub is_text : IsPullText old.phase second.next_iv (third_message old.message old.ni second.nr) third
   pub waits : new ≡ at_step old (steps.Fourth (next_iv third) second.nr (spi_of second.policy))
 
+-- after reading the server's answer the member agrees, unless memory runs out; a message with a fault is refused for it
 abbrev pub AfterSecond : Pull → Result Second PullFault → Result (List ℕ) PullRefusal → Pull → Type 0
 AfterSecond old (Ok second) result new = IsRefused (List ℕ) old refusals.NoMemory result new ⊎ Agrees old second result new
 AfterSecond old (Err fault) result new = IsRefused (List ℕ) old (refusal_of fault) result new
@@ -66,6 +70,7 @@ AtSecond (steps.Second iv) old datagram result new = TakesSecond old iv datagram
 AtSecond (steps.Fourth iv nr spi) old datagram result new = IsRefused (List ℕ) old refusals.WrongStep result new
 AtSecond steps.Ended old datagram result new = IsRefused (List ℕ) old refusals.WrongStep result new
 
+-- what a pull does with a datagram that is given to it as the server's answer, by the step at which the pull is
 abbrev pub IsSecond : Pull → List ℕ → Result (List ℕ) PullRefusal → Pull → Type 0
 IsSecond old datagram result new = AtSecond old.step old datagram result new
 
@@ -74,6 +79,7 @@ pub record Ends (old : Pull) (keyed : Keyed) (result : Result Keyed PullRefusal)
   pub gives : result ≡ Ok keyed
   pub ended : new ≡ at_step old steps.Ended
 
+-- after reading the server's keys the pull has ended; a message with a fault is refused for it
 abbrev pub AfterFourth : Pull → Result Keyed PullFault → Result Keyed PullRefusal → Pull → Type 0
 AfterFourth old (Ok keyed) result new = Ends old keyed result new
 AfterFourth old (Err fault) result new = IsRefused Keyed old (refusal_of fault) result new
@@ -90,5 +96,6 @@ AtFourth (steps.Fourth iv nr spi) old datagram result new = TakesFourth old iv n
 AtFourth (steps.Second iv) old datagram result new = IsRefused Keyed old refusals.WrongStep result new
 AtFourth steps.Ended old datagram result new = IsRefused Keyed old refusals.WrongStep result new
 
+-- what a pull does with a datagram that is given to it as the server's keys, by the step at which the pull is
 abbrev pub IsFourth : Pull → List ℕ → Result Keyed PullRefusal → Pull → Type 0
 IsFourth old datagram result new = AtFourth old.step old datagram result new

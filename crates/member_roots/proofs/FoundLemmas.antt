@@ -1,4 +1,5 @@
 -- The first item of a list that passes, and two lists item by item.
+-- What `find` gives of the second list belongs to an item of the first (`found_pair`), and each item of the first has one in the second (`has_pair`).
 use Rattle.std.proofs.Common.{◌≡◌, ◌∙◌, ap, inl, inr, arith, refl, subst, sym, ℕ, zero, suc, ◌<◌, Bool, true, false, List, [], ◌∷◌, ◌++◌, length, get_or, Option, None, Some, if◌then◌else◌}
 use Rattle.std.specs.Prelude.{Contains, is_some}
 use Rattle.std.specs.List.{All, AllZip, find}

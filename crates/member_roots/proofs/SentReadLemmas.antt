@@ -1,4 +1,5 @@
 -- A push that a group sent is read again under the root's key under which it was sent, with its given keys.
+-- What is read of a push that was sent, and what a store makes of it, meet in `GivesWraps` alone.
 use Rattle.std.proofs.Common.{◌≡◌, ◌∙◌, ap, arith, subst, sym, ℕ, ◌++◌, ◌+◌, ◌-◌, ◌*◌, ◌≤◌, List, length, map, take, Some}
 use Rattle.std.specs.Prelude.{codes}
 use Rattle.std.proofs.lemmas.List.{length-take-le}

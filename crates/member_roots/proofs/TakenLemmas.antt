@@ -1,4 +1,5 @@
 -- What a member takes of the membership push of the next epoch, given the keys of its path at this one.
+-- No lemma speaks of rounds: what is taken next has the property (`next_new`), none is left at the end (`none_left`), so each due key was taken (`way_taken`).
 use Rattle.std.proofs.Common.{◌≡◌, ◌∙◌, add-one, ap, arith, cond, inl, inr, refl, subst, sym, ℕ, zero, suc, ◌+◌, ◌/◌, ◌≤◌, true, false, not, ◌&&◌, List, [], ◌∷◌, ◌++◌, length, map, None, Some, eqb}
 use Rattle.std.specs.Prelude.{is_some}
 use Rattle.std.specs.List.{All, find}

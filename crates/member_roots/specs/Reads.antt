@@ -23,6 +23,7 @@ pub record IsSealedWrap (list : List Made) (wrap : Wrap) (given : SealedKey) : T
   pub gives : wrap.gives ≡ Node given.gives.id given.gives.made
   pub opens : (by key : PathKey) → by.id ≡ given.by → by.made ≡ given.by_made → HasValue list by → IsUnsealed by given key → HasValue list key
 
+-- given keys are those of these encryptions, one each, in their order
 abbrev pub AreSealedWraps : List Made → List Wrap → List SealedKey → Type 0
 AreSealedWraps list wraps given = AllZip (IsSealedWrap list) wraps given
 

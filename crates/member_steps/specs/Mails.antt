@@ -10,5 +10,6 @@ pub record IsMailTo (all : List Peer) (mail : Mail) : Type 0 where
   pub granted : is_peer all mail.0 ≡ true
   pub reply : IsReply mail.1
 
+-- each of these replies can be on its way to one of these peers
 abbrev pub AreMailTo : List Peer → List Mail → Type 0
 AreMailTo all mail = All (IsMailTo all) mail

@@ -15,6 +15,7 @@ pub record Members : Type 0 where
   pub all : List Peer
   pub mail : List Mail
 
+-- before the first join is granted there is no member, and no reply is on its way
 abbrev pub nobody : Members
 nobody = record { all = []; mail = [] }
 

@@ -71,6 +71,7 @@ module _ {V : Type 0} (v : VerifierGhosts V) (verifier : V) where
 
 -- ---- which traffic key a member has
 
+-- a member says which traffic key its store has, or nothing where it has no store; no member changes
 abbrev pub IsShowingKey : Name → Members → Answer → Members → Type 0
 IsShowingKey m members answer next = (answer ≡ key_of (store_of members.all m)) × (next ≡ members)
 

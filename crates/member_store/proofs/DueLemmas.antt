@@ -1,4 +1,5 @@
 -- What is taken of the keys for a path is what is taken of all.
+-- `find p (filter q xs) ≡ find p xs` where what q leaves out never passes p (`found_kept`), so no promise speaks of what is gathered.
 use Rattle.std.proofs.Common.{◌≡◌, ◌∙◌, ap, inl, inr, sym, true, false, Bool, List, [], ◌∷◌, ◌++◌, Option, Some, if◌then◌else◌, refl}
 use Rattle.std.specs.List.{filter, find}
 use Rattle.std.proofs.lemmas.Bool.{cases_Bool}

@@ -89,6 +89,7 @@ abbrev pub TakesBody : OpenBody → Store → PushRead → Result Taken PushRefu
 TakesBody (bodies.Membership made span) store read result next = TakesTree store read (span_arrays span read.keys) result next
 TakesBody (bodies.Traffic traffic) store read result next = TakesTraffic store read traffic result next
 
+-- after a datagram was opened the store takes what the push gives; one that is refused leaves the store as it was
 abbrev pub AfterOpening : Result PushRead PushRefusal → Store → Result Taken PushRefusal → Store → Type 0
 AfterOpening (Ok read) store result next = TakesBody read.body store read result next
 AfterOpening (Err why) store result next = IsRefused store why result next

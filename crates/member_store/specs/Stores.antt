@@ -22,17 +22,19 @@ pub record Store : Type 0 where
 abbrev pub no_key : PathKey
 no_key = record { id = 0; made = 0; value = record { iv = []; key = [] } }
 
--- its leaf, which has the first key, and the key of the root, which is the last one
+-- the position of a path's leaf, whose key is the first one
 abbrev pub leaf_of : List PathKey → ℕ
 leaf_of path = (slice_index_or path 0 no_key).id
 
+-- the key of the root, which is the last one of a path
 abbrev pub root_of : List PathKey → PathKey
 root_of path = slice_index_or path (length path - 1) no_key
 
--- whether a key is that of a position, and whether one of some keys is
+-- whether a key is that of this position
 abbrev pub is_at : ℕ → PathKey → Bool
 is_at id key = key.id == id
 
+-- whether one of these keys is that of this position
 abbrev pub has_position : List PathKey → ℕ → Bool
 has_position keys id = list_any (is_at id) keys
 
@@ -60,8 +62,8 @@ abbrev pub store_of : Keyed → Store
 store_of keyed =
     record { spi = keyed.spi; path = keyed.path; traffic = keyed.traffic; traffic_epoch = keyed.epoch; sequence = keyed.sequence }
 
--- A reply is older than what a store has where the last number that it tells is less than that of the store (RFC 6407 section 5.7); or, by our choice, where it is
--- equal and its epoch less than that of the store's root.
+-- A reply is older than what a store has where the last number that it tells is less than that of the store (RFC 6407 section 5.7); or, by our choice, where
+-- it is equal and its epoch less than that of the store's root.
 abbrev pub is_older : Store → Keyed → Bool
 is_older store keyed =
     nat_lt keyed.sequence store.sequence || (keyed.sequence == store.sequence && nat_lt keyed.epoch (root_epoch store))

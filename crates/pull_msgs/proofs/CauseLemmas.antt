@@ -1,4 +1,5 @@
 -- Each answer has its cause, since a datagram is opened in one way.
+-- Causes are proved once, for all readers, from the exact relation `IsAnswer` to `HasCauses`.
 use Rattle.std.proofs.Common.{◌≡◌, ◌∙◌, ℕ, List, drop, Bool, true, false, Result, Ok, Err, inl, inr, subst, ap, refl}
 use Rattle.std.proofs.lemmas.Slice.Eq.{bytes_eq-Decides}
 use Rattle.std.specs.Prelude.{if◌then◌else◌}

@@ -1,4 +1,5 @@
 -- The datagram of a message, put together piece by piece.
+-- What comes before the part that the HASH covers is a definition of its own (`before_covered`), which the draft's text (`draft_text`) has as its front.
 use Rattle.std.proofs.Common.{◌≡◌, ◌+◌, ◌-◌, ◌%◌, ◌≤◌, ◌∙◌, ◌++◌, [], ◌∷◌, ℕ, List, length, take, drop, replicate, sym, ap, subst, arith, length-append, append_assoc}
 use Rattle.std.proofs.lemmas.List.{take_at, drop_at, drop-drop, length-take-le, length-drop, length-replicate, append-nil}
 use Rattle.byteorder.specs.Endian.{big_bytes}

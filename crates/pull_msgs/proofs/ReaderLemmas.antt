@@ -1,4 +1,5 @@
 -- What each way in which a reader ends answers.
+-- What differs between the four readers is a record (`Awaited`), so a few lemmas serve the ends of all.
 use Rattle.std.proofs.Common.{◌≡◌, ◌∙◌, ℕ, List, drop, Bool, true, false, Result, Ok, Err, inl, inr, sym, subst, ap}
 use Rattle.std.specs.Prelude.{if◌then◌else◌}
 use Rattle.std.specs.Result.{IsErrAnd}

@@ -12,6 +12,7 @@ use Rattle.sa_wire.specs.declared.policies.SaPolicy.{SaPolicy}
 use Rattle.pull_msgs.specs.Readings.{root_made}
 use Rattle.pull_msgs.specs.Texts.{pull_exchange}
 
+-- a phase 1 SA under which messages can be written: its two cookies have 16 octets together, and so has its key
 pub record PhaseFits (phase : Phase1) : Type 0 where
   pub cookies : length phase.cookies ≡ 16
   pub cookie_octets : AreOctets phase.cookies
@@ -23,6 +24,7 @@ pub record MessageFits (message : List ℕ) : Type 0 where
   pub octets : AreOctets message
   pub suits : suits_exchange pull_exchange (big_from 0 4 message) ≡ true
 
+-- a nonce that can be written: 8 to 128 octets (RFC 6407 section 5.8)
 pub record NonceFits (nonce : List ℕ) : Type 0 where
   pub least : 8 ≤ length nonce
   pub most : length nonce ≤ 128

@@ -33,6 +33,7 @@ head phase known = do
   due_message known read.message
   give read
 
+-- the header of a datagram, read as that of a pull under this phase 1 SA; or its first fault
 abbrev pub head_of : Phase1 → Option (List ℕ) → List ℕ → Result Header WireFault
 head_of phase known datagram = value_of (head phase known (from_start 0 datagram))
 

@@ -39,6 +39,7 @@ covered text start named = do
   ends named
   give (take (end - start) (drop start text))
 
+-- the payload of a nonce (RFC 2408 section 3.13): the nonce, and what the payload names as the next one
 unfoldable pub nonce_payload : List ℕ → Named → Reading (List ℕ × Named)
 nonce_payload text named = do
   part ← payload nonce_kind named
@@ -51,6 +52,7 @@ pub record FirstSaid : Type 0 where
   pub id_type : ℕ
   pub id : List ℕ
 
+-- the member's first message, whose header has named this kind: the HASH, its nonce, and an identification (RFC 6407 section 3.2)
 unfoldable pub first : List ℕ → ℕ → Reading (PullRead FirstSaid)
 first text kind = do
   hash ← hash_payload text kind
@@ -65,6 +67,7 @@ abbrev pub both_policies : ℕ → Option PlacedKek → Option PlacedTek → Rea
 both_policies base (Some kek) (Some tek) = give (record { kek = Some kek.policy; tek = Some tek.policy })
 both_policies base kek tek = fail (Kind sa_kind) base
 
+-- the policies of the KEK and of the TEK, read of the body of an SA payload (RFC 6407 section 5.2), whose first octet is at this place
 unfoldable pub policies : ℕ → List ℕ → Reading SaPolicy
 policies base body = do
   placed ← told (placed_sa base body)
@@ -75,6 +78,7 @@ pub record SecondSaid : Type 0 where
   pub nr : List ℕ
   pub policy : SaPolicy
 
+-- the server's answer, whose header has named this kind: the HASH, its nonce, and the SA payload with both policies (RFC 6407 section 3.2)
 unfoldable pub second : List ℕ → ℕ → Reading (PullRead SecondSaid)
 second text kind = do
   hash ← hash_payload text kind
@@ -89,6 +93,7 @@ unfoldable pub maybe_gap : Named → Reading Named
 maybe_gap named =
     if named.kind == gap_kind then (payload gap_kind named >>= (λ part. give part.1)) else give named
 
+-- the member's agreement, whose header has named this kind: the HASH, and perhaps a GAP (RFC 6407 section 3.2)
 unfoldable pub third : List ℕ → ℕ → Reading (PullRead (Unit {0}))
 third text kind = do
   hash ← hash_payload text kind
@@ -108,11 +113,12 @@ abbrev pub reply_of : ℕ → Option TrafficValue → Option (List ℕ) → Opti
 reply_of base (Some traffic) (Some spi) (Some at) = give (traffic, spi, at)
 reply_of base traffic spi at = fail (Kind kd_kind) base
 
--- the epoch in which the last key of a path was made, which is the root's; a path that was read has two keys at least
+-- the epoch in which a key was made; 0 stands for none, though a path that was read has two keys at least
 abbrev pub epoch_of_key : Option PathKey → ℕ
 epoch_of_key (Some key) = key.made
 epoch_of_key None = 0
 
+-- the epoch in which the root's key was made, which is the last one of a path
 abbrev pub root_made : List PathKey → ℕ
 root_made path = epoch_of_key (slice_get path (length path - 1))
 

@@ -13,32 +13,39 @@ use Rattle.sa_wire.specs.Texts.{sa_text}
 use Rattle.sa_wire.specs.declared.policies.SaPolicy.{SaPolicy}
 use Rattle.pull_msgs.specs.Hashes.{hash_of}
 
--- the kinds of its payloads (RFC 2408 section 3.1, RFC 6407 section 5), its exchange (RFC 6407 section 3), and the type of an
--- identification that is the octets of a key id (RFC 2407 section 4.6.2.1)
+-- the kind of the payload of a HASH (RFC 2408 section 3.1)
 abbrev pub hash_kind : ℕ
 hash_kind = 8
 
+-- the kind of the payload of a nonce (RFC 2408 section 3.1)
 abbrev pub nonce_kind : ℕ
 nonce_kind = 10
 
+-- the kind of the payload of an identification (RFC 2408 section 3.1)
 abbrev pub identification_kind : ℕ
 identification_kind = 5
 
+-- the kind of the SA payload, which has the policies (RFC 2408 section 3.1)
 abbrev pub sa_kind : ℕ
 sa_kind = 1
 
+-- the kind of the payload of a group associated policy, GAP (RFC 6407 section 5)
 abbrev pub gap_kind : ℕ
 gap_kind = 22
 
+-- the kind of the payload of a sequence number, SEQ (RFC 6407 section 5)
 abbrev pub sequence_kind : ℕ
 sequence_kind = 18
 
+-- the kind of the key download payload, KD (RFC 6407 section 5)
 abbrev pub kd_kind : ℕ
 kd_kind = 17
 
+-- the exchange GROUPKEY-PULL (RFC 6407 section 3)
 abbrev pub pull_exchange : ℕ
 pull_exchange = 32
 
+-- the type of an identification that is the octets of a key id (RFC 2407 section 4.6.2.1)
 abbrev pub key_id_type : ℕ
 key_id_type = 11
 
@@ -49,6 +56,7 @@ pub record Message : Type 0 where
   pub nonces : List ℕ
   pub payloads : List Payload
 
+-- a payload of this kind, with this body
 abbrev pub payload_of : ℕ → List ℕ → Payload
 payload_of kind body = record { kind = kind; body = body }
 
@@ -80,6 +88,7 @@ fourth_message message ni nr keyed = record {
   payloads = payload_of sequence_kind (sequence_text keyed.sequence) ∷ payload_of kd_kind (reply_kd keyed) ∷ [];
 }
 
+-- the HASH of a message, which covers its other payloads (RFC 6407 section 3.2)
 abbrev pub message_hash : Phase1 → Message → List ℕ
 message_hash phase said = hash_of phase said.message said.nonces (payloads_text said.payloads)
 
@@ -87,6 +96,7 @@ message_hash phase said = hash_of phase said.message said.nonces (payloads_text 
 abbrev pub plain_text : Phase1 → Message → List ℕ
 plain_text phase said = padded (payloads_text (payload_of hash_kind (message_hash phase said) ∷ said.payloads))
 
+-- the octets of the header of a message, which names the HASH as its first payload; its length is that of the whole datagram
 abbrev pub head_text : Phase1 → Message → List ℕ
 head_text phase said = header_text (record {
   cookies = phase.cookies;
@@ -102,9 +112,10 @@ pub record IsPullText (phase : Phase1) (iv : List ℕ) (said : Message) (datagra
   pub is_sealed : IsSealed phase.key iv (plain_text phase said) sealed
   pub is_text : datagram ≡ head_text phase said ++ sealed
 
--- The IV of the first message; and of each later one, which is the last block of the one before (RFC 2409 appendix B).
+-- the IV of the first message, made from the last cipher block of phase 1 and the message id (RFC 2409 appendix B)
 abbrev pub first_iv : Phase1 → List ℕ → List ℕ
 first_iv phase message = phase2_iv phase.last message
 
+-- the IV of each later message: the last block of the datagram before it (RFC 2409 appendix B)
 abbrev pub next_iv : List ℕ → List ℕ
 next_iv datagram = drop (length datagram - 16) datagram

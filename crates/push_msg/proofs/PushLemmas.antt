@@ -1,4 +1,6 @@
 -- The payloads of a push that was written are read.
+-- The list of payloads is read by one `rw`, an equation for each line, with `unfolding` of the block alone; what framing promises comes as `Laws`. The text is
+-- written with its brackets to the right.
 use Rattle.std.proofs.Common.{◌≡◌, ◌≤◌, ◌<◌, ◌+◌, ◌∙◌, ℕ, List, [], ◌∷◌, ◌++◌, length, take, drop, replicate, Result, Ok, Err, refl, ap, sym, arith}
 use Rattle.std.proofs.lemmas.List.{drop_at, drop-drop}
 use Rattle.gd_wire.specs.declared.chains.Named.{Named}

@@ -3,5 +3,6 @@
 use Rattle.std.specs.Prelude.{ℕ, List, ◌++◌, codes}
 use Rattle.sha2.specs.Sha256.{sha256}
 
+-- the digest that is signed: of the header of a push, and of the payloads before that of the signature, which are not encrypted yet (RFC 6407 section 4)
 abbrev pub digest : List ℕ → List ℕ → List ℕ
 digest header payloads = sha256 (codes "rekey" ++ (header ++ payloads))

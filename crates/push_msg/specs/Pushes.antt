@@ -26,13 +26,14 @@ pub record Opens (datagram spi : List ℕ) (kek : NodeValue) (head : Header) (te
 abbrev pub payloads_of : List ℕ → SignKind → ℕ → List ℕ → Result PushRead WireFault
 payloads_of spi kind first text = value_of (push spi kind text first (from_start 28 text))
 
--- a push is read of a datagram; or its payloads have a first fault
+-- A datagram is opened under this KEK, for this SPI, and this push is read of its payloads, where the verifier checks signatures of this kind.
 pub record Reads (datagram spi : List ℕ) (kek : NodeValue) (kind : SignKind) (read : PushRead) : Type 0 where
   pub head : Header
   pub text : List ℕ
   pub opens : Opens datagram spi kek head text
   pub is : payloads_of spi kind head.next text ≡ Ok read
 
+-- A datagram is opened under this KEK, for this SPI, and its payloads have this first fault, where the verifier checks signatures of this kind.
 pub record HasFault (datagram spi : List ℕ) (kek : NodeValue) (kind : SignKind) (fault : WireFault) : Type 0 where
   pub head : Header
   pub text : List ℕ

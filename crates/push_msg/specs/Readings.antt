@@ -54,6 +54,7 @@ row_of spi sign base None (Some tek) = give (rows.Traffic tek.policy.spi)
 row_of spi sign base None None = fail (Kind sa_kind) base
 row_of spi sign base (Some kek) (Some tek) = fail (Kind sa_kind) base
 
+-- which of the two pushes it is, read of the body of the SA payload, whose first octet is at this place
 unfoldable pub row : List ℕ → SignKind → ℕ → List ℕ → Reading Row
 row spi sign base body = do
   sa ← told (placed_sa base body)
@@ -61,11 +62,12 @@ row spi sign base body = do
 
 -- ---- the KD payload
 
--- the epoch in which the keys of some arrays were made, by the first of them
+-- the epoch in which the keys of an update array were made, by the first key; 0 where there is none
 abbrev pub epoch_of_keys : List SealedKey → ℕ
 epoch_of_keys [] = 0
 epoch_of_keys (key ∷ keys) = key.gives.made
 
+-- the epoch in which the keys of all these update arrays were made, by the first array; 0 where there is none
 abbrev pub epoch_of : List UpdateArray → ℕ
 epoch_of [] = 0
 epoch_of (array ∷ arrays) = epoch_of_keys array.keys
@@ -88,10 +90,12 @@ traffic_body spi base view = do
   check (bytes_eq traffic.spi spi) Value at
   give (Traffic traffic)
 
+-- what the key packets give to the push that the SA payload says it is; other packets are a fault
 abbrev pub body_for : Row → ℕ → List ℕ → KdView → Reading OpenBody
 body_for (rows.Membership spi) base body view = membership_body spi base body view
 body_for (rows.Traffic spi) base body view = traffic_body spi base view
 
+-- what a push gives, read of the body of the KD payload (RFC 6407 section 5.6), whose first octet is at this place
 unfoldable pub key_download : Row → ℕ → List ℕ → Reading OpenBody
 key_download row base body = do
   view ← told (kd_view base body)
@@ -107,13 +111,16 @@ pub record PushRead : Type 0 where
   pub signed : List ℕ
   pub signature : List ℕ
 
--- the bodies of SEQ and SIG in a text
+-- the sequence number that the body of SEQ in a text has (RFC 6407 section 5.7)
 abbrev pub number_in : List ℕ → Part → Result ℕ WireFault
 number_in text part = value_of (bodies.sequence (length_place part) (body_cursor text part))
 
+-- the signature that the body of SIG in a text has (RFC 2408 section 3.12)
 abbrev pub signature_in : List ℕ → Part → Result (List ℕ) WireFault
 signature_in text part = value_of (bodies.signature (length_place part) (body_cursor text part))
 
+-- A push for this SPI is read of a text, whose header names the kind of the first payload: SEQ, SA, KD and SIG in this order, and no other after
+-- them (RFC 6407 section 4).
 unfoldable pub push : List ℕ → SignKind → List ℕ → ℕ → Reading PushRead
 push spi sign text first = do
   sequence ← payload sequence_kind (named_first first)

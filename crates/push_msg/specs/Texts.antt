@@ -17,19 +17,23 @@ use Rattle.sa_wire.specs.declared.policies.SaPolicy.{SaPolicy}
 use Rattle.push_msg.specs.declared.writers.PushHead.{PushHead}
 use Rattle.push_msg.specs.Digests.{digest}
 
--- the kinds of its payloads (RFC 2408 section 3.1, RFC 6407 section 5), and its exchange
+-- the kind of the payload of a sequence number, SEQ (RFC 6407 section 5)
 abbrev pub sequence_kind : ℕ
 sequence_kind = 18
 
+-- the kind of the SA payload, which has the policies (RFC 2408 section 3.1)
 abbrev pub sa_kind : ℕ
 sa_kind = 1
 
+-- the kind of the key download payload, KD (RFC 6407 section 5)
 abbrev pub kd_kind : ℕ
 kd_kind = 17
 
+-- the kind of the payload of the signature, SIG (RFC 2408 section 3.1)
 abbrev pub signature_kind : ℕ
 signature_kind = 9
 
+-- the exchange GROUPKEY-PUSH (RFC 6407 section 4)
 abbrev pub push_exchange : ℕ
 push_exchange = 33
 
@@ -73,6 +77,7 @@ abbrev pub push_header : Push → ℕ → Header
 push_header push size =
     record { cookies = push.spi; next = sequence_kind; exchange = push_exchange; message = 0 ∷ 0 ∷ 0 ∷ 0 ∷ []; length = 28 + size }
 
+-- the octets of the header of a push with this signature; its length is that of the whole datagram
 abbrev pub head_text : Push → List ℕ → List ℕ
 head_text push signature = header_text (push_header push (length (plain_text push signature)))
 

@@ -10,12 +10,13 @@ use Rattle.push_msg.specs.Pushes.{Reads, digest_of}
 use Rattle.push_msg.specs.Readings.{PushRead}
 use Rattle.push_msg.specs.Texts.{Push}
 
--- a head and a KEK that can be written
+-- a head that can be written: a SPI of 16 octets, and a sequence number of 32 bits
 pub record HeadFits (head : PushHead) : Type 0 where
   pub spi : length head.spi ≡ rekey_spi_octets
   pub octets : AreOctets head.spi
   pub sequence : head.sequence < 4294967296
 
+-- a KEK that can be written: its IV and its key have 16 octets each
 pub record KekFits (kek : NodeValue) : Type 0 where
   pub iv : AreBytes 16 kek.iv
   pub key : AreBytes 16 kek.key

@@ -21,7 +21,7 @@ pub record AppendsPart (was now : Option (List ℕ)) (text : List ℕ) : Type 0 
   pub some : 0 < length missing
   pub appended : Appends was now part
 
--- the status of an ending, and the number of the line at which it came, 0 where that is none
+-- the status of an ending
 abbrev pub status_of : Ending → ℕ
 status_of Whole = 0
 status_of NoGroup = 1
@@ -31,6 +31,7 @@ status_of Sink = 4
 status_of Memory = 5
 status_of NotOpened = 6
 
+-- the number of the faulty line at which a run ended, and 0 where it ended for another reason
 abbrev pub line_at : Ending → ℕ
 line_at Whole = 0
 line_at NoGroup = 0

@@ -1,4 +1,5 @@
 -- Attributes of which some were found: reading goes on after one more, and a fault of the next one is the fault of all.
+-- What was found before is an argument of `attributes_after`: one lemma for the next item, one for a fault, one for the end.
 use Rattle.std.proofs.Common.{◌≡◌, ℕ, suc, zero, List, [], ◌∷◌, ◌++◌, Result, Ok, Err, refl, sym, ap, ◌∙◌}
 use Rattle.std.specs.Result.{IsErrAnd}
 use Rattle.group_terms.specs.declared.wires.WireFault.{WireFault}

@@ -1,4 +1,5 @@
 -- The text of policies is octets, where their SPIs are.
+-- `IsText` is a record, not an abbrev, so that the search for arguments finds both texts of an append.
 use Rattle.std.proofs.Common.{ℕ, ◌<◌, List, [], ◌∷◌, ◌++◌, length, Option, None, Some, arith}
 use Rattle.std.proofs.lemmas.List.Elements.{All-nil, All-cons, All-append}
 use Rattle.byteorder.specs.Endian.{big_bytes}

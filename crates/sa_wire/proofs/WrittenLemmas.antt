@@ -1,5 +1,6 @@
 -- Policies that are written are read again: their text is written out octet by octet, and each test of it computes but for the two numbers
 -- of the signature.
+-- `rw` wants the whole test (`takes (any 6) (..) ≡ true`): `leb n 65535` alone leaves `leb 0 n`, which does not compute.
 use Rattle.std.proofs.Common.{◌≡◌, ℕ, ◌<◌, true, [], ◌++◌, map, Option, None, Some, Ok, refl, subst, inl, inr, arith, List, length, sym}
 use Rattle.std.specs.List.{range_with_len}
 use Rattle.std.proofs.lemmas.List.FromFn.{fill_by_all}

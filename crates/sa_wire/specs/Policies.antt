@@ -91,6 +91,7 @@ with_kek = do
   other ← rest_after_kek payload.0
   give (record { kek = Some policy; tek = other })
 
+-- the payload for the TEK, where it is the first one and there is none for the KEK
 unfoldable pub with_tek_alone : Reading PlacedSa
 with_tek_alone = do
   policy ← last_tek
@@ -105,26 +106,30 @@ head = do
   due_number 0 Reserved
   give first
 
+-- the whole body (RFC 6407 section 5.2): what comes before the first payload, and then the payloads, the first of the kind that was named
 unfoldable pub policies : Reading PlacedSa
 policies = do
   first ← head
   if first == sat then with_tek_alone else with_kek
 
--- the policies without their places
+-- the policy of the KEK without its places in the datagram, where there is one
 abbrev pub option_kek : Option PlacedKek → Option KekPolicy
 option_kek None = None
 option_kek (Some kek) = Some kek.policy
 
+-- the policy of the TEK without its place in the datagram, where there is one
 abbrev pub option_tek : Option PlacedTek → Option TekPolicy
 option_tek None = None
 option_tek (Some tek) = Some tek.policy
 
+-- the policies of an SA without their places in the datagram
 abbrev pub policy_of : PlacedSa → SaPolicy
 policy_of sa = record { kek = option_kek sa.kek; tek = option_tek sa.tek }
 
--- what is read of a body whose first octet has this place in its datagram: the policies with their places, and without
+-- the policies with their places, as read of a body whose first octet has this place in its datagram, or the first fault
 abbrev pub placed_sa : ℕ → List ℕ → Result PlacedSa WireFault
 placed_sa base body = value_of (policies (from_start base body))
 
+-- the policies without their places, as read of a body whose first octet has this place in its datagram, or the first fault
 abbrev pub sa : ℕ → List ℕ → Result SaPolicy WireFault
 sa base body = value_of (mapped policy_of (policies (from_start base body)))

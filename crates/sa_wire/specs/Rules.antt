@@ -54,13 +54,15 @@ tek_rules =
 abbrev pub place_among : ℕ → List Rule → ℕ
 place_among kind rules = position_or_len (λ (rule : Rule). rule.kind == kind) rules
 
+-- whether one of these rules is for this kind
 abbrev pub has_rule : ℕ → List Rule → Bool
 has_rule kind rules = nat_lt (place_among kind rules) (length rules)
 
--- the rule for a kind that has one, and the other rules
+-- the rule for a kind that has one
 abbrev pub rule_for : ℕ → List Rule → Rule
 rule_for kind rules = slice_index_or rules (place_among kind rules) (any kind)
 
+-- the rules that are left when the one for this kind was met
 abbrev pub without : ℕ → List Rule → List Rule
 without kind rules = remove rules (place_among kind rules)
 

@@ -52,15 +52,17 @@ transform_attributes = short_text authentication_algorithm hmac_sha_256 ++ short
 abbrev pub tek_text : TekPolicy → List ℕ
 tek_text tek = esp ∷ udp ∷ ids_text 0 ++ esp_aes ∷ tek.spi ++ mode_attributes ++ transform_attributes
 
--- the payloads of the policies that are there
+-- the payload for the KEK, where its policy is there
 abbrev pub kek_payloads : Option KekPolicy → List Payload
 kek_payloads None = []
 kek_payloads (Some kek) = record { kind = sak; body = kek_text kek } ∷ []
 
+-- the payload for the TEK, where its policy is there
 abbrev pub tek_payloads : Option TekPolicy → List Payload
 tek_payloads None = []
 tek_payloads (Some tek) = record { kind = sat; body = tek_text tek } ∷ []
 
+-- the payloads of the policies that are there, by our choice that for the KEK first
 abbrev pub sa_payloads : SaPolicy → List Payload
 sa_payloads policy = kek_payloads policy.kek ++ tek_payloads policy.tek
 
@@ -68,33 +70,37 @@ sa_payloads policy = kek_payloads policy.kek ++ tek_payloads policy.tek
 abbrev pub head_text : ℕ → List ℕ
 head_text first = big_bytes 4 gdoi ++ big_bytes 4 0 ++ big_bytes 2 first ++ big_bytes 2 0
 
+-- the body of an SA payload (RFC 6407 section 5.2): what comes before the first payload, and the payloads of the policies that are there
 abbrev pub sa_text : SaPolicy → List ℕ
 sa_text policy = head_text (first_kind (sa_payloads policy)) ++ payloads_text (sa_payloads policy)
 
--- how many octets that are: 12 before the payloads, and what each payload has with its header
+-- how many octets the payload for the KEK has with its header, and 0 where there is none
 abbrev pub kek_size : Option KekPolicy → ℕ
 kek_size None = 0
 kek_size (Some kek) = 57 + rekey_spi_octets
 
+-- how many octets the payload for the TEK has with its header, and 0 where there is none
 abbrev pub tek_size : Option TekPolicy → ℕ
 tek_size None = 0
 tek_size (Some tek) = 47 + traffic_spi_octets
 
+-- how many octets the body of an SA payload has: 12 before the payloads, and what each of them has
 abbrev pub sa_size : SaPolicy → ℕ
 sa_size policy = 12 + kek_size policy.kek + tek_size policy.tek
 
--- policies that can be written: a SPI of its due length, and numbers of 2 octets for the signature
+-- a policy of the KEK that can be written: a SPI of its due length, and numbers of 2 octets for the signature
 pub record KekPolicyFits (kek : KekPolicy) : Type 0 where
   pub spi : length kek.spi ≡ rekey_spi_octets
   pub octets : AreOctets kek.spi
   pub algorithm : kek.sign.algorithm < 65536
   pub key_bits : kek.sign.key_bits < 65536
 
+-- a policy of the TEK that can be written: a SPI of its due length
 pub record TekPolicyFits (tek : TekPolicy) : Type 0 where
   pub spi : length tek.spi ≡ traffic_spi_octets
   pub octets : AreOctets tek.spi
 
--- and of the two one at least is there
+-- policies that can be written: of KEK and TEK one at least is there, and each that is there can be written
 pub record PolicyFits (policy : SaPolicy) : Type 0 where
   pub kek : IfSome policy.kek KekPolicyFits
   pub tek : IfSome policy.tek TekPolicyFits

@@ -106,6 +106,7 @@ create_text depth answer = []
 abbrev pub found_line : GroupSeen → List ℕ
 found_line group = line_with (codes "open" ∷ codes "depth" ∷ decimal group.depth ∷ seen_counts group)
 
+-- what was found when the group was opened again
 abbrev pub found_again_line : GroupSeen → List ℕ
 found_again_line group = line_with (codes "reopened" ∷ seen_counts group)
 
@@ -138,6 +139,7 @@ batch_text (Batched output) = epoch_line output ++ (flat_map wrap_line output.wr
 batch_text (Refused why) = refusal_line (codes "batch") why
 batch_text answer = []
 
+-- the group has to be opened again from now on
 abbrev pub halt_text : Answer → List ℕ
 halt_text Done = line_with (codes "halted" ∷ [])
 halt_text answer = []
@@ -164,6 +166,7 @@ keep_text m answer = []
 abbrev pub delivery_line : Name → ℕ → List (List ℕ) → List ℕ
 delivery_line m sequence words = m ++ (codes " push " ++ (decimal sequence ++ 32 ∷ line_with words))
 
+-- the member took the key of the root or of the traffic, or refused the push; or it had no store, or there was no such push
 abbrev pub deliver_text : Name → ℕ → Answer → List ℕ
 deliver_text m sequence (TookRoot epoch) = delivery_line m sequence (codes "taken" ∷ codes "root" ∷ decimal epoch ∷ [])
 deliver_text m sequence (TookTraffic epoch) = delivery_line m sequence (codes "taken" ∷ codes "traffic" ∷ decimal epoch ∷ [])
@@ -171,6 +174,7 @@ deliver_text m sequence (PushRefused why) = delivery_line m sequence (codes "ref
 deliver_text m sequence Nothing = delivery_line m sequence (codes "nothing" ∷ [])
 deliver_text m sequence answer = []
 
+-- why no push is given to any member; where pushes are given, each has a line of its own
 abbrev pub deliver_all_text : Answer → List ℕ
 deliver_all_text (Refused why) = refusal_line (codes "deliver-all") why
 deliver_all_text answer = []
@@ -181,6 +185,7 @@ fingerprint_text m (KeyIs epoch sequence print) = line_with (m ∷ codes "key" �
 fingerprint_text m Nothing = line_with (m ∷ codes "nothing" ∷ [])
 fingerprint_text m answer = []
 
+-- whether a traffic key is derived, in one word
 abbrev pub derived_word : Bool → List ℕ
 derived_word derived = if derived then codes "yes" else codes "none"
 

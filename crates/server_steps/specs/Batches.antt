@@ -24,10 +24,11 @@ use Rattle.server_steps.specs.Outsides.{Says, failing, quiet}
 use Rattle.server_steps.specs.Replies.{AreTold, came_in}
 
 module _ {D G : Type 0} (d : DiskGhosts D) (g : SignerGhosts G) (signer : G) (block : ℕ → List ℕ) (host : Host D) where
-  -- what waits, with the values of the next blocks; and the batches with that one
+  -- what waits as a batch, with the values of the next blocks
   abbrev pub made_next : Made
   made_next = coming_batch host.server (coming_values host.server block)
 
+  -- the batches of the server, and that one after them
   abbrev pub list_next : List Made
   list_next = host.server.list ++ made_next ∷ []
 
@@ -80,6 +81,7 @@ module _ {D G : Type 0} (d : DiskGhosts D) (g : SignerGhosts G) (signer : G) (bl
     pub few : n ≤ blocks_to_draw host.server
     pub now : next ≡ with_server host (after_draws host.server n)
 
+  -- what waits is stored as a batch, or is in doubt since the disk failed, or is refused, or memory runs out
   abbrev pub IsBatching : Answer → Outside → Host D → Type 0
   IsBatching answer outside next =
       IsStored answer outside next ⊎ (IsInDoubt answer outside next ⊎ (IsRefusedBatch answer outside next ⊎ RunsOut answer outside next))

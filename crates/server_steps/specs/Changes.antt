@@ -27,11 +27,13 @@ module _ {D : Type 0} where
   after_leave host m Done = with_server host (with_change host.server (Out m))
   after_leave host m answer = host
 
+  -- a join is answered, and where it is granted, the name waits to come in
   pub record IsJoining (m : Name) (host : Host D) (answer : Answer) (outside : Outside) (next : Host D) : Type 0 where
     pub answers : answer ≡ answer_to_join host.server.need host.server.depth (members_now host.server) host.server.queue m
     pub beside : outside ≡ quiet host
     pub now : next ≡ after_join host m answer
 
+  -- a leave is answered, and where it is granted, the member waits to go out
   pub record IsLeaving (m : Name) (host : Host D) (answer : Answer) (outside : Outside) (next : Host D) : Type 0 where
     pub answers : answer ≡ answer_to_leave host.server.need host.server.depth (members_now host.server) host.server.queue m
     pub beside : outside ≡ quiet host
@@ -43,6 +45,7 @@ module _ {D : Type 0} where
     pub beside : outside ≡ quiet host
     pub now : next ≡ with_server host (halted host.server)
 
+  -- the group is shown, unless it has to be opened again, and nothing changes
   abbrev pub IsShowing : Host D → Answer → Outside → Host D → Type 0
   IsShowing host answer outside next = Says (shown_group host.server) host answer outside next
 

@@ -11,10 +11,11 @@ use Rattle.group_model.specs.declared.entries.Output.{Output}
 use Rattle.group_model.specs.declared.entries.SentReply.{SentReply}
 use Rattle.server_steps.specs.Hosts.{Host}
 
--- who came in with a batch, in the order of the replies; nobody by another answer
+-- who came in with a batch, in the order of the replies
 abbrev pub came_in : Output → List Name
 came_in output = map (λ (reply : SentReply). reply.says.member) output.replies
 
+-- who came in by an answer: nobody where it is not that to a batch
 abbrev pub came_by : Answer → List Name
 came_by (Batched output) = came_in output
 came_by answer = []
@@ -25,7 +26,7 @@ module _ (depth : ℕ) (spi : List ℕ) (list : List Made) where
     pub member : is_member (holders_of depth (batches_made list)) m ≡ true
     pub keys : IsKeyedOf depth spi list m keyed
 
-  -- the same of some names, in their order
+  -- what is told to some names, in their order: each is told its keys
   pub record AreTold (names : List Name) (told : List (Name × Keyed)) : Type 0 where
     pub to : map (λ (reply : Name × Keyed). reply.0) told ≡ names
     pub each : All (λ (reply : Name × Keyed). IsTold reply.0 reply.1) told

@@ -25,10 +25,11 @@ use Rattle.member_store.specs.Stores.{Store, leaf_of, root_epoch}
 use Rattle.store_steps.specs.Stores.{AreForOneRoot, AreStores}
 
 module _ {D : Type 0} where
-  -- the number of the last push up to an epoch, and who has which leaf then
+  -- the number of the last push up to an epoch
   abbrev pub number_at : Run D → ℕ → ℕ
   number_at run epoch = sequence_at run.host.server.depth (batches_in run) epoch
 
+  -- who has which leaf at an epoch
   abbrev pub holders_in : Run D → ℕ → Holders
   holders_in run epoch = holders_at run.host.server.depth (batches_in run) epoch
 

@@ -1,4 +1,5 @@
 -- Lists that grow by what they did not have.
+-- "Each once" is `AreFirsts seen items firsts`; `Gains-then` puts two together, and a loop's next element is `Gains-new` or `Gains-old`.
 use Rattle.std.proofs.Common.{◌≡◌, ℕ, ◌<◌, List, [], ◌∷◌, ◌++◌, Bool, true, length, map, take, get_or, ◌+◌, sym, refl, ap, ◌∙◌, subst, inl, inr, arith}
 use Rattle.std.specs.Prelude.{Contains, Decides}
 use Rattle.std.specs.List.{list_any, flat_map}

@@ -1,4 +1,6 @@
 -- What is known of what a history sent: that it lasts while the history grows, and what it answers.
+-- The search goes backwards: pairs are kept turned and the walk begins at the goal, for few keys lead to a traffic key. `CanDerive-keeps` gives both
+-- directions.
 use Rattle.std.proofs.Common.{◌≡◌, ℕ, ◌+◌, ◌<◌, List, [], ◌∷◌, ◌++◌, Bool, cond, map, length, take, drop, get_or, sym, refl, ap, ◌∙◌, subst}
 use Rattle.std.proofs.Common.{inl, inr, arith}
 use Rattle.std.specs.Prelude.{Contains, Decides}

@@ -1,4 +1,5 @@
 -- Marks of numbers.
+-- The worklist ends by `bound - place`, with `length-le_from_distinct_below`.
 use Rattle.std.proofs.Common.{◌≡◌, ℕ, ◌<◌, ◌≤◌, List, [], ◌∷◌, ◌++◌, Bool, true, false, ◌||◌, eqb, length, get_or, set, replicate, sym, ap}
 use Rattle.std.proofs.Common.{◌∙◌, subst, inl, inr, arith}
 use Rattle.std.specs.Prelude.{All, Contains, Decides}

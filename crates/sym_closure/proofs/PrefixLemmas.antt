@@ -1,4 +1,5 @@
 -- The first epochs of a list are as they are without the later ones.
+-- An epoch's encryptions depend on holders, those before them and last changes alone (`wraps_by`), so three equations prove that the first epochs stay.
 use Rattle.std.proofs.Common.{◌≡◌, ℕ, ◌+◌, ◌-◌, ◌*◌, ◌^◌, ◌≤◌, cond, List, [], ◌∷◌, ◌++◌, Option, length, map, take, sym, refl, ◌∙◌, subst, arith, inl, inr}
 use Rattle.std.specs.Prelude.{Contains}
 use Rattle.std.specs.List.{filter, filter_map, flat_map}

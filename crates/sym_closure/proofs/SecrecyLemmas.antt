@@ -1,4 +1,6 @@
 -- A coalition derives no key but those that it reaches.
+-- `each_derived`: what holds of all keys that are held, and passes over each pair, holds of all that can be derived. The other direction is `CanDerive-held`
+-- and `CanDerive-by`.
 use Rattle.std.proofs.Common.{◌≡◌, ℕ, zero, suc, ◌+◌, ◌/◌, ◌^◌, ◌<◌, ◌≤◌, Bool, true, false, cond, eqb, List, [], ◌∷◌, ◌++◌, Option, Some, None, length, map, take, get_or, sym, refl, ap, ◌∙◌, subst, arith, inl, inr, add-one}
 use Rattle.std.specs.Prelude.{Contains}
 use Rattle.std.specs.List.{list_any, filter}

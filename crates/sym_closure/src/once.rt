@@ -1,4 +1,6 @@
 //! Lists in which nothing stands twice.
+// `requires exact { (a b : T) → Decides (T.eq a b) (a ≡ b) }` turns clauses from `T.eq` to `≡`; it is found for derived `==` where the call is in a small
+// function.
 ghost use Rattle.std.specs.Prelude.{◌≡◌, ◌<◌, [], ◌∷◌, ◌++◌, length, slice_index_or, Contains, Decides};
 ghost use Rattle.std.specs.Prelude.{IsTrue, IsFalse, MatchOption, IfOk, OnOk, OnErr};
 ghost use Rattle.sym_closure.specs.Private.Gains.{Gains};

@@ -1,4 +1,5 @@
 -- What an append makes of a journal, and what a crash leaves of it.
+-- Lemmas on lists, with no disk in them. `Ready` is all that an append makes of a file, and each clause is one field of it.
 use Rattle.std.proofs.Common.{◌≡◌, ◌≢◌, ◌∙◌, inl, inr, ℕ, suc, ◌+◌, ◌≤◌, List, [], ◌∷◌, ◌++◌, length, take, drop, Result, Ok, Err, refl, sym, ap, subst, arith, append_assoc, length-append, take-append-drop}
 use Rattle.std.proofs.lemmas.Bool.{cases_eq}
 use Rattle.std.proofs.lemmas.List.{take_at, drop_at, append-nil, take-append-le}

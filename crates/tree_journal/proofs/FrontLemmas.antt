@@ -1,4 +1,6 @@
 -- What is read of a file that begins as a journal.
+-- `IsFront` says what a front means for whatever comes after it, so a record is put after it with no word about octets below 256, and a cursor stays right in a
+-- file that is written further on (`still_reached` of AppendLemmas).
 use Rattle.std.proofs.Common.{◌≡◌, ◌≢◌, ◌∙◌, ℕ, ◌+◌, ◌≤◌, List, [], ◌∷◌, ◌++◌, length, take, drop, Option, Some, None, IsSome, IfSome, Result, Ok, true, refl, sym, ap, arith, append_assoc, length-append, length-drop, take-append-drop}
 use Rattle.std.proofs.lemmas.List.{drop_at, append-nil, drop-drop}
 use Rattle.std.proofs.lemmas.Slice.Eq.{bytes_eq-Decides}

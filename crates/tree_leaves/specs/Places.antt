@@ -20,6 +20,7 @@ abbrev pub is_held_by : Name → Option Name → Bool
 is_held_by m None = false
 is_held_by m (Some holder) = same_name m holder
 
+-- whether m is a member: it has a leaf
 abbrev pub is_member : Holders → Name → Bool
 is_member holders m = list_any (is_held_by m) holders
 

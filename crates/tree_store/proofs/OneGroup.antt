@@ -1,4 +1,5 @@
 -- A file has one group at the most.
+-- Records at their places (`AreRecordsFrom`), not the reading that they give, which says nothing of them where it breaks off later.
 use Rattle.std.proofs.Common.{◌≡◌, ◌∙◌, ◌⊎◌, inl, inr, ⊎_elim, ℕ, ◌+◌, ◌≤◌, List, [], ◌∷◌, ◌++◌, length, true, Some, Result, Ok, Err, refl, sym, ap, subst, arith, append_assoc, append-nil}
 use Rattle.gd_wire.specs.Readings.{from_start, value_of}
 use Rattle.group_terms.specs.declared.changes.Change.{Change}

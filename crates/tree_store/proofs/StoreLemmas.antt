@@ -1,4 +1,5 @@
 -- A store that is not closed, and what was read of it before an append.
+-- A premise that a closed store cannot meet is under `closed ≡ false →`; a clause on Ok alone takes it from `unless_closed`.
 use Rattle.std.proofs.Common.{◌≡◌, ℕ, List, ◌∷◌, Option, Some, Result, Ok, Err, Bool, true, false, refl, sym, subst}
 use Rattle.std.specs.Prelude.{OnOk}
 use Rattle.gd_disk.specs.Disks.{Knows}

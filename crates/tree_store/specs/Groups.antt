@@ -14,10 +14,11 @@ use Rattle.gd_disk.specs.declared.disks.Disk.{Ghosts}
 use Rattle.tree_journal.specs.Crashes.{IsCutOf, IsUnfilled}
 use Rattle.tree_journal.specs.Records.{records, bodies_from, is_named, AreRecordsFrom, IsRecordAt}
 
--- a record is read as this head, or as this batch
+-- a record is read as this head
 abbrev pub IsHeadOf : List ℕ → Head → Type 0
 IsHeadOf body head = value_of (head_record (from_start 0 body)) ≡ Ok head
 
+-- a record is read as this batch
 abbrev pub IsBatchOf : List ℕ → Stored → Type 0
 IsBatchOf body stored = value_of (batch_record (from_start 0 body)) ≡ Ok stored
 

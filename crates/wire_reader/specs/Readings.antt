@@ -23,20 +23,24 @@ from_start base text = record { base = base; at = 0; left = text }
 abbrev pub after : ℕ → Cursor → Cursor
 after size cursor = record { base = cursor.base; at = cursor.at + size; left = drop size cursor.left }
 
+-- A reading starts at a cursor, and gives a value and the cursor after what was read, or the first fault.
 abbrev pub Reading : Type 0 → Type 0
 Reading A = Cursor → Result (A × Cursor) WireFault
 
 -- ---- readings one after the other
 
+-- What was read is handed to the next reading, which starts where the first one ended; after a fault nothing more is read.
 abbrev pub and_then : {A B : Type 0} → Result (A × Cursor) WireFault → (A → Reading B) → Result (B × Cursor) WireFault
 and_then (Ok read) next = next read.0 read.1
 and_then (Err fault) next = Err fault
 
 infixl 10 ◌>>=◌
+-- one reading after the other, where the second one uses the value that the first one gave
 abbrev pub ◌>>=◌ : {A B : Type 0} → Reading A → (A → Reading B) → Reading B
 (first >>= next) cursor = and_then (first cursor) next
 
 infixl 10 ◌>>◌
+-- one reading after the other, where the first one's value is left out
 abbrev pub ◌>>◌ : {A B : Type 0} → Reading A → Reading B → Reading B
 (first >> next) cursor = and_then (first cursor) (λ done. next)
 
@@ -52,16 +56,19 @@ abbrev pub told : {A : Type 0} → Result A WireFault → Reading A
 told (Ok value) cursor = Ok (value, cursor)
 told (Err fault) cursor = Err fault
 
+-- a value that is given without reading an octet
 abbrev pub give : {A : Type 0} → A → Reading A
 give value cursor = Ok (value, cursor)
 
--- the place in the text, and the same place in the datagram, where a fault is told
+-- the place in the text where reading goes on
 abbrev pub place : Reading ℕ
 place cursor = Ok (cursor.at, cursor)
 
+-- the place in the datagram where reading goes on, which is where a fault is told
 abbrev pub here : Reading ℕ
 here cursor = Ok (cursor.base + cursor.at, cursor)
 
+-- a fault instead of a value: this is wrong, at this place in the datagram
 abbrev pub fail : {A : Type 0} → WireWhat → ℕ → Reading A
 fail what at cursor = Err (fault_at what at)
 
@@ -69,10 +76,11 @@ fail what at cursor = Err (fault_at what at)
 abbrev pub check : Bool → WireWhat → ℕ → Reading (Unit {0})
 check holds what at = if holds then give tt else fail what at
 
--- whether nothing is left; and that nothing is, else octets are too many
+-- whether nothing is left of the text
 abbrev pub ended : Reading Bool
 ended cursor = Ok (length cursor.left == 0, cursor)
 
+-- the end of the text; where octets are left they are too many, and the length is told as wrong where they begin
 unfoldable pub end : Reading (Unit {0})
 end = do
   at ← here
@@ -83,11 +91,12 @@ end = do
 abbrev pub octets_left : Reading ℕ
 octets_left cursor = Ok (length cursor.left, cursor)
 
--- a text of its own, read so; after it this one goes on where it was
+-- what was read of a text of its own, after which reading goes back to this cursor
 abbrev pub back_to : {A : Type 0} → Cursor → Result (A × Cursor) WireFault → Result (A × Cursor) WireFault
 back_to cursor (Ok read) = Ok (read.0, cursor)
 back_to cursor (Err fault) = Err fault
 
+-- a text of its own, which is read in this way; the text around it goes on where it was
 abbrev pub inside : {A : Type 0} → Cursor → Reading A → Reading A
 inside text reading cursor = back_to cursor (reading text)
 
@@ -127,42 +136,46 @@ padding_end = do
 abbrev pub octet_at : List ℕ → ℕ → ℕ
 octet_at octets at = slice_index_or octets at 0
 
--- numbers in 1, 2 and 4 octets, the highest first
+-- a number in 1 octet
 unfoldable pub octet : Reading ℕ
 octet = do
   field ← octets 1
   give (octet_at field 0)
 
+-- a number in 2 octets, the highest first
 unfoldable pub number : Reading ℕ
 number = do
   field ← octets 2
   give (big_from 0 2 field)
 
+-- a number in 4 octets, the highest first
 unfoldable pub long_number : Reading ℕ
 long_number = do
   field ← octets 4
   give (big_from 0 4 field)
 
--- the same where just one number is due; else this is wrong, where the field begins
+-- a number in 1 octet, where just one is due; else this is wrong, where the field begins
 unfoldable pub due_octet : ℕ → WireWhat → Reading (Unit {0})
 due_octet due what = do
   at ← here
   value ← octet
   check (value == due) what at
 
+-- a number in 2 octets, where just one is due; else this is wrong, where the field begins
 unfoldable pub due_number : ℕ → WireWhat → Reading (Unit {0})
 due_number due what = do
   at ← here
   value ← number
   check (value == due) what at
 
+-- a number in 4 octets, where just one is due; else this is wrong, where the field begins
 unfoldable pub due_long_number : ℕ → WireWhat → Reading (Unit {0})
 due_long_number due what = do
   at ← here
   value ← long_number
   check (value == due) what at
 
--- a kind in 1 octet, or in 2, where some kinds are due
+-- a kind in 1 octet, where some kinds are due; any other one is told, where the field begins
 unfoldable pub due_kind : List ℕ → Reading ℕ
 due_kind kinds = do
   at ← here
@@ -170,6 +183,7 @@ due_kind kinds = do
   check (list_any (λ due. due == kind) kinds) (Kind kind) at
   give kind
 
+-- a kind in 2 octets, where some kinds are due; any other one is told, where the field begins
 unfoldable pub due_long_kind : List ℕ → Reading ℕ
 due_long_kind kinds = do
   at ← here

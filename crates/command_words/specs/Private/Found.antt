@@ -1,4 +1,5 @@
 -- The arguments that were found so far.
+-- An argument that is found makes, with any further ones, the command that the new `Found` makes with them; so the loop's invariant is one equation.
 use Rattle.std.specs.Prelude.{◌≡◌, ◌≤◌, List, ◌∷◌, ◌++◌, map, Option, None, IfSome}
 use Rattle.std.specs.Option.{option_to_list}
 use Rattle.command_words.specs.declared.commands.Command.{Command}

@@ -1,4 +1,5 @@
 -- Where a journal's cursor and its closed gate stand.
+-- `IsReached` and `IsLast` are unfoldable: written out, the search opened the existential in every goal of the invariant.
 use Rattle.std.specs.Prelude.{◌≡◌, ◌≢◌, ℕ, ◌+◌, List, ◌∷◌, ◌++◌, length, Option, IfSome}
 use Rattle.gd_disk.specs.Disks.{Knows, Only}
 use Rattle.gd_disk.specs.Moments.{shown}
