@@ -6,4 +6,6 @@ pub mod Lends
 pub mod Logs
 pub mod Names
 pub mod Octets
+pub mod Patterns
 pub mod Positions
+pub mod ShortOctets

@@ -1,9 +1,7 @@
 -- Names of members: what a script may call one, and when two are the same.
-use Rattle.std.specs.Prelude.{◌≡◌, ℕ, ◌-◌, ◌≤◌, ◌==◌, ◌&&◌, ◌||◌, nat_le, Bool, true, List, ◌++◌, length, take, replicate, Option, Some, None, if◌then◌else◌}
+use Rattle.std.specs.Prelude.{ℕ, ◌==◌, ◌&&◌, ◌||◌, nat_le, Bool, List, length, Option, Some, None, if◌then◌else◌}
 use Rattle.std.specs.List.{list_all}
 use Rattle.std.specs.Str.{bytes_eq}
-use Rattle.std.proofs.Common.{sym}
-use Rattle.std.proofs.lemmas.List.{length-take-le}
 
 -- a name is the octets of its text
 abbrev pub Name : Type 0
@@ -24,20 +22,3 @@ name_of text = if is_name text then Some text else None
 -- whether two names are equal, octet by octet
 abbrev pub same_name : Name → Name → Bool
 same_name = bytes_eq
-
--- a name at the front of a field of 32 octets, with zeros after it
-abbrev pub padded : Name → List ℕ
-padded text = text ++ replicate (32 - length text) 0
-
--- a field of 32 octets has a name of this size at its front, and zeros after it
-pub record HoldsName (field : List ℕ) (size : ℕ) : Type 0 where
-  pub fits : size ≤ 32
-  pub whole : length field ≡ 32
-  pub name : is_name (take size field) ≡ true
-  pub zeros : field ≡ take size field ++ replicate (32 - size) 0
-
--- such a field is that of the name in it
-pub padded-take : (field : List ℕ) (size : ℕ) → HoldsName field size → padded (take size field) ≡ field
-padded-take field size h =
-    let enough : size ≤ length field = rw h.whole h.fits in
-    rw (length-take-le size field enough) (sym h.zeros)

@@ -4,35 +4,32 @@ ghost use Rattle.std.specs.Cmp.Lexicographic.{nat_list_eq_equiv};
 ghost use Rattle.group_terms.specs.GroupNames.{is_group_name, group_name_of};
 ghost use Rattle.group_terms.specs.Names.{same_name};
 
-use crate::names::{MOST_OCTETS, field_of};
+use crate::ShortOctets;
 use std::marker::Model;
 
+/// How many octets a name has at the most.
+const MOST_OCTETS: usize = 32;
+
 /// The name of a group: 1 to 32 octets of any value (RFC 2407 section 4.6.2.1).
-#[derive(Clone, Copy, Hash)]
+#[derive(Clone, Copy)]
 pub struct GroupName {
-    octets: [u8; MOST_OCTETS],
-    length: u8,
+    octets: ShortOctets<MOST_OCTETS>,
 }
 
 impl Model for GroupName {
-    ghost use Rattle.std.specs.Prelude.{◌≤◌, ℕ, List, length as length_of, take};
-    ghost use Rattle.std.proofs.Common.{arith};
-    ghost use Rattle.std.proofs.lemmas.List.{length-take-le};
-    ghost use Rattle.group_terms.specs.GroupNames.{HoldsGroupName, whole-field};
-    ghost use Rattle.group_terms.specs.Names.{padded};
+    ghost use Rattle.std.specs.Prelude.{◌≡◌, true, List, ℕ};
+    ghost use Rattle.std.proofs.Common.{refl};
+    ghost use Rattle.group_terms.specs.GroupNames.{is_group_name};
 
     ghost Value = { List ℕ };
 
-    ghost view = { λ name. take name.length name.octets };
+    ghost view = { λ name. name.octets };
 
-    ghost invariant = { λ name. HoldsGroupName name.octets name.length };
+    ghost invariant = { λ name. is_group_name name.octets ≡ true };
 
-    ghost inverse = { λ text. record { octets = padded text; length = length_of text } };
+    ghost inverse = { λ octets. record { octets = octets } };
 
-    ghost inverse_ok = { λ name h i. record {
-      octets = whole-field name.octets name.length h i;
-      length = length-take-le name.length name.octets (omega (arith, h.fits, h.whole)) i;
-    } };
+    ghost inverse_ok = { λ name h. refl };
 }
 
 impl GroupName {
@@ -44,8 +41,7 @@ impl GroupName {
             return None;
         }
         Some(GroupName {
-            octets: field_of(text),
-            length: text.len() as u8,
+            octets: ShortOctets::of(text),
         })
     }
 
@@ -53,7 +49,7 @@ impl GroupName {
         ensures octets { result.now ≡ self.now }
         ensures name { IsTrue (is_group_name self.now) }
     {
-        &self.octets[..usize::from(self.length)]
+        self.octets.octets()
     }
 }
 
@@ -63,8 +59,7 @@ impl Default for GroupName {
     /// The name `_`, which stands in places that nothing shows.
     fn default() -> Self {
         GroupName {
-            octets: field_of(b"_"),
-            length: 1,
+            octets: ShortOctets::of(b"_"),
         }
     }
 }

@@ -2,39 +2,35 @@ ghost use Rattle.std.specs.Prelude.{◌≡◌, ◌≤◌, length, [], ◌∷◌,
 ghost use Rattle.std.specs.List.{list_all};
 ghost use Rattle.std.specs.Cmp.{partial_equiv_from_equiv};
 ghost use Rattle.std.specs.Cmp.Lexicographic.{nat_list_eq_equiv};
-ghost use Rattle.group_terms.specs.Names.{is_name_octet, is_name, name_of, same_name, padded};
+ghost use Rattle.group_terms.specs.Names.{is_name_octet, is_name, name_of, same_name};
 
+use crate::ShortOctets;
 use std::hash::{Hash, Hasher};
 use std::marker::Model;
 
 /// How many octets a name has at the most.
-pub(crate) const MOST_OCTETS: usize = 32;
+const MOST_OCTETS: usize = 32;
 
 /// What a script calls a member: 1 to 32 octets out of a to z, 0 to 9 and `_`.
 #[derive(Clone, Copy)]
 pub struct MemberName {
-    octets: [u8; MOST_OCTETS],
-    length: u8,
+    text: ShortOctets<MOST_OCTETS>,
 }
 
 impl Model for MemberName {
-    ghost use Rattle.std.specs.Prelude.{◌≤◌, ℕ, List, length as length_of, take};
-    ghost use Rattle.std.proofs.Common.{arith};
-    ghost use Rattle.std.proofs.lemmas.List.{length-take-le};
-    ghost use Rattle.group_terms.specs.Names.{HoldsName, padded, padded-take};
+    ghost use Rattle.std.specs.Prelude.{◌≡◌, true, List, ℕ};
+    ghost use Rattle.std.proofs.Common.{refl};
+    ghost use Rattle.group_terms.specs.Names.{is_name};
 
     ghost Value = { List ℕ };
 
-    ghost view = { λ name. take name.length name.octets };
+    ghost view = { λ name. name.text };
 
-    ghost invariant = { λ name. HoldsName name.octets name.length };
+    ghost invariant = { λ name. is_name name.text ≡ true };
 
-    ghost inverse = { λ text. record { octets = padded text; length = length_of text } };
+    ghost inverse = { λ text. record { text = text } };
 
-    ghost inverse_ok = { λ name h i. record {
-      octets = padded-take name.octets name.length h i;
-      length = length-take-le name.length name.octets (omega (arith, h.fits, h.whole)) i;
-    } };
+    ghost inverse_ok = { λ name h. refl };
 }
 
 impl MemberName {
@@ -46,8 +42,7 @@ impl MemberName {
             return None;
         }
         Some(MemberName {
-            octets: field_of(text),
-            length: text.len() as u8,
+            text: ShortOctets::of(text),
         })
     }
 
@@ -55,7 +50,7 @@ impl MemberName {
         ensures octets { result.now ≡ self.now }
         ensures name { IsTrue (is_name self.now) }
     {
-        &self.octets[..usize::from(self.length)]
+        self.text.octets()
     }
 }
 
@@ -65,8 +60,7 @@ impl Default for MemberName {
     /// The name `_`, which stands in places that nothing shows.
     fn default() -> Self {
         MemberName {
-            octets: field_of(b"_"),
-            length: 1,
+            text: ShortOctets::of(b"_"),
         }
     }
 }
@@ -100,17 +94,8 @@ impl Hash for MemberName {
     }
 }
 
-/// A text at the front of a field, with zeros after it.
-pub(crate) fn field_of(text: &[u8]) -> [u8; MOST_OCTETS]
-    requires { length text.now ≤ MOST_OCTETS }
-    ensures { result ≡ padded text.now }
-{
-    let mut field = [0; MOST_OCTETS];
-    field[..text.len()].copy_from_slice(text);
-    field
-}
-
-fn reads_as_name(text: &[u8]) -> bool
+/// Whether a text is a name.
+pub(crate) fn reads_as_name(text: &[u8]) -> bool
     ensures test { result ≡ is_name text.now }
     ensures fits { IsTrue result → length text.now ≤ MOST_OCTETS }
 {

@@ -2,7 +2,7 @@
 ghost use Rattle.std.specs.Prelude.{◌≡◌, ◌≤◌, length, IsTrue};
 ghost use Rattle.pull_msgs.specs.Nonces.{is_nonce, nonce_of};
 
-use arrayvec::ArrayVec;
+use group_terms::ShortOctets;
 use std::marker::Model;
 
 /// The fewest octets of a nonce.
@@ -12,20 +12,25 @@ const FEWEST: usize = 8;
 const MOST: usize = 128;
 
 /// A nonce (RFC 2408 section 3.13): 8 to 128 octets (RFC 6407 section 5.8).
-#[derive(Drop)]
+#[derive(Clone, Copy)]
 pub struct Nonce {
-    octets: ArrayVec<u8, MOST>,
+    octets: ShortOctets<MOST>,
 }
 
 impl Model for Nonce {
-    ghost use Rattle.std.specs.Prelude.{ℕ, List, IsTrue};
+    ghost use Rattle.std.specs.Prelude.{◌≡◌, true, List, ℕ};
+    ghost use Rattle.std.proofs.Common.{refl};
     ghost use Rattle.pull_msgs.specs.Nonces.{is_nonce};
 
     ghost Value = { List ℕ };
 
-    ghost view = { λ nonce. nonce.octets.items };
+    ghost view = { λ nonce. nonce.octets };
 
-    ghost invariant = { λ nonce. IsTrue (is_nonce nonce.octets.items) };
+    ghost invariant = { λ nonce. is_nonce nonce.octets ≡ true };
+
+    ghost inverse = { λ octets. record { octets = octets } };
+
+    ghost inverse_ok = { λ nonce h. refl };
 }
 
 impl Nonce {
@@ -46,7 +51,7 @@ impl Nonce {
         ensures { result ≡ octets.now }
     {
         Nonce {
-            octets: ArrayVec::try_from(octets).unwrap(),
+            octets: ShortOctets::of(octets),
         }
     }
 
@@ -55,6 +60,6 @@ impl Nonce {
         ensures octets { result.now ≡ self.now }
         ensures nonce { IsTrue (is_nonce self.now) }
     {
-        self.octets.as_slice()
+        self.octets.octets()
     }
 }

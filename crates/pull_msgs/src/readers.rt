@@ -1,4 +1,5 @@
-//! Reading the messages of a pull.
+//! Reading the messages of a pull. What is read of a text borrows from it, and may hold a nonce by value: a `match` takes it apart, for the prover does not follow such a
+//! value through `?`.
 ghost use Rattle.std.specs.Prelude.{◌≡◌, IfOk, IsSome};
 ghost use Rattle.pull_msgs.specs.Readings as readings;
 ghost use Rattle.pull_msgs.specs.Pulls.{IsAnswer, first_awaited, second_awaited, third_awaited, fourth_awaited};
@@ -23,7 +24,10 @@ pub fn read_first(alloc: Global, datagram: &[u8], phase: &Phase1) -> Result<Firs
     let head = pull_header(datagram, phase, None)?;
     let iv = phase2_iv(&phase.last, &head.message);
     let text = open(alloc, datagram, phase, &iv)?;
-    let read = reading::read_first(text.as_slice(), head.next)?;
+    let read = match reading::read_first(text.as_slice(), head.next) {
+        Ok(read) => read,
+        Err(fault) => return Err(PullFault::Malformed { fault }),
+    };
     due_hash(read.hash, phase, &head.message, &[], &[], read.covered)?;
     let id = Octets::copy_of(alloc, read.said.id.octets)?;
     Ok(First {
@@ -50,7 +54,10 @@ pub fn read_second(
 {
     let head = pull_header(datagram, phase, Some(*message))?;
     let text = open(alloc, datagram, phase, iv)?;
-    let read = reading::read_second(text.as_slice(), head.next)?;
+    let read = match reading::read_second(text.as_slice(), head.next) {
+        Ok(read) => read,
+        Err(fault) => return Err(PullFault::Malformed { fault }),
+    };
     due_hash(
         read.hash,
         phase,
@@ -80,7 +87,10 @@ pub fn read_third(
 {
     let head = pull_header(datagram, phase, Some(*message))?;
     let text = open(alloc, datagram, phase, iv)?;
-    let read = reading::read_third(text.as_slice(), head.next)?;
+    let read = match reading::read_third(text.as_slice(), head.next) {
+        Ok(read) => read,
+        Err(fault) => return Err(PullFault::Malformed { fault }),
+    };
     due_hash(
         read.hash,
         phase,
@@ -110,7 +120,10 @@ pub fn read_fourth(
 {
     let head = pull_header(datagram, phase, Some(*message))?;
     let text = open(alloc, datagram, phase, iv)?;
-    let read = reading::read_fourth(spi, text.as_slice(), head.next)?;
+    let read = match reading::read_fourth(spi, text.as_slice(), head.next) {
+        Ok(read) => read,
+        Err(fault) => return Err(PullFault::Malformed { fault }),
+    };
     due_hash(
         read.hash,
         phase,

@@ -1,6 +1,7 @@
-use Rattle.std.proofs.Common.{◌∙◌, refl, sym, ap, subst, drop}
+use Rattle.std.proofs.Common.{◌∙◌, Err, refl, sym, ap, subst, drop}
 use Rattle.gd_cipher.specs.Chains.{IsOpened}
 use Rattle.gd_wire.specs.Readings.{from_start, value_of}
+use Rattle.pull_msgs.specs.declared.faults.PullFault.TheVariants.{Malformed}
 use Rattle.pull_msgs.specs.Private.Seen.{seen_first}
 use Rattle.pull_msgs.specs.Pulls.{first_awaited}
 use Rattle.pull_msgs.specs.Readings as readings
@@ -17,20 +18,20 @@ returns-in_err-text c =
     no_memory _ _ c.args.phase.now (first_awaited c.args.phase.now) c.args.datagram.now
     c.in_ok-head.head c.from_residual-in_err-text.result (sym c.in_ok-head.was ∙ c.pull_header.ensures.answer) c.from_residual-in_err-text.ensures.1
 
-pub returns-in_err-read : goal.returns-in_err-read
-returns-in_err-read c =
+pub returns-in-Err : goal.returns-in-Err
+returns-in-Err c =
     payload_fault _ _ c.args.phase.now (first_awaited c.args.phase.now) c.args.datagram.now
     c.in_ok-head.head c.in_ok-text.text (sym c.in_ok-head.was ∙ c.pull_header.ensures.answer) (subst (λ iv. IsOpened c.args.phase.now.key iv (drop 28 c.args.datagram.now) c.in_ok-text.text) c.phase2_iv-iv.ensures c.in_ok-text.ensures.opened)
-    c.in_err-read.field-0.0 c.from_residual-in_err-read.result
-    (ap (λ text. value_of (readings.first text c.in_ok-head.head.next (from_start 28 text))) (sym c.as_slice.ensures) ∙ ap value_of c.in_err-read.ensures)
-    c.from_residual-in_err-read.ensures.1
+    c.in-Err.fault (Err (Malformed c.in-Err.fault))
+    (ap (λ text. value_of (readings.first text c.in_ok-head.head.next (from_start 28 text))) (sym c.as_slice.ensures) ∙ ap value_of c.in-Err.ensures)
+    refl
 
 pub returns-in_err-due_hash : goal.returns-in_err-due_hash
 returns-in_err-due_hash c =
     other_hash _ _ c.args.phase.now (first_awaited c.args.phase.now) c.args.datagram.now
     c.in_ok-head.head c.in_ok-text.text (sym c.in_ok-head.was ∙ c.pull_header.ensures.answer) (subst (λ iv. IsOpened c.args.phase.now.key iv (drop 28 c.args.datagram.now) c.in_ok-text.text) c.phase2_iv-iv.ensures c.in_ok-text.ensures.opened)
-    (seen_first c.in_ok-read.read) _ c.due_hash.result
-    (ap (λ text. value_of (readings.first text c.in_ok-head.head.next (from_start 28 text))) (sym c.as_slice.ensures) ∙ c.in_ok-read.ensures)
+    (seen_first c.in-Ok.read) _ c.due_hash.result
+    (ap (λ text. value_of (readings.first text c.in_ok-head.head.next (from_start 28 text))) (sym c.as_slice.ensures) ∙ c.in-Ok.ensures)
     refl c.due_hash.ensures
     c.in_err-due_hash.field-0.0 c.from_residual-in_err-due_hash.result c.in_err-due_hash.was c.from_residual-in_err-due_hash.ensures.1
 
@@ -43,7 +44,7 @@ pub returns : goal.returns
 returns c =
     due_hash _ _ c.args.phase.now (first_awaited c.args.phase.now) c.args.datagram.now
     c.in_ok-head.head c.in_ok-text.text (sym c.in_ok-head.was ∙ c.pull_header.ensures.answer) (subst (λ iv. IsOpened c.args.phase.now.key iv (drop 28 c.args.datagram.now) c.in_ok-text.text) c.phase2_iv-iv.ensures c.in_ok-text.ensures.opened)
-    (seen_first c.in_ok-read.read) _ c.due_hash.result
-    (ap (λ text. value_of (readings.first text c.in_ok-head.head.next (from_start 28 text))) (sym c.as_slice.ensures) ∙ c.in_ok-read.ensures)
+    (seen_first c.in-Ok.read) _ c.due_hash.result
+    (ap (λ text. value_of (readings.first text c.in_ok-head.head.next (from_start 28 text))) (sym c.as_slice.ensures) ∙ c.in-Ok.ensures)
     refl c.due_hash.ensures
-    _ c.in_ok-due_hash.was (λ i. record { message = c.in_ok-head.head.message; ni = c.in_ok-read.read.said.ni; id_type = c.in_ok-read.read.said.id.id_type; id = c.in_ok-id.ensures i; next_iv = c.next_iv.ensures i })
+    _ c.in_ok-due_hash.was (λ i. record { message = c.in_ok-head.head.message; ni = c.in-Ok.read.said.ni; id_type = c.in-Ok.read.said.id.id_type; id = c.in_ok-id.ensures i; next_iv = c.next_iv.ensures i })

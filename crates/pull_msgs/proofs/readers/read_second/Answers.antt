@@ -1,6 +1,7 @@
-use Rattle.std.proofs.Common.{◌∙◌, ◌++◌, [], sym, ap}
+use Rattle.std.proofs.Common.{◌∙◌, Err, refl, ◌++◌, [], sym, ap}
 use Rattle.std.proofs.lemmas.List.{append-nil}
 use Rattle.gd_wire.specs.Readings.{from_start, value_of}
+use Rattle.pull_msgs.specs.declared.faults.PullFault.TheVariants.{Malformed}
 use Rattle.pull_msgs.specs.Private.Seen.{seen_second}
 use Rattle.pull_msgs.specs.Pulls.{second_awaited}
 use Rattle.pull_msgs.specs.Readings as readings
@@ -17,20 +18,20 @@ returns-in_err-text-clause-answer c =
     no_memory _ _ c.args.phase.now (second_awaited c.args.message.now c.args.iv.now c.args.ni.now) c.args.datagram.now
     c.in_ok-head.head c.from_residual-in_err-text.result (sym c.in_ok-head.was ∙ c.pull_header.ensures.answer) c.from_residual-in_err-text.ensures.1
 
-pub returns-in_err-read-clause-answer : goal.returns-in_err-read-clause-answer
-returns-in_err-read-clause-answer c =
+pub returns-in-Err-clause-answer : goal.returns-in-Err-clause-answer
+returns-in-Err-clause-answer c =
     payload_fault _ _ c.args.phase.now (second_awaited c.args.message.now c.args.iv.now c.args.ni.now) c.args.datagram.now
     c.in_ok-head.head c.in_ok-text.text (sym c.in_ok-head.was ∙ c.pull_header.ensures.answer) c.in_ok-text.ensures.opened
-    c.in_err-read.field-0.0 c.from_residual-in_err-read.result
-    (ap (λ text. value_of (readings.second text c.in_ok-head.head.next (from_start 28 text))) (sym c.as_slice.ensures) ∙ ap value_of c.in_err-read.ensures.answer)
-    c.from_residual-in_err-read.ensures.1
+    c.in-Err.fault (Err (Malformed c.in-Err.fault))
+    (ap (λ text. value_of (readings.second text c.in_ok-head.head.next (from_start 28 text))) (sym c.as_slice.ensures) ∙ ap value_of c.in-Err.ensures.answer)
+    refl
 
 pub returns-in_err-due_hash-clause-answer : goal.returns-in_err-due_hash-clause-answer
 returns-in_err-due_hash-clause-answer c =
     other_hash _ _ c.args.phase.now (second_awaited c.args.message.now c.args.iv.now c.args.ni.now) c.args.datagram.now
     c.in_ok-head.head c.in_ok-text.text (sym c.in_ok-head.was ∙ c.pull_header.ensures.answer) c.in_ok-text.ensures.opened
-    (seen_second c.in_ok-read.read) _ c.due_hash.result
-    (ap (λ text. value_of (readings.second text c.in_ok-head.head.next (from_start 28 text))) (sym c.as_slice.ensures) ∙ c.in_ok-read.ensures.answer)
+    (seen_second c.in-Ok.read) _ c.due_hash.result
+    (ap (λ text. value_of (readings.second text c.in_ok-head.head.next (from_start 28 text))) (sym c.as_slice.ensures) ∙ c.in-Ok.ensures.answer)
     (ap (λ octets. octets ++ []) c.octets.ensures.octets ∙ append-nil c.args.ni.now) c.due_hash.ensures
     c.in_err-due_hash.field-0.0 c.from_residual-in_err-due_hash.result c.in_err-due_hash.was c.from_residual-in_err-due_hash.ensures.1
 
@@ -38,7 +39,7 @@ pub returns-clause-answer : goal.returns-clause-answer
 returns-clause-answer c =
     due_hash _ _ c.args.phase.now (second_awaited c.args.message.now c.args.iv.now c.args.ni.now) c.args.datagram.now
     c.in_ok-head.head c.in_ok-text.text (sym c.in_ok-head.was ∙ c.pull_header.ensures.answer) c.in_ok-text.ensures.opened
-    (seen_second c.in_ok-read.read) _ c.due_hash.result
-    (ap (λ text. value_of (readings.second text c.in_ok-head.head.next (from_start 28 text))) (sym c.as_slice.ensures) ∙ c.in_ok-read.ensures.answer)
+    (seen_second c.in-Ok.read) _ c.due_hash.result
+    (ap (λ text. value_of (readings.second text c.in_ok-head.head.next (from_start 28 text))) (sym c.as_slice.ensures) ∙ c.in-Ok.ensures.answer)
     (ap (λ octets. octets ++ []) c.octets.ensures.octets ∙ append-nil c.args.ni.now) c.due_hash.ensures
-    _ c.in_ok-due_hash.was (λ i. record { nr = c.in_ok-read.read.said.nr; policy = c.in_ok-read.read.said.policy; next_iv = c.next_iv.ensures i })
+    _ c.in_ok-due_hash.was (λ i. record { nr = c.in-Ok.read.said.nr; policy = c.in-Ok.read.said.policy; next_iv = c.next_iv.ensures i })

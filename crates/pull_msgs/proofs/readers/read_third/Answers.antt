@@ -1,5 +1,6 @@
-use Rattle.std.proofs.Common.{◌∙◌, ◌++◌, sym, ap, ap₂}
+use Rattle.std.proofs.Common.{◌∙◌, refl, Err, ◌++◌, sym, ap, ap₂}
 use Rattle.gd_wire.specs.Readings.{from_start, value_of}
+use Rattle.pull_msgs.specs.declared.faults.PullFault.TheVariants.{Malformed}
 use Rattle.pull_msgs.specs.Private.Seen.{seen_third}
 use Rattle.pull_msgs.specs.Pulls.{third_awaited}
 use Rattle.pull_msgs.specs.Readings as readings
@@ -16,20 +17,20 @@ returns-in_err-text c =
     no_memory _ _ c.args.phase.now (third_awaited c.args.message.now c.args.iv.now c.args.ni.now c.args.nr.now) c.args.datagram.now
     c.in_ok-head.head c.from_residual-in_err-text.result (sym c.in_ok-head.was ∙ c.pull_header.ensures.answer) c.from_residual-in_err-text.ensures.1
 
-pub returns-in_err-read : goal.returns-in_err-read
-returns-in_err-read c =
+pub returns-in-Err : goal.returns-in-Err
+returns-in-Err c =
     payload_fault _ _ c.args.phase.now (third_awaited c.args.message.now c.args.iv.now c.args.ni.now c.args.nr.now) c.args.datagram.now
     c.in_ok-head.head c.in_ok-text.text (sym c.in_ok-head.was ∙ c.pull_header.ensures.answer) c.in_ok-text.ensures.opened
-    c.in_err-read.field-0.0 c.from_residual-in_err-read.result
-    (ap (λ text. value_of (readings.third text c.in_ok-head.head.next (from_start 28 text))) (sym c.as_slice.ensures) ∙ ap value_of c.in_err-read.ensures)
-    c.from_residual-in_err-read.ensures.1
+    c.in-Err.fault (Err (Malformed c.in-Err.fault))
+    (ap (λ text. value_of (readings.third text c.in_ok-head.head.next (from_start 28 text))) (sym c.as_slice.ensures) ∙ ap value_of c.in-Err.ensures)
+    refl
 
 pub returns-in_err-due_hash : goal.returns-in_err-due_hash
 returns-in_err-due_hash c =
     other_hash _ _ c.args.phase.now (third_awaited c.args.message.now c.args.iv.now c.args.ni.now c.args.nr.now) c.args.datagram.now
     c.in_ok-head.head c.in_ok-text.text (sym c.in_ok-head.was ∙ c.pull_header.ensures.answer) c.in_ok-text.ensures.opened
-    (seen_third c.in_ok-read.read) _ c.due_hash.result
-    (ap (λ text. value_of (readings.third text c.in_ok-head.head.next (from_start 28 text))) (sym c.as_slice.ensures) ∙ c.in_ok-read.ensures)
+    (seen_third c.in-Ok.read) _ c.due_hash.result
+    (ap (λ text. value_of (readings.third text c.in_ok-head.head.next (from_start 28 text))) (sym c.as_slice.ensures) ∙ c.in-Ok.ensures)
     (ap₂ (λ ni nr. ni ++ nr) c.octets.ensures.octets c.octets-2.ensures.octets) c.due_hash.ensures
     c.in_err-due_hash.field-0.0 c.from_residual-in_err-due_hash.result c.in_err-due_hash.was c.from_residual-in_err-due_hash.ensures.1
 
@@ -37,7 +38,7 @@ pub returns : goal.returns
 returns c =
     due_hash _ _ c.args.phase.now (third_awaited c.args.message.now c.args.iv.now c.args.ni.now c.args.nr.now) c.args.datagram.now
     c.in_ok-head.head c.in_ok-text.text (sym c.in_ok-head.was ∙ c.pull_header.ensures.answer) c.in_ok-text.ensures.opened
-    (seen_third c.in_ok-read.read) _ c.due_hash.result
-    (ap (λ text. value_of (readings.third text c.in_ok-head.head.next (from_start 28 text))) (sym c.as_slice.ensures) ∙ c.in_ok-read.ensures)
+    (seen_third c.in-Ok.read) _ c.due_hash.result
+    (ap (λ text. value_of (readings.third text c.in_ok-head.head.next (from_start 28 text))) (sym c.as_slice.ensures) ∙ c.in-Ok.ensures)
     (ap₂ (λ ni nr. ni ++ nr) c.octets.ensures.octets c.octets-2.ensures.octets) c.due_hash.ensures
     _ c.in_ok-due_hash.was (λ i. record { next_iv = c.next_iv.ensures i })

@@ -1,7 +1,0 @@
--- Behind the text stand the zeros that it does not cover.
-use Rattle.std.proofs.Common.{◌++◌, length, ap}
-use Rattle.std.proofs.lemmas.List.{drop-replicate}
-use Rattle.group_terms.proofs.names.field_of.Goals as goal
-
-pub returns : goal.returns
-returns c = rw c.copy_from_slice.ensures.after (ap (λ zeros. c.args.text.now ++ zeros) (drop-replicate (length c.args.text.now) 32 0))

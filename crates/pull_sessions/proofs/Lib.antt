@@ -1,0 +1,5 @@
+pub mod FitLemmas
+pub mod HeaderLemmas
+pub mod IndexLemmas
+pub mod LookLemmas
+pub mod SaLemmas
