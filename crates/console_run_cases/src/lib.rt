@@ -15,6 +15,8 @@ mod histories;
 #[cfg(test)]
 mod lines;
 #[cfg(test)]
+mod message_reports;
+#[cfg(test)]
 mod other_words;
 #[cfg(test)]
 mod reports;

@@ -6,6 +6,7 @@ ghost use Rattle.group_terms.specs.Changes.{is_pending};
 ghost use Rattle.group_terms.specs.Octets.{AreOctets};
 ghost use Rattle.group_values.specs.Drawing.{next_place};
 ghost use Rattle.group_model.specs.Places.{is_member, member_at, member_count, place_in};
+ghost use Rattle.group_model.specs.Refusals.{why_no_join};
 ghost use Rattle.group_model.specs.Servers.{Server};
 ghost use Rattle.group_model.specs.declared.entries.Refusal.TheVariants.{NeedsReopen};
 ghost use Rattle.group_records.specs.Fits.{HeadFits};
@@ -13,6 +14,7 @@ ghost use Rattle.group_keys.specs.Replies.{IsKeyedOf};
 ghost use Rattle.gcks_core.specs.Stands.{Stands};
 ghost use Rattle.gcks_core.specs.Stored.{IsOnDisk};
 
+use crate::waiting::why_no_join;
 use crate::{Core, GroupName, Keyed, LkhId, MemberName, Parts, Refusal, SignKind, TrafficValue};
 use gd_disk::Disk;
 use gd_edges::{Draws, Signer};
@@ -127,6 +129,14 @@ impl<D: Disk, G: Signer, R: Draws> Core<D, G, R> {
             return Err(Refusal::NeedsReopen);
         }
         Ok(keyed(&self.tree, &self.kept, &self.head.spi, member).unwrap())
+    }
+
+    /// Why the join of somebody may not wait for the next batch, if there is a reason: `NeedsReopen`, `AlreadyPending`, `TreeFull`, `BatchFull`, the first of
+    /// these that holds.
+    pub fn refusal_to_join(&self, member: &MemberName) -> Option<Refusal>
+        ensures { result ≡ why_no_join self.now.need self.now.tree.depth self.now.tree.holders self.now.queue member.now }
+    {
+        why_no_join(self.stopped, &self.tree, &self.queue, member)
     }
 
     /// Whether a change of this member waits.

@@ -1,5 +1,5 @@
 //! Whether a change may wait.
-ghost use Rattle.std.specs.Prelude.{◌≡◌, ◌++◌, [], ◌∷◌, ℕ, false, OnOk, OnErr};
+ghost use Rattle.std.specs.Prelude.{◌≡◌, ◌++◌, [], ◌∷◌, ℕ, false, None, OnOk, OnErr};
 ghost use Rattle.group_terms.specs.declared.changes.Change.TheVariants.{In, Out};
 ghost use Rattle.group_model.specs.Places.{Fits, is_member};
 ghost use Rattle.group_model.specs.Refusals.{leaves_taken, why_no_join, why_no_leave};
@@ -8,7 +8,7 @@ ghost use Rattle.group_model.specs.Servers.{GivesRefusal};
 use crate::{MemberName, Queue, Refusal};
 use batch_queue::QueueRefusal;
 use group_model::{PresentTree, a_batch_that_fits_has_few_changes, granted_changes_fit};
-use group_terms::Change;
+use group_terms::{Change, MOST_CHANGES};
 
 /// Lets a name in with the next batch, which is no member.
 pub(crate) fn queue_join(
@@ -24,21 +24,42 @@ pub(crate) fn queue_join(
     ensures err { OnErr result (queue.new ≡ queue.old) }
     ensures fits { Fits tree.now.holders queue.new }
 {
+    if let Some(why) = why_no_join(stopped, tree, queue, member) {
+        return Err(why);
+    }
+    queue.add(Change::In { member: *member }).unwrap();
+    Ok(())
+}
+
+/// Why a join may not wait, if there is a reason: the first that holds. Where there is none, the join of somebody who is no member fits with what waits.
+pub(crate) fn why_no_join(
+    stopped: bool,
+    tree: &PresentTree,
+    queue: &Queue,
+    member: &MemberName,
+) -> Option<Refusal>
+    requires fits { Fits tree.now.holders queue.now }
+    ensures why { result ≡ why_no_join stopped tree.now.depth tree.now.holders queue.now member.now }
+    ensures fits { result ≡ None → is_member tree.now.holders member.now ≡ false → Fits tree.now.holders (queue.now ++ In member.now ∷ []) }
+{
     granted_changes_fit();
     if stopped {
-        return Err(Refusal::NeedsReopen);
+        return Some(Refusal::NeedsReopen);
     }
     if queue.has(member) {
-        return Err(Refusal::AlreadyPending);
+        return Some(Refusal::AlreadyPending);
     }
     let held = count_taken(tree, queue);
     if held == tree.leaves() {
-        return Err(Refusal::TreeFull { held: held as u32 });
+        return Some(Refusal::TreeFull { held: held as u32 });
     }
-    match queue.add(Change::In { member: *member }) {
-        Ok(()) => Ok(()),
-        Err(why) => Err(refusal_of(why)),
+    let pending = queue.batch().changes().len();
+    if pending >= MOST_CHANGES {
+        return Some(Refusal::BatchFull {
+            pending: pending as u32,
+        });
     }
+    None
 }
 
 /// Takes a member out with the next batch.

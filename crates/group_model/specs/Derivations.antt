@@ -10,7 +10,7 @@ use Rattle.group_model.specs.declared.entries.SymReply.{SymReply}
 use Rattle.group_model.specs.declared.entries.PushPair.{PushPair}
 use Rattle.group_model.specs.Replies.{says_of}
 use Rattle.group_model.specs.declared.entries.Answer.{Answer}
-use Rattle.group_model.specs.declared.entries.Answer.TheVariants.{Batched, Opened}
+use Rattle.group_model.specs.declared.entries.Answer.TheVariants.{Batched, Datagram, Opened}
 
 -- a key is at hand after those that came earlier: it is held, or a pair gives it under one of them
 abbrev pub IsAtHand : List KeyName → List Wrap → List KeyName → KeyName → Type 0
@@ -29,9 +29,15 @@ IsDerivation have pairs names = AreAtHand have pairs [] names
 abbrev pub CanDerive : List KeyName → List Wrap → KeyName → Type 0
 CanDerive have pairs goal = (names : List KeyName) × IsDerivation have pairs names × Contains names goal
 
+-- what a message of a pull says, in a list: none but the fourth message says keys
+abbrev pub reply_in : Option SymReply → List SymReply
+reply_in None = []
+reply_in (Some reply) = reply ∷ []
+
 -- what the replies that an answer sent say
 abbrev pub replies_in : Answer → List SymReply
 replies_in (Batched output) = says_of output.replies
+replies_in (Datagram octets names) = reply_in names
 replies_in answer = []
 
 -- what the replies that a history sent say
@@ -69,6 +75,7 @@ wraps_in answer = []
 abbrev pub pairs_in : Answer → List Wrap
 pairs_in (Batched output) = output.wraps ++ flat_map reply_pairs (says_of output.replies)
 pairs_in (Opened seen resent) = pairs_resent resent
+pairs_in (Datagram octets names) = flat_map reply_pairs (reply_in names)
 pairs_in answer = []
 
 -- all that the answers of a history sent, one after the other

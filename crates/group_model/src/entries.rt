@@ -1,7 +1,10 @@
 ghost use Rattle.std.specs.Prelude.{◌≡◌};
 ghost use Rattle.group_model.specs.declared.entries.Refusal.TheVariants as refusals;
 
-use crate::{KeyName, List, LkhId, MemberName, MemberNames, NoMemory, Octets, PushRefusal, Wrap};
+use crate::{
+    KeyName, List, LkhId, MemberName, MemberNames, NoMemory, Octets, Phase1, PushRefusal, Rule,
+    Wrap,
+};
 
 /// One event of a history: what was asked of the key server, what the outside did meanwhile, and what was answered.
 #[derive(Drop)]
@@ -15,13 +18,32 @@ pub struct Entry {
 #[derive(Drop)]
 pub enum Asked {
     /// To make a group with a tree of this depth.
-    Create { depth: u8 },
+    Create {
+        depth: u8,
+    },
     /// To open the group that the disk has.
     Begin,
+    /// To judge members by one more rule, after all others.
+    AddRule {
+        rule: Rule,
+    },
+    /// To take up a member's phase 1 SA.
+    Introduce {
+        phase: Phase1,
+    },
+    /// To answer a datagram. Who sent it is told by the script alone: the server looks at nothing but the datagram.
+    Serve {
+        member: MemberName,
+        datagram: Octets,
+    },
     /// To let a name in with the next batch.
-    Join { member: MemberName },
+    Join {
+        member: MemberName,
+    },
     /// To take a member out with the next batch.
-    Leave { member: MemberName },
+    Leave {
+        member: MemberName,
+    },
     /// To close the batch: the pending changes make the next epoch.
     Batch,
     /// To refuse, until it is opened again, whatever changes it, shows it or gives all members their pushes.
@@ -31,15 +53,25 @@ pub enum Asked {
     /// Who has which leaf.
     Show,
     /// Not of the server: a member is given the keys of its reply.
-    Keep { member: MemberName },
+    Keep {
+        member: MemberName,
+    },
     /// Not of the server: a member is given the last push of this number that was sent in this run.
-    Deliver { member: MemberName, sequence: u32 },
+    Deliver {
+        member: MemberName,
+        sequence: u32,
+    },
     /// Each present member is given each push that was sent in this run and is new to it.
     DeliverAll,
     /// Not of the server: which traffic key a member has.
-    Key { member: MemberName },
+    Key {
+        member: MemberName,
+    },
     /// Whether these members derive the traffic key of an epoch from what they hold and what was sent.
-    Derive { epoch: u32, members: MemberNames },
+    Derive {
+        epoch: u32,
+        members: MemberNames,
+    },
 }
 
 /// What the outside did during a request.
@@ -57,6 +89,15 @@ pub struct Outside {
 #[derive(Drop)]
 pub enum Answer {
     Done,
+    /// The number of the rule, counted from 1.
+    RuleNumber {
+        number: u32,
+    },
+    /// A message of a pull; of a fourth message also what it says by key names.
+    Datagram {
+        octets: Octets,
+        names: Option<SymReply>,
+    },
     /// The change is pending.
     Queued,
     Batched {
@@ -122,20 +163,55 @@ pub enum Counter {
 pub enum Refusal {
     /// It has to be opened again first.
     NeedsReopen,
+    /// The datagram has no header of a pull (`message` 0), or does not decrypt to a text of that message (1 or 3); `at` is the place of the first fault.
+    Malformed {
+        message: u8,
+        at: u32,
+    },
+    /// No introduced SA has the cookies of the datagram.
+    UnknownPeer,
+    /// The datagram has the message id of a session that awaits no message, and is not the one that the session took last.
+    WrongStep,
+    /// It is the message that is due, but carries another HASH.
+    BadHash {
+        carried: [u8; 32],
+        expected: [u8; 32],
+    },
+    /// The identification is not that of the group.
+    WrongGroup,
+    /// The rule of this number keeps the member out; 0 where no rule matches it.
+    Denied {
+        rule: u32,
+    },
     /// The name is not a member of the present epoch.
     NotMember,
     /// The next batch has a change of the member already.
     AlreadyPending,
     /// The members that are not leaving and the pending joins have taken all `held` leaves.
-    TreeFull { held: u32 },
+    TreeFull {
+        held: u32,
+    },
     /// As many changes are pending as a batch has at the most.
-    BatchFull { pending: u32 },
+    BatchFull {
+        pending: u32,
+    },
     /// The next batch would go past the group's limit: its epoch, or the number of its last push. The counter is at this number.
-    Spent { counter: Counter, at: u32 },
+    Spent {
+        counter: Counter,
+        at: u32,
+    },
     /// The disk failed.
     DiskFault,
+    /// An SA of this member, or with these cookies, was introduced before.
+    PhaseTaken,
+    /// As many SAs are introduced as there may be.
+    PhaseFull {
+        held: u32,
+    },
     /// The disk has no journal of a group; the first place where that shows.
-    NotAJournal { at: u64 },
+    NotAJournal {
+        at: u64,
+    },
     /// There was no memory.
     NoMemory,
 }
@@ -160,7 +236,7 @@ pub struct Output {
     /// The encryptions between tree keys and then that of the traffic key, where somebody stayed; else none.
     pub wraps: List<Wrap>,
     pub pushes: Option<PushPair>,
-    /// One reply to each member that came in.
+    /// One reply to each member that came in, in the order of the joins.
     pub replies: List<SentReply>,
 }
 

@@ -8,7 +8,7 @@ pub use entries::{
 };
 pub use group_terms::{
     Batch, Change, KeyName, List, LkhId, Log, MOST_CHANGES, MOST_MEMBERS, MemberName, MemberNames,
-    NoMemory, Octets, PushRefusal, Wrap,
+    NoMemory, Octets, Phase1, PushRefusal, Rule, Wrap,
 };
 pub use history::History;
 pub use laws::{

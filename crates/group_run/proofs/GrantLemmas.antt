@@ -1,6 +1,6 @@
 -- Who is to come in was granted a join, and so was who came in.
-use Rattle.std.proofs.Common.{◌≡◌, ◌∙◌, ◌⊎◌, ⊎_elim, ◌||◌, ℕ, ◌≤◌, Bool, true, false, List, [], ◌∷◌, ◌++◌, refl, sym, ap, subst, append-nil}
-use Rattle.std.specs.Prelude.{IsTrue, map}
+use Rattle.std.proofs.Common.{◌≡◌, ◌∙◌, ◌⊎◌, ⊎_elim, inl, inr, ◌||◌, ℕ, ◌≤◌, Bool, true, false, List, [], ◌∷◌, ◌++◌, None, refl, sym, ap, subst, append-nil}
+use Rattle.std.specs.Prelude.{IfOk, IsTrue, OnErr, OnOk, Result, Ok, Err, map}
 use Rattle.std.specs.List.{All}
 use Rattle.std.proofs.lemmas.List.Elements.{All-cons, All-head, All-nil, All-push, All-same, All-tail, All-weaker, filter_map-append}
 use Rattle.group_terms.specs.Changes.{joiner, joiners}
@@ -13,11 +13,15 @@ use Rattle.group_keys.specs.Replies.{IsKeyedOf}
 use Rattle.group_model.specs.Places.{holders_of, is_member}
 use Rattle.group_model.specs.declared.entries.Answer.{Answer}
 use Rattle.group_model.specs.declared.entries.Answer.TheVariants.{Done, Queued}
+use Rattle.group_model.specs.declared.entries.Refusal.{Refusal}
 use Rattle.group_peers.specs.Peers.{is_peer, with_peer}
 use Rattle.group_peers.specs.declared.members.Peer.{Peer}
 use Rattle.member_store.specs.Stores.{IsReply}
 use Rattle.server_steps.specs.Replies.{AreTold, IsTold}
+use Rattle.server_steps.specs.Sent.{pair_by}
+use Rattle.server_steps.specs.Serves.{answer_done, told_with}
 use Rattle.server_steps.specs.Waiting.{queue_after_join, queue_after_leave}
+use Rattle.server_steps.specs.declared.batching.Closed.{Closed}
 use Rattle.member_steps.specs.Mails.{AreMailTo, IsMailTo}
 use Rattle.member_steps.specs.Members.{Mail, Members, with_mail}
 use Rattle.group_steps.specs.Gets.{granted_by}
@@ -66,7 +70,25 @@ still_after peers queue m Done all =
     (All-same (IsPeer peers) (joiners queue ++ []) (joiners queue) (append-nil (joiners queue)) all)
 still_after peers queue m answer all = all
 
+-- and no push is sent
+pub silent_done : (done : Result (Unit {0}) Refusal) → pair_by (answer_done done) ≡ None
+silent_done (Ok done) = refl
+silent_done (Err why) = refl
+
 -- ---- batches
+
+-- nobody waits once a call was done, and where it was refused, all still do
+pub waits_or_none : {A E : Type 0} (result : Result A E) (old new : List Change) → OnOk result (new ≡ []) → OnErr result (new ≡ old)
+    → (new ≡ old) ⊎ (new ≡ [])
+waits_or_none (Ok done) old new none same = inr none
+waits_or_none (Err why) old new none same = inl same
+
+-- nobody is told anything, or all who are to come in are
+pub told_or_none : (closed : Result Closed Refusal) (queue : List Change)
+    → IfOk closed (λ (one : Closed). map (λ (reply : Mail). reply.0) one.told ≡ joiners queue)
+    → (told_with closed ≡ []) ⊎ (map (λ (reply : Mail). reply.0) (told_with closed) ≡ joiners queue)
+told_or_none (Ok closed) queue to_joiners = inr to_joiners
+told_or_none (Err why) queue to_joiners = inl refl
 
 -- who is to come in with the next batch is a member, if nobody else is to, whatever mail is on its way
 pub still_granted : (members now : Members) (mail : List Mail) (old new : List Change) → now ≡ with_mail members mail → (new ≡ old) ⊎ (new ≡ [])

@@ -12,7 +12,7 @@ use Rattle.member_steps.specs.Members.{Members}
 use Rattle.group_steps.specs.Runs.{Run}
 use Rattle.group_steps.specs.Steps.{IsActing, IsServing, IsStepBy}
 use Rattle.group_run.specs.Reflects.{Reflects}
-use Rattle.group_run.specs.Views.{View}
+use Rattle.group_run.specs.Views.{View, server_in}
 
 -- One entry was added, which answers a request by such a step. Whatever run was reflected before, the entry is a step from it, and the run after that step is
 -- reflected then.
@@ -21,7 +21,7 @@ pub record Moves {D G R : Type 0} (d : DiskGhosts D) (draws : DrawGhosts R) (ste
   pub entry : Entry
   pub added : new.entries ≡ old.entries ++ entry ∷ []
   pub asked : entry.asked ≡ request
-  pub goes_on : GoesOn draws old.core new.core
+  pub goes_on : GoesOn draws (server_in old) (server_in new)
   pub each : (run : Run D) → Reflects d draws old run → (next : Run D) × IsStepBy d step run entry next × Reflects d draws new next
 
 -- the server served the request, and then the members got what it told

@@ -10,7 +10,7 @@ use gd_edges::{Draws, Signer};
 use group_model::{Answer, Asked, MemberName, NoMemory};
 use group_peers::who_is_noted_is_a_peer;
 use member_steps::Members;
-use server_steps::entry;
+use server_steps::{answer_done, entry};
 use sym_closure::what_is_known_stays_known;
 
 impl<D: Disk, G: Signer, R: Draws> GroupRun<D, G, R> {
@@ -41,7 +41,7 @@ impl<D: Disk, G: Signer, R: Draws> GroupRun<D, G, R> {
         what_is_known_stays_known();
         self.entries.reserve(1)?;
         let place = self.core.draws_at();
-        let answer = server_steps::leave(&mut self.core, member);
+        let answer = answer_done(server_steps::leave(&mut self.core, member));
         let asked = Asked::Leave { member: *member };
         self.entries.add(entry(asked, answer, place));
         Ok(())
@@ -55,8 +55,8 @@ impl<D: Disk, G: Signer, R: Draws> GroupRun<D, G, R> {
         what_is_known_stays_known();
         self.entries.reserve(1)?;
         let place = self.core.draws_at();
-        let answer = server_steps::halt(&mut self.core);
-        self.entries.add(entry(Asked::Halt, answer, place));
+        server_steps::halt(&mut self.core);
+        self.entries.add(entry(Asked::Halt, Answer::Done, place));
         Ok(())
     }
 }

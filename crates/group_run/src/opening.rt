@@ -3,9 +3,12 @@ ghost use Rattle.std.specs.Prelude.{◌≡◌, ◌≤◌, ◌+◌, ◌<◌, ◌^
 ghost use Rattle.group_terms.specs.Names.{Name};
 ghost use Rattle.group_model.specs.declared.entries.Answer.TheVariants as answers;
 ghost use Rattle.group_model.specs.declared.entries.Asked.TheVariants as requests;
+ghost use Rattle.gcks_core.specs.Stands.{Stands};
+ghost use Rattle.group_model.specs.Servers.{Server};
 ghost use Rattle.server_steps.specs.Entries.{noted};
 ghost use Rattle.server_steps.specs.Openings.{IsBeginning, IsCreation};
 ghost use Rattle.server_steps.specs.Sent.{pair_by};
+ghost use Rattle.server_steps.specs.Serves.{answer_reopened};
 ghost use Rattle.member_steps.specs.Members.{nobody};
 ghost use Rattle.group_steps.specs.Runs.{no_run};
 ghost use Rattle.group_run.specs.Moves.{Serves};
@@ -13,13 +16,13 @@ ghost use Rattle.group_run.specs.Openings.{FailsToOpen, Opens};
 
 use crate::sending::note_pushes;
 use crate::{GroupRun, Unopened};
-use gcks_core::{NewGroup, Opening, Parts};
+use gcks_core::{Core, CoreOpened, NewGroup, Opening, Parts, PushPair, Refusal};
 use gd_disk::Disk;
 use gd_edges::{Draws, Signer};
 use group_model::{Answer, Asked, Entry, List, Log, NoMemory};
 use member_steps::Members;
 use sent_pushes::SentPushes;
-use server_steps::{Opened, ShowRoom, entry};
+use server_steps::{ShowRoom, a_reopening_is_served, entry, show_opened};
 use std::alloc::Global;
 use sym_closure::{Sent, what_is_known_stays_known};
 
@@ -60,8 +63,11 @@ impl<D: Disk, G: Signer, R: Draws> GroupRun<D, G, R> {
         };
         let asked = Asked::Create { depth: group.depth };
         let place = parts.draws.place();
-        match server_steps::create(alloc, parts, group, room) {
-            Ok(one) => Ok(opened(alloc, one, asked, place, ready)),
+        match server_steps::create(alloc, parts, group) {
+            Ok(core) => {
+                let answer = show_opened(&core, None, room);
+                Ok(opened(alloc, core, answer, asked, place, ready))
+            }
             Err(opening) => Err(refused(opening, asked, place, ready)),
         }
     }
@@ -80,8 +86,11 @@ impl<D: Disk, G: Signer, R: Draws> GroupRun<D, G, R> {
             return Err(Unopened { history, parts });
         };
         let place = parts.draws.place();
-        match server_steps::open(alloc, parts, room) {
-            Ok(one) => Ok(opened(alloc, one, Asked::Begin, place, ready)),
+        match server_steps::open(alloc, parts) {
+            Ok(CoreOpened { core, resent }) => {
+                let answer = show_opened(&core, resent, room);
+                Ok(opened(alloc, core, answer, Asked::Begin, place, ready))
+            }
             Err(opening) => Err(refused(opening, Asked::Begin, place, ready)),
         }
     }
@@ -92,10 +101,13 @@ impl<D: Disk, G: Signer, R: Draws> GroupRun<D, G, R> {
         ensures err { OnErr result (self.new ≡ self.old) }
     {
         what_is_known_stays_known();
+        a_reopening_is_served::<D, G, R>();
         self.entries.reserve(1)?;
         self.pushes.reserve(2)?;
         let place = self.core.draws_at();
-        let answer = server_steps::reopen(alloc, &mut self.core)?;
+        let room = ShowRoom::new(alloc)?;
+        let reopened = server_steps::reopen(alloc, &mut self.core);
+        let answer = answer_reopened(&self.core, reopened, room);
         self.members.lose_mail();
         note_pushes(&mut self.pushes, &answer, self.entries.items().len());
         self.entries.add(entry(Asked::Reopen, answer, place));
@@ -117,19 +129,35 @@ fn make_ready(alloc: Global) -> Result<(Ready, ShowRoom), NoMemory> {
     Ok((ready, ShowRoom::new(alloc)?))
 }
 
-/// The run of a core that was just made or opened.
+/// The answer of a core that was opened again, or not.
+fn answer_reopened<D: Disk, G: Signer, R: Draws>(
+    core: &Core<D, G, R>,
+    reopened: Result<Option<PushPair>, Refusal>,
+    room: ShowRoom,
+) -> Answer
+    requires fits { IfOk reopened (λ resent. IfSome resent (λ pair. pair.first + 1 < 2 ^ 32)) }
+    ensures shows { (server : Server) → Stands R.Draws core.now server → result ≡ answer_reopened server reopened }
+    ensures fits { IfSome (pair_by result) (λ pair. pair.first + 1 < 2 ^ 32) }
+{
+    match reopened {
+        Ok(resent) => show_opened(core, resent, room),
+        Err(why) => Answer::Refused { why },
+    }
+}
+
+/// The run of a core that was just made or opened, with this answer.
 fn opened<D: Disk, G: Signer, R: Draws>(
     alloc: Global,
-    one: Opened<D, G, R>,
+    core: Core<D, G, R>,
+    answer: Answer,
     asked: Asked,
     place: u64,
     ready: Ready,
 ) -> GroupRun<D, G, R>
-    requires nothing_waits { one.core.queue ≡ [] }
-    requires fits { IfSome (pair_by one.answer) (λ pair. pair.first + 1 < 2 ^ 32) }
-    ensures { result ≡ record { core = one.core; members = nobody; entries = noted asked one.answer place ∷ [] } }
+    requires nothing_waits { core.queue ≡ [] }
+    requires fits { IfSome (pair_by answer) (λ pair. pair.first + 1 < 2 ^ 32) }
+    ensures { result ≡ record { core = core; members = nobody; entries = noted asked answer place ∷ [] } }
 {
-    let Opened { core, answer } = one;
     let Ready {
         members,
         mut pushes,

@@ -30,6 +30,8 @@ fn sent_by(answer: &Answer) -> Option<&PushPair>
         Answer::Batched { output } => output.pushes.as_ref(),
         Answer::Opened { resent, .. } => resent.as_ref(),
         Answer::Done
+        | Answer::RuleNumber { .. }
+        | Answer::Datagram { .. }
         | Answer::Queued
         | Answer::Shown { .. }
         | Answer::Kept { .. }

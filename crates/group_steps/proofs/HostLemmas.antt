@@ -1,4 +1,4 @@
--- What a step after the first does to the host: its server serves what is asked, or the host stays, and nothing is sent or told.
+-- What a step after the first does to the host: its server serves what is asked, which is nothing of pulls, or the host stays, and nothing is sent or told.
 use Rattle.std.proofs.Common.{◌≡◌, ◌∙◌, ◌⊎◌, ℕ, Bool, true, false, List, ◌∷◌, Option, None, Some, Result, Ok, Err, refl, ap, inl, inr}
 use Rattle.std.specs.Prelude.{MatchBool}
 use Rattle.gd_disk.specs.declared.disks.Disk.{Ghosts as DiskGhosts}
@@ -9,7 +9,7 @@ use Rattle.group_terms.specs.declared.paths.Keyed.{Keyed}
 use Rattle.group_terms.specs.declared.pushes.PushRefusal.{PushRefusal}
 use Rattle.group_model.specs.declared.entries.Answer.{Answer}
 use Rattle.group_model.specs.declared.entries.Asked.{Asked}
-use Rattle.group_model.specs.declared.entries.Asked.TheVariants.{Create, Begin, Keep, Deliver, Key, Derive}
+use Rattle.group_model.specs.declared.entries.Asked.TheVariants.{AddRule, Create, Begin, Introduce, Keep, Deliver, Key, Derive, Serve}
 use Rattle.group_model.specs.declared.entries.Entry.{Entry}
 use Rattle.group_model.specs.declared.entries.Outside.{Outside}
 use Rattle.group_peers.specs.Peers.{store_of}
@@ -22,6 +22,7 @@ use Rattle.member_steps.specs.Steps.{Gets, Gives, IsMemberStep, IsOld, TakesRepl
 use Rattle.server_steps.specs.Steps.{IsServed}
 use Rattle.group_steps.specs.Kinds.{speaks}
 use Rattle.group_steps.specs.Runs.{Run}
+use Rattle.group_steps.specs.Served.{is_of_pulls}
 use Rattle.group_steps.specs.Steps.{IsAnswered, push_sent}
 
 -- ---- what a member answers sends nothing, and tells nothing
@@ -64,9 +65,13 @@ module _ {V : Type 0} (v : VerifierGhosts V) (verifier : V) where
 module _ {D G V : Type 0} (d : DiskGhosts D) (g : SignerGhosts G) (signer : G) (v : VerifierGhosts V) (verifier : V) (block : ℕ → List ℕ) where
   pub host_step : (first : Entry) (before : List Entry) (asked : Asked) (run : Run D) (answer : Answer) (outside : Outside) (next : Run D)
       → IsAnswered d g signer v verifier block (first ∷ before) asked run answer outside next
-      → IsServed d g signer block asked run.host answer outside next.host ⊎ ((next.host ≡ run.host) × (speaks answer ≡ false))
+      → ((is_of_pulls asked ≡ false) × IsServed d g signer block asked run.host answer outside next.host)
+      ⊎ ((next.host ≡ run.host) × (speaks answer ≡ false))
   host_step first before (Create depth) run answer outside next step = absurd (cc (step.is_first))
   host_step first before Begin run answer outside next step = absurd (cc (step.is_first))
+  host_step first before (AddRule rule) run answer outside next step = absurd step
+  host_step first before (Introduce phase) run answer outside next step = absurd step
+  host_step first before (Serve m datagram) run answer outside next step = absurd step
   host_step first before (Keep m) run answer outside next step =
       inr (step.stays, silent_acting v verifier (push_sent (first ∷ before)) (Keep m) run.members answer next.members step.acted)
   host_step first before (Deliver m number) run answer outside next step =
@@ -75,4 +80,4 @@ module _ {D G V : Type 0} (d : DiskGhosts D) (g : SignerGhosts G) (signer : G) (
       inr (step.stays, silent_acting v verifier (push_sent (first ∷ before)) (Key m) run.members answer next.members step.acted)
   host_step first before (Derive epoch members) run answer outside next step =
       inr (ap (λ (given : Run D). given.host) step.stays, ap speaks step.answers)
-  host_step first before asked run answer outside next step = inl step.served
+  host_step first before asked run answer outside next step = inl (refl, step.served)

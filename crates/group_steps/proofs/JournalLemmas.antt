@@ -1,5 +1,6 @@
 -- What each step of a run does to the journal of its group.
-use Rattle.std.proofs.Common.{◌≡◌, ◌∙◌, ◌⊎◌, ℕ, true, Bool, List, [], ◌∷◌, ◌++◌, None, refl, sym, ap, subst, inl, inr}
+use Rattle.std.proofs.Common.{◌≡◌, ◌∙◌, ◌⊎◌, ℕ, true, false, Bool, List, [], ◌∷◌, ◌++◌, None, refl, sym, ap, subst, inl, inr}
+use Rattle.std.proofs.lemmas.Bool.{false≢true}
 use Rattle.std.proofs.lemmas.List.{append-nil}
 use Rattle.gd_disk.specs.Disks.{Knows}
 use Rattle.gd_disk.specs.MomentLaws.{started, weaker}
@@ -16,7 +17,7 @@ use Rattle.group_model.specs.Servers.{MayHave, Server, in_doubt, refusal_to_batc
 use Rattle.group_model.specs.declared.entries.Answer.{Answer}
 use Rattle.group_model.specs.declared.entries.Answer.TheVariants.{Done, Queued}
 use Rattle.group_model.specs.declared.entries.Asked.{Asked}
-use Rattle.group_model.specs.declared.entries.Asked.TheVariants.{Batch, DeliverAll, Halt, Join, Leave, Reopen, Show}
+use Rattle.group_model.specs.declared.entries.Asked.TheVariants.{AddRule, Batch, DeliverAll, Halt, Introduce, Join, Leave, Reopen, Serve, Show}
 use Rattle.group_model.specs.declared.entries.Entry.{Entry}
 use Rattle.group_model.specs.declared.entries.Outside.{Outside}
 use Rattle.gcks_core.specs.Stored.{IsFileOf}
@@ -27,6 +28,7 @@ use Rattle.server_steps.specs.Hosts.{Host}
 use Rattle.server_steps.specs.Openings.{FailsToReopen, IsOpeningAgain, Reopens}
 use Rattle.server_steps.specs.Steps.{IsServed}
 use Rattle.group_steps.specs.Runs.{Run}
+use Rattle.group_steps.specs.Served.{is_of_pulls}
 use Rattle.group_steps.specs.Steps.{IsAnswered}
 use Rattle.group_steps.proofs.HostLemmas.{host_step}
 
@@ -127,18 +129,21 @@ module _ {D G : Type 0} (d : DiskGhosts D) (g : SignerGhosts G) (signer : G) (bl
       | inr fails ↦ leaves_shut answer outside next fails again.moments
     ]
 
-    -- ---- all that a server does
+    -- ---- all that a server does, but for pulls
 
-    pub leaves_served : (asked : Asked) (answer : Answer) (outside : Outside) (next : Host D) → IsServed d g signer block asked host answer outside next
-        → StepLeaves asked next
-    leaves_served (Join m) answer outside next step = leaves_join m answer next step.now
-    leaves_served (Leave m) answer outside next step = leaves_leave m answer next step.now
-    leaves_served Batch answer outside next step = leaves_batch answer outside next step
-    leaves_served Halt answer outside next step = untouched Halt true host.server.queue host.server.place next step.now
-    leaves_served Reopen answer outside next step = leaves_reopen answer outside next step
-    leaves_served Show answer outside next step = unchanged Show next step.stays
-    leaves_served DeliverAll answer outside next step = unchanged DeliverAll next step.says.stays
-    leaves_served asked answer outside next step = absurd step
+    pub leaves_served : (asked : Asked) (answer : Answer) (outside : Outside) (next : Host D) → is_of_pulls asked ≡ false
+        → IsServed d g signer block asked host answer outside next → StepLeaves asked next
+    leaves_served (AddRule rule) answer outside next other step = absurd (false≢true (sym other))
+    leaves_served (Introduce phase) answer outside next other step = absurd (false≢true (sym other))
+    leaves_served (Serve m datagram) answer outside next other step = absurd (false≢true (sym other))
+    leaves_served (Join m) answer outside next other step = leaves_join m answer next step.now
+    leaves_served (Leave m) answer outside next other step = leaves_leave m answer next step.now
+    leaves_served Batch answer outside next other step = leaves_batch answer outside next step
+    leaves_served Halt answer outside next other step = untouched Halt true host.server.queue host.server.place next step.now
+    leaves_served Reopen answer outside next other step = leaves_reopen answer outside next step
+    leaves_served Show answer outside next other step = unchanged Show next step.stays
+    leaves_served DeliverAll answer outside next other step = unchanged DeliverAll next step.says.stays
+    leaves_served asked answer outside next other step = absurd step
 
 module _ {D G V : Type 0} (d : DiskGhosts D) (g : SignerGhosts G) (signer : G) (v : VerifierGhosts V) (verifier : V) (block : ℕ → List ℕ) where
   -- each request after the first
@@ -148,6 +153,6 @@ module _ {D G V : Type 0} (d : DiskGhosts D) (g : SignerGhosts G) (signer : G) (
       → IsAnswered d g signer v verifier block (first ∷ before) asked run answer outside next → StepLeaves d g signer block run.host asked next.host
   leaves_answered run had only_now first before asked answer outside next step =
       elim (host_step d g signer v verifier block first before asked run answer outside next step) [
-        | inl served ↦ leaves_served d g signer block run.host had only_now asked answer outside next.host served
+        | inl served ↦ leaves_served d g signer block run.host had only_now asked answer outside next.host served.0 served.1
         | inr stays ↦ unchanged d g signer block run.host had only_now asked next.host stays.0
       ]

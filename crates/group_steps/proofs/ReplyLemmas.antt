@@ -12,7 +12,8 @@ use Rattle.group_values.specs.Values.{Made}
 use Rattle.group_model.specs.declared.entries.Answer.{Answer}
 use Rattle.group_model.specs.declared.entries.Answer.TheVariants.{Done, Queued}
 use Rattle.group_model.specs.declared.entries.Asked.{Asked}
-use Rattle.group_model.specs.declared.entries.Asked.TheVariants.{Batch, Begin, Create, Deliver, DeliverAll, Derive, Halt, Join, Keep, Key, Leave, Reopen, Show}
+use Rattle.group_model.specs.declared.entries.Asked.TheVariants.{AddRule, Batch, Begin, Create, Deliver, DeliverAll, Derive, Halt, Introduce}
+use Rattle.group_model.specs.declared.entries.Asked.TheVariants.{Join, Keep, Key, Leave, Reopen, Serve, Show}
 use Rattle.group_model.specs.declared.entries.Entry.{Entry}
 use Rattle.group_model.specs.declared.entries.Outside.{Outside}
 use Rattle.group_peers.specs.Peers.{store_of}
@@ -107,6 +108,9 @@ module _ {D : Type 0} where
 module _ {D G V : Type 0} (d : DiskGhosts D) (g : SignerGhosts G) (signer : G) (v : VerifierGhosts V) (verifier : V) (block : ℕ → List ℕ) where
   now_served : (asked : Asked) (run : Run D) (answer : Answer) (outside : Outside) (next : Run D) → IsServing d g signer block asked run answer outside next
       → AreRepliesNow run → AreRepliesNow next
+  now_served (AddRule rule) run answer outside next step now = absurd step.get
+  now_served (Introduce phase) run answer outside next step now = absurd step.get
+  now_served (Serve m datagram) run answer outside next step now = absurd step.get
   now_served (Join m) run answer outside next step now =
       stays_now run next (same_join run.host next.host m answer step.served.now)
       (ap (λ (given : Members). given.mail) step.get ∙ mail_granted answer m run.members) now
@@ -137,6 +141,9 @@ module _ {D G V : Type 0} (d : DiskGhosts D) (g : SignerGhosts G) (signer : G) (
       now_none next.host next.members.mail (ap (λ (given : Members). given.mail) step.stay ∙ none step.is_first)
   now_answered before Begin run answer outside next now none step =
       now_none next.host next.members.mail (ap (λ (given : Members). given.mail) step.stay ∙ none step.is_first)
+  now_answered before (AddRule rule) run answer outside next now none step = absurd step
+  now_answered before (Introduce phase) run answer outside next now none step = absurd step
+  now_answered before (Serve m datagram) run answer outside next now none step = absurd step
   now_answered before (Keep m) run answer outside next now none step = now_acting (push_sent before) (Keep m) run answer outside next step now
   now_answered before (Deliver m number) run answer outside next now none step =
       now_acting (push_sent before) (Deliver m number) run answer outside next step now

@@ -1,12 +1,13 @@
 -- What a server does are steps of a run, whoever its members are.
-use Rattle.std.proofs.Common.{◌≡◌, ℕ, List, [], ◌∷◌, ◌++◌, refl, sym, ap, subst, inl, inr}
-use Rattle.std.proofs.lemmas.List.Elements.{All-nil}
+use Rattle.std.proofs.Common.{◌≡◌, ℕ, false, List, [], ◌∷◌, ◌++◌, refl, sym, ap, subst, inl, inr}
+use Rattle.std.proofs.lemmas.Bool.{false≢true}
+use Rattle.std.proofs.lemmas.List.Elements.{All-head, All-nil, All-tail}
 use Rattle.gd_disk.specs.declared.disks.Disk.{Ghosts as DiskGhosts}
 use Rattle.gd_edges.specs.declared.signers.Signer.{Ghosts as SignerGhosts}
 use Rattle.gd_edges.specs.declared.verifiers.Verifier.{Ghosts as VerifierGhosts}
 use Rattle.group_model.specs.declared.entries.Answer.{Answer}
 use Rattle.group_model.specs.declared.entries.Asked.{Asked}
-use Rattle.group_model.specs.declared.entries.Asked.TheVariants.{Batch, Begin, Create, Deliver, Derive, Join, Keep, Key, Reopen}
+use Rattle.group_model.specs.declared.entries.Asked.TheVariants.{AddRule, Batch, Begin, Create, Deliver, Derive, Introduce, Join, Keep, Key, Reopen, Serve}
 use Rattle.group_model.specs.declared.entries.Entry.{Entry}
 use Rattle.group_model.specs.declared.entries.Outside.{Outside}
 use Rattle.server_steps.specs.Batches.{IsBatching, IsStored, list_next}
@@ -17,8 +18,12 @@ use Rattle.member_steps.specs.Members.{Mail, Members, with_mail}
 use Rattle.group_steps.specs.Crashes.{CrashesLeaveMoments}
 use Rattle.group_steps.specs.Gets.{Get, granted_by}
 use Rattle.group_steps.specs.Runs.{Run}
-use Rattle.group_steps.specs.Served.{CrashesLeaveServed, ServedAreRunSteps, ServedReachMembers, run_of}
+use Rattle.group_steps.specs.Served.{CrashesLeaveServed, ServedAreRunSteps, ServedReachMembers, is_of_pulls, run_of}
 use Rattle.group_steps.specs.Steps.{IsAnswered}
+
+-- an entry that is not of pulls
+abbrev IsOther : Entry → Type 0
+IsOther entry = is_of_pulls entry.asked ≡ false
 
 module _ {D G : Type 0} (d : DiskGhosts D) (g : SignerGhosts G) (signer : G) (block : ℕ → List ℕ) where
   -- ---- what a batch tells
@@ -49,19 +54,23 @@ module _ {D G : Type 0} (d : DiskGhosts D) (g : SignerGhosts G) (signer : G) (bl
   -- ---- what its members get
 
   got : (asked : Asked) (host : Host D) (answer : Answer) (outside : Outside) (next : Host D) (members : Members)
-      → IsServed d g signer block asked host answer outside next → (later : Members) × Get asked answer next members later
-  got (Join m) host answer outside next members served = (granted_by answer m members, refl)
-  got Batch host answer outside next members served =
+      → is_of_pulls asked ≡ false → IsServed d g signer block asked host answer outside next → (later : Members) × Get asked answer next members later
+  got (AddRule rule) host answer outside next members other served = absurd (false≢true (sym other))
+  got (Introduce phase) host answer outside next members other served = absurd (false≢true (sym other))
+  got (Serve m datagram) host answer outside next members other served = absurd (false≢true (sym other))
+  got (Join m) host answer outside next members other served = (granted_by answer m members, refl)
+  got Batch host answer outside next members other served =
       let told = told_by host answer outside next served in (with_mail members told.0, (told.0, told.1, refl))
-  got Reopen host answer outside next members served = (with_mail members [], refl)
-  got asked host answer outside next members served = (members, refl)
+  got Reopen host answer outside next members other served = (with_mail members [], refl)
+  got asked host answer outside next members other served = (members, refl)
 
   pub reach : ServedReachMembers d g signer block
-  reach host members [] after same = (members, ap (λ (given : Host D). run_of given members) same)
-  reach host members (entry ∷ entries) after steps =
+  reach host members [] after others same = (members, ap (λ (given : Host D). run_of given members) same)
+  reach host members (entry ∷ entries) after others steps =
       let next = steps.0 in
-      let gets = got entry.asked host entry.answer entry.outside next members steps.1.answered in
-      let rest = reach next gets.0 entries after steps.2 in (rest.0, (run_of next gets.0, steps.1, gets.1, rest.1))
+      let other = All-head IsOther entry entries others in
+      let gets = got entry.asked host entry.answer entry.outside next members other steps.1.answered in
+      let rest = reach next gets.0 entries after (All-tail IsOther entry entries others) steps.2 in (rest.0, (run_of next gets.0, steps.1, gets.1, rest.1))
 
   -- ---- they are steps of a run
 
@@ -71,6 +80,9 @@ module _ {D G : Type 0} (d : DiskGhosts D) (g : SignerGhosts G) (signer : G) (bl
         → IsAnswered d g signer v verifier block before asked run answer outside next
     answered before (Create depth) run answer outside next served get = absurd served
     answered before Begin run answer outside next served get = absurd served
+    answered before (AddRule rule) run answer outside next served get = absurd get
+    answered before (Introduce phase) run answer outside next served get = absurd get
+    answered before (Serve m datagram) run answer outside next served get = absurd get
     answered before (Keep m) run answer outside next served get = absurd served
     answered before (Deliver m number) run answer outside next served get = absurd served
     answered before (Key m) run answer outside next served get = absurd served

@@ -92,7 +92,7 @@ module _ {D G V : Type 0} (laws : Laws) (d : DiskGhosts D) (g : SignerGhosts G) 
 
   -- ---- a history, whatever its openings found
 
-  pub sound_none : (disk : D) (name : Name) (limit place : ℕ) → IsSound (no_host disk name limit place)
+  pub sound_none : (disk : D) (name : Name) (limit place : ℕ) → IsSound (no_host disk name limit place 0)
   sound_none disk name limit place = record { at = refl; valid = tt; fits = laws.no_change_fits (holders_of 0 []) }
 
   pub sound_opened : (start : Run D) (asked : Asked) (answer : Answer) (outside : Outside) (next : Run D) → IsSound start.host → opens asked ≡ true

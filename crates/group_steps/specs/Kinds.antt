@@ -6,7 +6,7 @@ use Rattle.gd_edges.specs.declared.verifiers.Verifier.{Ghosts as VerifierGhosts}
 use Rattle.group_model.specs.Places.{Fits}
 use Rattle.group_model.specs.Servers.{members_now}
 use Rattle.group_model.specs.declared.entries.Answer.{Answer}
-use Rattle.group_model.specs.declared.entries.Answer.TheVariants.{Batched, Opened}
+use Rattle.group_model.specs.declared.entries.Answer.TheVariants.{Batched, Datagram, Opened}
 use Rattle.group_model.specs.declared.entries.Entry.{Entry}
 use Rattle.server_steps.specs.Batches.{IsStored}
 use Rattle.group_steps.specs.Laws.{asks_again}
@@ -18,6 +18,7 @@ use Rattle.group_steps.specs.Steps.{IsRunStep}
 -- whether an answer sends or tells something, or says that a group is open
 abbrev pub speaks : Answer → Bool
 speaks (Batched output) = true
+speaks (Datagram octets names) = true
 speaks (Opened seen resent) = true
 speaks answer = false
 

@@ -9,6 +9,6 @@ pub record Run (D : Type 0) : Type 0 where
   pub host : Host D
   pub members : Members
 
--- Before it is opened: nobody was granted a join.
+-- Before it is opened: nobody was granted a join. No SA may be introduced, for a run has no pulls yet.
 abbrev pub no_run : {D : Type 0} → D → Name → ℕ → ℕ → Run D
-no_run disk name limit place = record { host = no_host disk name limit place; members = nobody }
+no_run disk name limit place = record { host = no_host disk name limit place 0; members = nobody }

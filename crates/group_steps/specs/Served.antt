@@ -1,9 +1,11 @@
 -- What follows for a stretch of steps of a server alone: it is one of a run, whoever the members are; they get what they are told.
-use Rattle.std.specs.Prelude.{◌≡◌, ℕ, List, [], ◌∷◌}
+use Rattle.std.specs.Prelude.{◌≡◌, ℕ, Bool, true, false, List, [], ◌∷◌, All}
 use Rattle.gd_disk.specs.Moments.{Keeps}
 use Rattle.gd_disk.specs.declared.disks.Disk.{Ghosts as DiskGhosts}
 use Rattle.gd_edges.specs.declared.signers.Signer.{Ghosts as SignerGhosts}
 use Rattle.gd_edges.specs.declared.verifiers.Verifier.{Ghosts as VerifierGhosts}
+use Rattle.group_model.specs.declared.entries.Asked.{Asked}
+use Rattle.group_model.specs.declared.entries.Asked.TheVariants.{AddRule, Introduce, Serve}
 use Rattle.group_model.specs.declared.entries.Entry.{Entry}
 use Rattle.server_steps.specs.Disks.{HasJournal}
 use Rattle.server_steps.specs.Hosts.{Host}
@@ -14,6 +16,17 @@ use Rattle.group_steps.specs.Crashes.{LeavesMoments}
 use Rattle.group_steps.specs.Gets.{Get}
 use Rattle.group_steps.specs.Runs.{Run}
 use Rattle.group_steps.specs.Steps.{AreRunSteps}
+
+-- a request of pulls: a rule of who may join, an introduction, or a datagram
+abbrev pub is_of_pulls : Asked → Bool
+is_of_pulls (AddRule rule) = true
+is_of_pulls (Introduce phase) = true
+is_of_pulls (Serve m datagram) = true
+is_of_pulls asked = false
+
+-- none of these entries is of pulls, which a run does not have yet
+abbrev pub WithoutPulls : List Entry → Type 0
+WithoutPulls entries = All (λ (entry : Entry). is_of_pulls entry.asked ≡ false) entries
 
 -- a host with some members
 abbrev pub run_of : {D : Type 0} → Host D → Members → Run D
@@ -27,10 +40,10 @@ module _ {D G : Type 0} (d : DiskGhosts D) (g : SignerGhosts G) (signer : G) (bl
       (next : Run D) × IsServerStep d g signer block run.host entry next.host × Get entry.asked entry.answer next.host run.members next.members
       × AreServedWith next entries after
 
-  -- Whoever the members are, they get something by steps of the server.
+  -- Whoever the members are, they get something by steps of the server that are not of pulls.
   abbrev pub ServedReachMembers : Type 0
   ServedReachMembers =
-      (host : Host D) (members : Members) (entries : List Entry) (after : Host D) → AreServed d g signer block host entries after
+      (host : Host D) (members : Members) (entries : List Entry) (after : Host D) → WithoutPulls entries → AreServed d g signer block host entries after
       → (later : Members) × AreServedWith (run_of host members) entries (run_of after later)
 
   -- The disk counts at least one fault for each entry that notes one, and none where no entry does. It stays as honest as it was.

@@ -9,7 +9,7 @@ use Rattle.gd_edges.specs.declared.verifiers.Verifier.{Ghosts as VerifierGhosts}
 use Rattle.group_model.specs.Answers.{BeginsWithOpening, ran_out}
 use Rattle.group_model.specs.declared.entries.Answer.{Answer}
 use Rattle.group_model.specs.declared.entries.Asked.{Asked}
-use Rattle.group_model.specs.declared.entries.Asked.TheVariants.{Create, Begin, Join, Leave, Batch, Halt, Reopen, Show, Keep, Deliver, DeliverAll, Key, Derive}
+use Rattle.group_model.specs.declared.entries.Asked.TheVariants.{AddRule, Create, Begin, Introduce, Serve, Join, Leave, Batch, Halt, Reopen, Show, Keep, Deliver, DeliverAll, Key, Derive}
 use Rattle.group_model.specs.declared.entries.Entry.{Entry}
 use Rattle.group_model.specs.declared.entries.Outside.{Outside}
 use Rattle.server_steps.specs.Disks.{Counts}
@@ -61,10 +61,13 @@ pub record IsActing {D : Type 0} (acts : Members → Answer → Members → Type
   pub stays : next.host ≡ run.host
 
 module _ {D G V : Type 0} (d : DiskGhosts D) (g : SignerGhosts G) (signer : G) (v : VerifierGhosts V) (verifier : V) (block : ℕ → List ℕ) where
-  -- the answer to a request after these entries
+  -- The answer to a request after these entries. A run has no pulls yet: a request of one is no step.
   abbrev pub IsAnswered : List Entry → Asked → Run D → Answer → Outside → Run D → Type 0
   IsAnswered before (Create depth) run answer outside next = IsOpening before (IsCreation d block depth) run answer outside next
   IsAnswered before Begin run answer outside next = IsOpening before (IsBeginning d g signer) run answer outside next
+  IsAnswered before (AddRule rule) run answer outside next = ⊥
+  IsAnswered before (Introduce phase) run answer outside next = ⊥
+  IsAnswered before (Serve m datagram) run answer outside next = ⊥
   IsAnswered before (Join m) run answer outside next = IsServing d g signer block (Join m) run answer outside next
   IsAnswered before (Leave m) run answer outside next = IsServing d g signer block (Leave m) run answer outside next
   IsAnswered before Batch run answer outside next = IsServing d g signer block Batch run answer outside next

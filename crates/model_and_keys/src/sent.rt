@@ -10,7 +10,7 @@ use group_model::{
 use std::alloc::Global;
 use sym_closure::{Sent, held, sent_pairs, what_is_known_stays_known};
 
-/// A batch that sent one pair twice and replied to one member.
+/// A batch that sent one pair twice and replied to one member, and a message of a pull that told another one the traffic key.
 #[test]
 fn a_history_tells_what_was_held_and_sent(rt: HostRuntime) {
     assert!(rt; tells_what_was_held_and_sent(rt.alloc()) == Ok(true));
@@ -19,7 +19,10 @@ fn a_history_tells_what_was_held_and_sent(rt: HostRuntime) {
 fn tells_what_was_held_and_sent(alloc: Global) -> Result<bool, NoMemory> {
     let inner = pair(key(2, 1), key(1, 1));
     let told = [key(2, 1), key(1, 1), key(0, 1)];
-    let history = [batched(alloc, named(b'a'), &[inner, inner], &told)?];
+    let history = [
+        batched(alloc, named(b'a'), &[inner, inner], &told)?,
+        served(alloc, named(b'c'), &[key(0, 1)])?,
+    ];
     Ok(tells_what_was_held(alloc, &history) & tells_what_was_sent(alloc, &history))
 }
 
@@ -28,6 +31,7 @@ fn tells_what_was_held(alloc: Global, history: &[Entry]) -> bool {
     let names = [phase(b'b'), phase(b'a'), key(2, 1), key(1, 1), key(0, 1)];
     is_held(alloc, history, &members, &names)
         & is_held(alloc, history, &[named(b'b')], &[phase(b'b')])
+        & is_held(alloc, history, &[named(b'c')], &[phase(b'c'), key(0, 1)])
 }
 
 fn tells_what_was_sent(alloc: Global, history: &[Entry]) -> bool {
@@ -36,6 +40,7 @@ fn tells_what_was_sent(alloc: Global, history: &[Entry]) -> bool {
         pair(phase(b'a'), key(2, 1)),
         pair(phase(b'a'), key(1, 1)),
         pair(phase(b'a'), key(0, 1)),
+        pair(phase(b'c'), key(0, 1)),
     ];
     is_sent(alloc, history, &pairs)
 }
@@ -161,12 +166,7 @@ fn batched(
     wraps: &[Wrap],
     names: &[KeyName],
 ) -> Result<Entry, NoMemory> {
-    let says = SymReply {
-        member,
-        keyed_epoch: 1,
-        sequence: 0,
-        names: List::copy_of(alloc, names)?,
-    };
+    let says = said(alloc, member, names)?;
     let mut replies = List::new(alloc);
     replies.push(SentReply {
         says,
@@ -180,16 +180,44 @@ fn batched(
         pushes: None,
         replies,
     };
+    Ok(entry(Asked::Batch, Answer::Batched { output }))
+}
+
+/// An entry of a message of a pull that told a member these keys.
+fn served(alloc: Global, member: MemberName, names: &[KeyName]) -> Result<Entry, NoMemory> {
+    let says = said(alloc, member, names)?;
+    let asked = Asked::Serve {
+        member,
+        datagram: List::new(alloc),
+    };
+    let answer = Answer::Datagram {
+        octets: List::new(alloc),
+        names: Some(says),
+    };
+    Ok(entry(asked, answer))
+}
+
+/// What a reply with these keys says.
+fn said(alloc: Global, member: MemberName, names: &[KeyName]) -> Result<SymReply, NoMemory> {
+    Ok(SymReply {
+        member,
+        keyed_epoch: 1,
+        sequence: 0,
+        names: List::copy_of(alloc, names)?,
+    })
+}
+
+fn entry(asked: Asked, answer: Answer) -> Entry {
     let outside = Outside {
         disk_failed: false,
         found: None,
         place: 0,
     };
-    Ok(Entry {
-        asked: Asked::Batch,
+    Entry {
+        asked,
         outside,
-        answer: Answer::Batched { output },
-    })
+        answer,
+    }
 }
 
 fn pair(by: KeyName, gives: KeyName) -> Wrap {

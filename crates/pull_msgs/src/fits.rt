@@ -1,9 +1,10 @@
 //! That values fit what is written of them, as their types say.
 ghost use Rattle.std.specs.Prelude.{◌<◌, IsSome};
 ghost use Rattle.group_terms.specs.Octets.{AreOctets};
-ghost use Rattle.pull_msgs.specs.Fits.{PhaseFits};
-ghost use Rattle.sa_wire.specs.Texts.{KekPolicyFits, TekPolicyFits, PolicyFits};
+ghost use Rattle.pull_msgs.specs.Fits.{NonceFits, PhaseFits, PoliciesFit};
+ghost use Rattle.sa_wire.specs.Texts.{KekPolicyFits, TekPolicyFits};
 
+use crate::Nonce;
 use group_terms::Phase1;
 use sa_wire::{KekPolicy, SaPolicy, TekPolicy};
 
@@ -18,6 +19,13 @@ pub fn phase_fits(phase: &Phase1)
 {
     are_octets(&phase.cookies);
     are_octets(&phase.key);
+}
+
+/// A nonce has 8 to 128 octets.
+pub fn nonce_fits(nonce: &Nonce)
+    ensures { NonceFits nonce.now }
+{
+    are_octets(nonce.octets());
 }
 
 /// A number of 16 bits has 2 octets.
@@ -40,10 +48,10 @@ fn tek_policy_fits(tek: &TekPolicy)
 }
 
 /// Both policies fit.
-pub(crate) fn policies_fit(policy: &SaPolicy)
+pub fn policies_fit(policy: &SaPolicy)
     requires kek { IsSome policy.now.kek }
     requires tek { IsSome policy.now.tek }
-    ensures { PolicyFits policy.now }
+    ensures { PoliciesFit policy.now }
 {
     if let (Some(kek), Some(tek)) = (&policy.kek, &policy.tek) {
         kek_policy_fits(kek);

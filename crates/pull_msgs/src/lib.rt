@@ -2,7 +2,7 @@
 #![tactic(auto)]
 
 pub use faults::PullFault;
-pub use fits::phase_fits;
+pub use fits::{nonce_fits, phase_fits, policies_fit};
 pub use group_terms::{GroupName, Keyed, Octets, Phase1};
 pub use laws::{
     a_written_message_is_read, each_answer_has_its_cause, written_messages_have_their_size,

@@ -1,16 +1,6 @@
 //! What the types of values keep: they can be written.
 ghost use Rattle.gd_cipher.specs.Bytes.{AreBytes};
 ghost use Rattle.group_terms.specs.Octets.{AreOctets};
-ghost use Rattle.pull_msgs.specs.Fits.{NonceFits};
-
-use pull_msgs::Nonce;
-
-/// A nonce has 8 to 128 octets.
-pub(crate) fn nonce_fits(nonce: &Nonce)
-    ensures { NonceFits nonce.now }
-{
-    are_octets(nonce.octets());
-}
 
 /// A block has 16 octets.
 pub(crate) fn block_fits(block: &[u8; 16])

@@ -11,13 +11,13 @@ ghost use Rattle.pull_sessions.specs.declared.sas.Sa.{Sa};
 ghost use Rattle.pull_sessions.specs.declared.sas.Session.{Session};
 
 use crate::answers::{Kept, Looked};
-use crate::fits::{are_octets, block_fits, nonce_fits};
+use crate::fits::{are_octets, block_fits};
 use crate::looks::look_under;
 use crate::refusals::SessionRefusal;
 use crate::sas::{Sas, Session};
 use gd_wire::{a_header_has_one_text, read_header, what_is_read_can_be_written};
 use group_terms::{Keyed, MemberName, NoMemory, Octets, Phase1};
-use pull_msgs::{First, Nonce, Third, write_fourth, write_second};
+use pull_msgs::{First, Nonce, Third, nonce_fits, write_fourth, write_second};
 use sa_wire::SaPolicy;
 use std::alloc::Global;
 use std::marker::Model;

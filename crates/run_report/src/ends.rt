@@ -107,6 +107,8 @@ pub fn ran_out(entry: &Entry) -> bool
     match &entry.answer {
         Answer::Refused { why } => matches!(why, Refusal::NoMemory),
         Answer::Done
+        | Answer::RuleNumber { .. }
+        | Answer::Datagram { .. }
         | Answer::Queued
         | Answer::Batched { .. }
         | Answer::Opened { .. }

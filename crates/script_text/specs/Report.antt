@@ -10,13 +10,16 @@ use Rattle.group_model.specs.declared.entries.Entry.{Entry}
 use Rattle.group_model.specs.declared.entries.GroupSeen.{GroupSeen}
 use Rattle.group_model.specs.declared.entries.Output.{Output}
 use Rattle.group_model.specs.declared.entries.PushPair.{PushPair}
+use Rattle.group_model.specs.declared.entries.SentReply.{SentReply}
 use Rattle.group_model.specs.declared.entries.Standing.{Standing}
+use Rattle.group_model.specs.declared.entries.SymReply.{SymReply}
 use Rattle.group_model.specs.declared.entries.Asked.{Asked}
-use Rattle.group_model.specs.declared.entries.Asked.TheVariants.{Create, Begin, Join, Leave, Batch, Halt, Reopen, Show, Keep, Deliver, DeliverAll, Key, Derive}
+use Rattle.group_model.specs.declared.entries.Asked.TheVariants.{AddRule, Create, Begin, Introduce, Serve, Join, Leave, Batch, Halt, Reopen, Show, Keep, Deliver, DeliverAll, Key, Derive}
 use Rattle.group_model.specs.declared.entries.Answer.{Answer}
-use Rattle.group_model.specs.declared.entries.Answer.TheVariants.{Opened, Queued, Done, Nothing, Batched, Shown, Kept, Older, TookRoot, TookTraffic, PushRefused, KeyIs, Derived, Refused}
+use Rattle.group_model.specs.declared.entries.Answer.TheVariants.{RuleNumber, Datagram, Opened, Queued, Done, Nothing, Batched, Shown, Kept, Older, TookRoot, TookTraffic, PushRefused, KeyIs, Derived, Refused}
 use Rattle.group_model.specs.declared.entries.Refusal.{Refusal}
-use Rattle.group_model.specs.declared.entries.Refusal.TheVariants.{NeedsReopen, NotMember, AlreadyPending, TreeFull, BatchFull, Spent, DiskFault, NotAJournal, NoMemory}
+use Rattle.group_model.specs.declared.entries.Refusal.TheVariants as refusals
+use Rattle.group_model.specs.declared.entries.Refusal.TheVariants.{NeedsReopen, UnknownPeer, WrongStep, BadHash, WrongGroup, Denied, NotMember, AlreadyPending, TreeFull, BatchFull, Spent, DiskFault, PhaseTaken, PhaseFull, NotAJournal, NoMemory}
 use Rattle.group_model.specs.declared.entries.Counter.{Counter}
 use Rattle.group_model.specs.declared.entries.Counter.TheVariants.{Epoch, Sequence}
 use Rattle.group_terms.specs.declared.pushes.PushRefusal.{PushRefusal}
@@ -35,12 +38,20 @@ counter_text Sequence = codes "sequence "
 -- the reason for which a request is refused
 abbrev pub why_text : Refusal → List ℕ
 why_text NeedsReopen = codes "needs-reopen"
+why_text (refusals.Malformed message at) = codes "malformed"
+why_text UnknownPeer = codes "unknown-peer"
+why_text WrongStep = codes "wrong-step"
+why_text (BadHash carried expected) = codes "bad-hash"
+why_text WrongGroup = codes "wrong-group"
+why_text (Denied rule) = codes "denied " ++ decimal rule
 why_text NotMember = codes "not-member"
 why_text AlreadyPending = codes "already-pending"
 why_text (TreeFull held) = codes "tree-full " ++ decimal held
 why_text (BatchFull pending) = codes "batch-full " ++ decimal pending
 why_text (Spent counter at) = codes "spent " ++ (counter_text counter ++ decimal at)
 why_text DiskFault = codes "disk-fault"
+why_text PhaseTaken = codes "phase-taken"
+why_text (PhaseFull held) = codes "phase-full " ++ decimal held
 why_text (NotAJournal at) = codes "not-a-journal " ++ decimal at
 why_text NoMemory = codes "no-memory"
 
@@ -120,6 +131,32 @@ begin_text (Opened group resent) = found_line group ++ pair_lines resent
 begin_text (Refused why) = refusal_line (codes "open") why
 begin_text answer = []
 
+-- the rule has this number
+abbrev pub rule_text : Answer → List ℕ
+rule_text (RuleNumber number) = line_with (codes "rule" ∷ decimal number ∷ [])
+rule_text answer = []
+
+-- an SA that is introduced has no line
+abbrev pub introduction_text : Name → Answer → List ℕ
+introduction_text m (Refused why) = refusal_line m why
+introduction_text m answer = []
+
+-- a message to a member: which one, how many octets it has, and these in hex
+abbrev pub message_line : List ℕ → Name → List ℕ → List ℕ
+message_line which m octets = line_with (which ∷ m ∷ decimal (length octets) ∷ encode_lower octets ∷ [])
+
+-- a message with key names is a fourth message; any other is a second
+abbrev pub which_message : Option SymReply → List ℕ
+which_message None = codes "second"
+which_message (Some reply) = codes "fourth"
+
+-- the message to a member, or its join waits for the next batch
+abbrev pub serve_text : Name → Answer → List ℕ
+serve_text m (Datagram octets names) = message_line (which_message names) m octets
+serve_text m Queued = line_with (m ∷ codes "queued" ∷ [])
+serve_text m (Refused why) = refusal_line m why
+serve_text m answer = []
+
 -- the name waits for the next batch, or is a member already
 abbrev pub join_text : Name → Answer → List ℕ
 join_text m Queued = line_with (m ∷ codes "queued" ∷ [])
@@ -133,9 +170,14 @@ leave_text m Done = line_with (m ∷ codes "leaving" ∷ [])
 leave_text m (Refused why) = refusal_line m why
 leave_text m answer = []
 
--- what the batch made, then each of its wraps in order, and the pushes that were made of them
+-- a reply of a batch, where it has a datagram
+abbrev pub reply_line : SentReply → List ℕ
+reply_line reply = if length reply.datagram == 0 then [] else message_line (codes "fourth") reply.says.member reply.datagram
+
+-- what the batch made, then each of its wraps in order, the pushes that were made of them, and the fourth messages
 abbrev pub batch_text : Answer → List ℕ
-batch_text (Batched output) = epoch_line output ++ (flat_map wrap_line output.wraps ++ pair_lines output.pushes)
+batch_text (Batched output) =
+    epoch_line output ++ (flat_map wrap_line output.wraps ++ (pair_lines output.pushes ++ flat_map reply_line output.replies))
 batch_text (Refused why) = refusal_line (codes "batch") why
 batch_text answer = []
 
@@ -198,6 +240,9 @@ derive_text epoch members answer = []
 abbrev pub answer_text : Asked → Answer → List ℕ
 answer_text (Create depth) answer = create_text depth answer
 answer_text Begin answer = begin_text answer
+answer_text (AddRule rule) answer = rule_text answer
+answer_text (Introduce phase) answer = introduction_text phase.member answer
+answer_text (Serve m datagram) answer = serve_text m answer
 answer_text (Join m) answer = join_text m answer
 answer_text (Leave m) answer = leave_text m answer
 answer_text Batch answer = batch_text answer

@@ -2,6 +2,7 @@
 ghost use Rattle.std.specs.Prelude.{◌≡◌, ◌++◌, OnOk};
 ghost use Rattle.script_text.specs.Report.{join_text, leave_text, batch_text, epoch_line};
 
+use crate::messages::append_replies;
 use crate::pushes::append_pair;
 use crate::refusals::append_refusal;
 use crate::seen::append_counts;
@@ -56,7 +57,8 @@ pub fn append_batch(alloc: Global, answer: &Answer, out: &mut Octets) -> Result<
         Answer::Batched { output } => {
             append_epoch(alloc, output, out)?;
             append_wraps(alloc, output.wraps.as_slice(), out)?;
-            append_pair(alloc, &output.pushes, out)
+            append_pair(alloc, &output.pushes, out)?;
+            append_replies(alloc, output.replies.as_slice(), out)
         }
         Answer::Refused { why } => append_refusal(alloc, b"batch", why, out),
         _ => Ok(()),

@@ -12,6 +12,7 @@ mod derivations;
 mod ends;
 mod lines;
 mod members;
+mod messages;
 mod numbers;
 mod openings;
 mod pushes;

@@ -1,7 +1,8 @@
 //! The lines of pushes.
-ghost use Rattle.std.specs.Prelude.{◌≡◌, ◌++◌, OnOk};
+ghost use Rattle.std.specs.Prelude.{◌≡◌, [], ◌∷◌, ◌++◌, length, OnOk};
+ghost use Rattle.std.specs.Fmt.{decimal};
 ghost use Rattle.hex.specs.Hex.{encode_lower};
-ghost use Rattle.script_text.specs.Report.{push_line, pair_lines, push_why_text};
+ghost use Rattle.script_text.specs.Report.{line_with, push_line, pair_lines, push_why_text};
 
 use crate::numbers::{append_number, append_place};
 use group_model::{NoMemory, Octets, PushPair, PushRefusal};
@@ -31,6 +32,13 @@ fn append_push(
 {
     out.extend(b"push ")?;
     append_place(alloc, sequence, out)?;
+    append_octets(alloc, octets, out)
+}
+
+/// Puts the end of the line of a push or a message at the end of a text: how many octets it has, and these in hex.
+pub fn append_octets(alloc: Global, octets: &[u8], out: &mut Octets) -> Result<(), NoMemory>
+    ensures { OnOk result (out.new ≡ out.old ++ 32 ∷ line_with (decimal (length octets.now) ∷ encode_lower octets.now ∷ [])) }
+{
     out.extend(b" ")?;
     append_place(alloc, octets.len() as u64, out)?;
     out.extend(b" ")?;

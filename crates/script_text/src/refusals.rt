@@ -26,6 +26,12 @@ fn append_why(alloc: Global, why: &Refusal, out: &mut Octets) -> Result<(), NoMe
 {
     match why {
         Refusal::NeedsReopen => out.extend(b"needs-reopen"),
+        Refusal::Malformed { .. } => out.extend(b"malformed"),
+        Refusal::UnknownPeer => out.extend(b"unknown-peer"),
+        Refusal::WrongStep => out.extend(b"wrong-step"),
+        Refusal::BadHash { .. } => out.extend(b"bad-hash"),
+        Refusal::WrongGroup => out.extend(b"wrong-group"),
+        Refusal::Denied { rule } => append_count(alloc, b"denied ", *rule, out),
         Refusal::NotMember => out.extend(b"not-member"),
         Refusal::AlreadyPending => out.extend(b"already-pending"),
         Refusal::TreeFull { held } => append_count(alloc, b"tree-full ", *held, out),
@@ -35,6 +41,8 @@ fn append_why(alloc: Global, why: &Refusal, out: &mut Octets) -> Result<(), NoMe
             append_spent(alloc, *counter, *at, out)
         }
         Refusal::DiskFault => out.extend(b"disk-fault"),
+        Refusal::PhaseTaken => out.extend(b"phase-taken"),
+        Refusal::PhaseFull { held } => append_count(alloc, b"phase-full ", *held, out),
         Refusal::NotAJournal { at } => {
             out.extend(b"not-a-journal ")?;
             append_place(alloc, *at, out)

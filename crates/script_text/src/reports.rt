@@ -3,6 +3,7 @@ ghost use Rattle.script_text.specs.Report.{entry_text, answer_text};
 
 use crate::changes::{append_batch, append_join, append_leave};
 use crate::derivations::append_derive;
+use crate::messages::{append_introduction, append_rule, append_serve};
 use crate::openings::{append_begin, append_create, append_halt, append_reopen};
 use crate::seen::append_show;
 use crate::stores::{append_deliver, append_deliver_all, append_fingerprint, append_keep};
@@ -31,6 +32,9 @@ fn append_answer(
     match asked {
         Asked::Create { depth } => append_create(alloc, *depth, answer, out),
         Asked::Begin => append_begin(alloc, answer, out),
+        Asked::AddRule { .. } => append_rule(alloc, answer, out),
+        Asked::Introduce { phase } => append_introduction(alloc, &phase.member, answer, out),
+        Asked::Serve { member, .. } => append_serve(alloc, member, answer, out),
         Asked::Join { member } => append_join(alloc, member, answer, out),
         Asked::Leave { member } => append_leave(alloc, member, answer, out),
         Asked::Batch => append_batch(alloc, answer, out),

@@ -1,6 +1,8 @@
--- A core that closes a batch: the answer and the next host, whatever host it was the server of.
-use Rattle.std.proofs.Common.{◌≡◌, ◌∙◌, inl, inr, ⊎_elim, ℕ, ◌≤◌, Bool, true, false, cond, List, [], ◌∷◌, ◌++◌, map}
+-- A key server that closes a batch: the answer and the next host, whatever host it was on.
+use Rattle.std.proofs.Common.{◌≡◌, ◌∙◌, inl, inr, ⊎_elim, ℕ, ◌≤◌, Bool, true, false, cond, List, [], ◌∷◌, ◌++◌}
 use Rattle.std.proofs.Common.{Option, None, Some, Result, Ok, Err, refl, sym, ap, subst, arith}
+use Rattle.std.specs.Prelude.{IsErrAnd}
+use Rattle.std.specs.List.{All}
 use Rattle.std.proofs.lemmas.List.{length-map}
 use Rattle.gd_disk.specs.Disks.{Knows}
 use Rattle.gd_disk.specs.MomentLaws.{leaves_now, shown_before}
@@ -9,6 +11,7 @@ use Rattle.gd_disk.specs.declared.disks.Disk.{Ghosts as DiskGhosts}
 use Rattle.gd_edges.specs.declared.draws.Draws.{Ghosts as DrawGhosts}
 use Rattle.gd_edges.specs.declared.signers.Signer.{Ghosts as SignerGhosts}
 use Rattle.group_terms.specs.Faults.{Rose}
+use Rattle.group_terms.specs.declared.patterns.Rule.{Rule}
 use Rattle.group_terms.specs.declared.values.BatchValues.{BatchValues}
 use Rattle.group_values.specs.Drawing.{blocks_for}
 use Rattle.group_values.specs.Values.{Made, batches_made}
@@ -35,15 +38,20 @@ use Rattle.gcks_core.specs.Prepares.{IsCoreOutputOf, IsReadyFor, PreparedBatch}
 use Rattle.gcks_core.specs.Stands.{Stands}
 use Rattle.gcks_core.specs.Stored.{IsFileOf, IsOnDisk, stored_list}
 use Rattle.gcks_core.specs.Views.{View}
+use Rattle.pull_sessions.specs.Sessions.{Sessions}
+use Rattle.pull_sessions.specs.declared.sas.Sa.{Sa}
 use Rattle.server_steps.specs.Batches.{IsBatching, PutsOut}
 use Rattle.server_steps.specs.Disks.{Counts, HasJournal}
 use Rattle.server_steps.specs.Entries.{beside}
+use Rattle.server_steps.specs.Fourths.{IsReplyMade, settled}
 use Rattle.server_steps.specs.Hosts.{Host}
-use Rattle.server_steps.specs.Private.Told.{sent_reply}
+use Rattle.server_steps.specs.Private.Told.{AreRepliesTo}
 use Rattle.server_steps.specs.Reflects.{IsServerOf}
-use Rattle.server_steps.specs.Replies.{AreTold, AreToldBy, came_by, came_in}
-use Rattle.server_steps.specs.Serves.{GoesOn, ServesBatch}
-use Rattle.server_steps.proofs.ReplyLemmas.{Told, are_told, joiners_in, no_datagrams, nobody_told, replies_say}
+use Rattle.server_steps.specs.Replies.{AreTold, AreToldBy, came_in}
+use Rattle.server_steps.specs.Serves.{GoesOn, ServesBatch, answer_closed, told_with}
+use Rattle.server_steps.specs.Views.{View as ServerView, server_of}
+use Rattle.server_steps.specs.declared.batching.Closed.{Closed}
+use Rattle.server_steps.proofs.ReplyLemmas.{Told, are_told, joiners_in, nobody_told, replies_made, replies_say}
 use Rattle.server_steps.proofs.StillLemmas.{keeps_still}
 
 -- ---- a reason against a batch is no fault of the disk
@@ -74,38 +82,35 @@ with_replies output replies = record {
   replies = replies;
 }
 
--- what a batch that is ready puts out
-abbrev pub output_of : PreparedBatch → Output
-output_of ready = with_replies ready.output (map sent_reply ready.output.told)
-
 module _ {D G R : Type 0} (d : DiskGhosts D) (g : SignerGhosts G) (draws : DrawGhosts R) where
-  -- the host of which a core is the server
-  abbrev at_host : View D G R → Server → Host D
-  at_host core server = record { disk = core.disk; head = core.head; server = server }
+  -- the host of a key server
+  abbrev at_host : ServerView D G R → Server → Host D
+  at_host view server = record { disk = view.core.disk; head = view.core.head; server = server; rules = view.rules; sessions = view.sessions }
 
-  -- the answer is that step of a host, the core is the server of the host after it, and this is told to who came in
-  record Closes (old : View D G R) (answer : Answer) (told : Told) (new : View D G R) (host next : Host D) : Type 0 where
-    answered : IsBatching d g old.signer (draws.block_at old.draws) host answer (beside answer host.server.place) next
+  -- the answer is that step of a host, this is the server of the host after it, and this is told to who came in
+  record Closes (old : ServerView D G R) (answer : Answer) (told : Told) (new : ServerView D G R) (host next : Host D) : Type 0 where
+    answered : IsBatching d g old.core.signer (draws.block_at old.core.draws) host answer (beside answer host.server.place) next
     keeps : Keeps d host.disk next.disk
     counts : Counts d (disk_failed_by answer) host.disk next.disk
     server : IsServerOf d draws new next
     keys : AreToldBy answer next told
 
   -- it is enough to look at these hosts
-  by_core : (old : View D G R) (answer : Answer) (told : Told) (new : View D G R) → GoesOn draws old new
-      → ((server : Server) → Stands draws old server → HasJournal d (at_host old server)
+  by_core : (old : ServerView D G R) (answer : Answer) (told : Told) (new : ServerView D G R) → GoesOn draws old new
+      → ((server : Server) → Stands draws old.core server → HasJournal d (at_host old server)
       → (next : Host D) × Closes old answer told new (at_host old server) next)
       → ServesBatch d g draws answer told old new
   by_core old answer told new goes_on each = record {
     goes_on = goes_on;
     each = λ host is.
-        let same : at_host old host.server ≡ host = λ i. record { disk = sym is.disk i; head = sym is.head i; server = host.server } in
+        let same : at_host old host.server ≡ host =
+        λ i. record { disk = sym is.disk i; head = sym is.head i; server = host.server; rules = sym is.rules i; sessions = sym is.sessions i } in
         let done : (next : Host D) × Closes old answer told new host next =
         subst (λ at. (next : Host D) × Closes old answer told new at next) same
         (each host.server is.stands (subst (HasJournal d) (sym same) is.journal)) in (
           done.0,
           record {
-            answered = subst (λ place. IsBatching d g old.signer (draws.block_at old.draws) host answer (beside answer place) done.0)
+            answered = subst (λ place. IsBatching d g old.core.signer (draws.block_at old.core.draws) host answer (beside answer place) done.0)
                 (sym is.stands.place) done.1.answered;
             keeps = done.1.keeps;
             counts = done.1.counts;
@@ -120,27 +125,36 @@ module _ {D G R : Type 0} (d : DiskGhosts D) (g : SignerGhosts G) (draws : DrawG
   Prepares old result mid = (server : Server) → Stands draws old server
       → (next : Server) × IsPreparation (draws.block_at old.draws) server result next × Stands draws mid next
 
-  module _ (old mid : View D G R) (rest : mid ≡ record old { draws = mid.draws })
+  -- rules and sessions beside a core that closes a batch
+  module _ (rules : List Rule) (sessions : Sessions) (old mid : View D G R) (rest : mid ≡ record old { draws = mid.draws })
       (blocks : (k : ℕ) → draws.block_at mid.draws k ≡ draws.block_at old.draws k) where
     -- ---- nothing was stored
 
-    goes_on_drawn : GoesOn draws old mid
+    abbrev was : ServerView D G R
+    was = server_of old rules sessions
+
+    abbrev is_now : ServerView D G R
+    is_now = server_of mid rules sessions
+
+    goes_on_drawn : GoesOn draws was is_now
     goes_on_drawn = record { signer = ap (λ (core : View D G R). core.signer) rest; blocks = blocks }
 
-    is_server : (server : Server) → Stands draws mid server → HasJournal d (at_host old server) → IsServerOf d draws mid (at_host old server)
+    is_server : (server : Server) → Stands draws mid server → HasJournal d (at_host was server) → IsServerOf d draws is_now (at_host was server)
     is_server server stands journal = record {
       disk = ap (λ (core : View D G R). core.disk) (sym rest);
       head = ap (λ (core : View D G R). core.head) (sym rest);
       stands = stands;
       journal = journal;
+      rules = refl;
+      sessions = refl;
     }
 
     -- no memory was left
-    memory_ends : (server : Server) → HasJournal d (at_host old server)
+    memory_ends : (server : Server) → HasJournal d (at_host was server)
         → (n : ℕ) → n ≤ blocks_to_draw server → Stands draws mid (after_draws server n)
-        → (next : Host D) × Closes old (Refused NoMemory) [] mid (at_host old server) next
+        → (next : Host D) × Closes was (Refused NoMemory) [] is_now (at_host was server) next
     memory_ends server journal n few stands = (
-      at_host old (after_draws server n),
+      at_host was (after_draws server n),
       record {
         answered = inr (inr (inr (record { answers = refl; beside = refl; n = n; few = few; now = refl })));
         keeps = keeps_still d old.disk;
@@ -150,25 +164,25 @@ module _ {D G R : Type 0} (d : DiskGhosts D) (g : SignerGhosts G) (draws : DrawG
       },
     )
 
-    pub lacks_memory : (values : BatchValues) → Prepares old (Ok values) mid → ServesBatch d g draws (Refused NoMemory) [] old mid
-    lacks_memory values prepares = by_core old (Refused NoMemory) [] mid goes_on_drawn each
+    pub lacks_memory : (values : BatchValues) → Prepares old (Ok values) mid → ServesBatch d g draws (Refused NoMemory) [] was is_now
+    lacks_memory values prepares = by_core was (Refused NoMemory) [] is_now goes_on_drawn each
       where
-        each : (server : Server) → Stands draws old server → HasJournal d (at_host old server)
-            → (next : Host D) × Closes old (Refused NoMemory) [] mid (at_host old server) next
+        each : (server : Server) → Stands draws old server → HasJournal d (at_host was server)
+            → (next : Host D) × Closes was (Refused NoMemory) [] is_now (at_host was server) next
         each server stands journal =
             let step = prepares server stands in
             let all = blocks_for (coming_positions server) in
             let few : all ≤ blocks_to_draw server = subst (λ reason. all ≤ drawn_unless reason all) (sym step.1.0) (omega arith) in
             memory_ends server journal all few (subst (Stands draws mid) step.1.2 step.2)
 
-    pub is_refused : (why : Refusal) → Prepares old (Err why) mid → ServesBatch d g draws (Refused why) [] old mid
-    is_refused why prepares = by_core old (Refused why) [] mid goes_on_drawn each
+    pub is_refused : (why : Refusal) → Prepares old (Err why) mid → ServesBatch d g draws (Refused why) [] was is_now
+    is_refused why prepares = by_core was (Refused why) [] is_now goes_on_drawn each
       where
-        each : (server : Server) → Stands draws old server → HasJournal d (at_host old server)
-            → (next : Host D) × Closes old (Refused why) [] mid (at_host old server) next
+        each : (server : Server) → Stands draws old server → HasJournal d (at_host was server)
+            → (next : Host D) × Closes was (Refused why) [] is_now (at_host was server) next
         each server stands journal =
             let step = prepares server stands in
-            let host : Host D = at_host old server in
+            let host : Host D = at_host was server in
             ⊎_elim
             (λ (refused : (refusal_to_batch server ≡ Some why) × (step.0 ≡ server)).
             let no = no_fault server why refused.0 in (
@@ -190,22 +204,24 @@ module _ {D G R : Type 0} (d : DiskGhosts D) (g : SignerGhosts G) (draws : DrawG
               },
             ))
             (λ (ran : (why ≡ NoMemory) × ((n : ℕ) × (n ≤ blocks_to_draw server) × (step.0 ≡ after_draws server n))).
-            subst (λ at. (next : Host D) × Closes old (Refused at) [] mid host next) (sym ran.0)
+            subst (λ at. (next : Host D) × Closes was (Refused at) [] is_now host next) (sym ran.0)
             (memory_ends server journal ran.1.0 ran.1.1 (subst (Stands draws mid) ran.1.2 step.2)))
             step.1
 
   -- ---- what a batch that is ready puts out, where it is stored
 
-  -- by a server, with this batch
-  record IsOut (mid : View D G R) (ready : PreparedBatch) (server : Server) (made : Made) : Type 0 where
+  -- by a server, with this batch and these replies, where these are the SAs
+  record IsOut (mid : View D G R) (sas : List Sa) (ready : PreparedBatch) (replies : List SentReply) (server : Server) (made : Made) : Type 0 where
     output_is : IsCoreOutputOf g mid.signer mid.head.depth mid.head.spi (server.list ++ made ∷ []) ready.output
-    says : says_of (map sent_reply ready.output.told) ≡ replies_to mid.head.depth (batches_made (server.list ++ made ∷ [])) server.queue
-    keys : AreTold mid.head.depth mid.head.spi (server.list ++ made ∷ []) (came_in (output_of ready)) ready.output.told
+    says : says_of replies ≡ replies_to mid.head.depth (batches_made (server.list ++ made ∷ [])) server.queue
+    sends : All (IsReplyMade mid.head.depth mid.head.spi (server.list ++ made ∷ []) sas) replies
+    keys : AreTold mid.head.depth mid.head.spi (server.list ++ made ∷ []) (came_in (with_replies ready.output replies)) ready.output.told
 
-  module _ (law : BatchesSayWhoIsMember) (mid new : View D G R) (ready : PreparedBatch) (server : Server) (stands : Stands draws mid server)
+  module _ (law : BatchesSayWhoIsMember) (mid new : View D G R) (sas : List Sa) (ready : PreparedBatch) (replies : List SentReply)
+      (are : AreRepliesTo sas ready.output.told replies) (server : Server) (stands : Stands draws mid server)
       (is_ready : IsReadyFor g mid.signer mid.head mid.tree mid.queue server.list ready)
       (after : Stands draws new (with_batch server (coming_batch server ready.values))) where
-    goes_out : IsOut mid ready server (coming_batch server ready.values)
+    goes_out : IsOut mid sas ready replies server (coming_batch server ready.values)
     goes_out =
         let is = subst (λ queue. IsReadyFor g mid.signer mid.head mid.tree queue server.list ready) stands.queue is_ready in
         let made : Made = coming_batch server ready.values in
@@ -213,31 +229,34 @@ module _ {D G R : Type 0} (d : DiskGhosts D) (g : SignerGhosts G) (draws : DrawG
         let valid = subst (λ depth. IsValid depth (batches_made list)) (after.tree_depth ∙ sym stands.depth) after.tree.valid in
         record {
           output_is = is.puts_out;
-          says = replies_say mid.head.depth mid.head.spi list ready.output.told server.queue is.joiners_are is.replies_are;
-          keys = are_told mid.head.depth mid.head.spi list ready.output.told server.queue is.joiners_are
+          says = replies_say mid.head.depth mid.head.spi list sas ready.output.told replies server.queue are is.joiners_are is.replies_are;
+          sends = replies_made mid.head.depth mid.head.spi list sas ready.output.told replies are is.replies_are;
+          keys = are_told mid.head.depth mid.head.spi list sas ready.output.told replies server.queue are is.joiners_are
               (joiners_in law mid.head.depth server.list made valid) is.replies_are;
         }
 
     -- this is told by the server that stored it
-    pub is_told : new.head ≡ mid.head
-        → (next : Server) × Stands draws new next × AreTold next.depth new.head.spi next.list (came_in (output_of ready)) ready.output.told
+    pub is_told : new.head ≡ mid.head → (next : Server) × Stands draws new next
+        × AreTold next.depth new.head.spi next.list (came_in (with_replies ready.output replies)) ready.output.told
     is_told same_head =
-        let next : Server = with_batch server (coming_batch server ready.values) in (
+        let next : Server = with_batch server (coming_batch server ready.values) in
+        let names = came_in (with_replies ready.output replies) in (
           next,
           after,
-          subst (λ head. AreTold server.depth head.spi next.list (came_in (output_of ready)) ready.output.told) (sym same_head)
-              (subst (λ depth. AreTold depth mid.head.spi next.list (came_in (output_of ready)) ready.output.told) stands.depth goes_out.keys),
+          subst (λ head. AreTold server.depth head.spi next.list names ready.output.told) (sym same_head)
+              (subst (λ depth. AreTold depth mid.head.spi next.list names ready.output.told) stands.depth goes_out.keys),
         )
 
   -- nobody is told anything by a batch that was refused
-  pub tells_nobody : (core : View D G R) (server : Server) (answer : Answer) (told : Told) (why : Refusal) → Stands draws core server → answer ≡ Refused why
-      → told ≡ [] → (server : Server) × Stands draws core server × AreTold server.depth core.head.spi server.list (came_by answer) told
-  tells_nobody core server answer told why stands is none = (
-    server,
-    stands,
-    subst (λ (x : Answer × Told). AreTold server.depth core.head.spi server.list (came_by x.0) x.1) (λ i. (sym is i, sym none i))
-        (nobody_told server.depth core.head.spi server.list),
-  )
+  pub tells_nobody : (core : View D G R) (server : Server) → Stands draws core server
+      → (server : Server) × Stands draws core server × AreTold server.depth core.head.spi server.list [] []
+  tells_nobody core server stands = (server, stands, nobody_told server.depth core.head.spi server.list)
+
+  -- what holds of a refusal holds of the answer to a call that handed it on
+  pub answered_err : (P : Answer → Told → Type 0) (result : Result Closed Refusal) (why : Refusal) → IsErrAnd result (λ reason. reason ≡ why)
+      → P (Refused why) [] → P (answer_closed result) (told_with result)
+  answered_err P (Ok closed) why is holds = absurd is
+  answered_err P (Err reason) why is holds = subst (λ reason. P (Refused reason) []) (sym is) holds
 
   -- ---- it was stored, or that failed
 
@@ -245,7 +264,7 @@ module _ {D G R : Type 0} (d : DiskGhosts D) (g : SignerGhosts G) (draws : DrawG
   abbrev drawn_for : Server → Server
   drawn_for server = after_draws server (blocks_for (coming_positions server))
 
-  module _ (mid new : View D G R) (before : R) (blocks : (k : ℕ) → draws.block_at mid.draws k ≡ draws.block_at before k) (ready : PreparedBatch)
+  module _ (rules : List Rule) (sessions : Sessions) (mid new : View D G R) (before : R) (blocks : (k : ℕ) → draws.block_at mid.draws k ≡ draws.block_at before k) (ready : PreparedBatch)
       (prepares : Prepares (record mid { draws = before }) (Ok ready.values) mid)
       (fit : ValuesFit ready.values)
       (counts_now : (t : ℕ) (c : List ℕ) → t ≤ d.moment new.disk → d.may_leave new.disk c → d.left_since new.disk t c)
@@ -255,8 +274,11 @@ module _ {D G R : Type 0} (d : DiskGhosts D) (g : SignerGhosts G) (draws : DrawG
     abbrev old : View D G R
     old = record mid { draws = before }
 
-    goes_on_stored : GoesOn draws old new
-    goes_on_stored = record { signer = same.0; blocks = λ k. ap (λ at. draws.block_at at k) same.1 ∙ blocks k }
+    abbrev was_drawn : ServerView D G R
+    was_drawn = server_of old rules sessions
+
+    goes_on_stored : (after : Sessions) → GoesOn draws was_drawn (server_of new rules after)
+    goes_on_stored after = record { signer = same.0; blocks = λ k. ap (λ at. draws.block_at at k) same.1 ∙ blocks k }
 
     module _ (server : Server) (stands : Stands draws old server) where
       -- the batch with its values as they are, and as they were drawn
@@ -287,7 +309,7 @@ module _ {D G R : Type 0} (d : DiskGhosts D) (g : SignerGhosts G) (draws : DrawG
 
     -- ---- it was stored
 
-    module _ (law : BatchesSayWhoIsMember)
+    module _ (law : BatchesSayWhoIsMember) (replies : List SentReply) (are : AreRepliesTo sessions.sas ready.output.told replies)
         (is_ready : (server : Server) → Stands draws mid server → IsReadyFor g mid.signer mid.head mid.tree mid.queue server.list ready)
         (step : (server : Server) → Stands draws mid server
         → (next : Server) × (next ≡ with_batch server (coming_batch server ready.values)) × Stands draws new next)
@@ -299,7 +321,7 @@ module _ {D G R : Type 0} (d : DiskGhosts D) (g : SignerGhosts G) (draws : DrawG
         (faults : d.faults new.disk ≡ d.faults mid.disk) where
       -- what is known of a batch that was stored
       record IsKnown (server : Server) (made : Made) : Type 0 where
-        out : IsOut mid ready server made
+        out : IsOut mid sessions.sas ready replies server made
         stands_after : Stands draws new (with_batch (drawn_for server) made)
         on_disk : IsOnDisk d mid.disk mid.head server → IsOnDisk d new.disk mid.head (with_batch (drawn_for server) made)
         left : Knows (shown d mid.disk) (λ file. IsFileOf mid.head server file → (c : List ℕ) → d.may_leave new.disk c
@@ -311,28 +333,31 @@ module _ {D G R : Type 0} (d : DiskGhosts D) (g : SignerGhosts G) (draws : DrawG
             let now = stands_drawn server stands in
             let taken = step (drawn_for server) now in
             let after = subst (Stands draws new) taken.1 taken.2 in
-            let out = goes_out law mid new ready (drawn_for server) now (is_ready (drawn_for server) now) after in
+            let out = goes_out law mid new sessions.sas ready replies are (drawn_for server) now (is_ready (drawn_for server) now) after in
             subst (IsKnown server) (same_made server stands) (record {
-              out = record { output_is = out.output_is; says = out.says; keys = out.keys };
+              out = record { output_is = out.output_is; says = out.says; sends = out.sends; keys = out.keys };
               stands_after = after;
               on_disk = λ on_disk. subst (λ head. IsOnDisk d new.disk head (with_batch (drawn_for server) (made_ready server stands))) same.2
                   (stored (drawn_for server) now on_disk);
               left = durable (drawn_for server) now;
             })
 
+        abbrev output_after : Output
+        output_after = with_replies ready.output replies
+
         abbrev list_after : List Made
         list_after = server.list ++ made_drawn server stands ∷ []
 
-        keys_after : AreTold server.depth mid.head.spi list_after (came_in (output_of ready)) ready.output.told
+        keys_after : AreTold server.depth mid.head.spi list_after (came_in output_after) ready.output.told
         keys_after =
-            subst (λ depth. AreTold depth mid.head.spi list_after (came_in (output_of ready)) ready.output.told) (stands_drawn server stands).depth known.out.keys
+            subst (λ depth. AreTold depth mid.head.spi list_after (came_in output_after) ready.output.told) (stands_drawn server stands).depth known.out.keys
 
-        puts_out : PutsOut d g mid.signer (draws.block_at before) (at_host old server) (output_of ready)
+        puts_out : PutsOut d g mid.signer (draws.block_at before) (at_host was_drawn server) output_after
         puts_out =
             let is = known.out.output_is in
             let length_is = sym (length-map list_after (λ (made : Made). made.changes)) in
             let now = stands_drawn server stands in
-            let says : IsOutputOf mid.head.depth (batches_made list_after) server.queue (output_of ready) = record {
+            let says : IsOutputOf mid.head.depth (batches_made list_after) server.queue output_after = record {
               epoch = is.epoch ∙ length_is;
               sequence = is.sequence ∙ ap (sequence_at mid.head.depth (batches_made list_after)) length_is;
               members = is.members;
@@ -340,17 +365,23 @@ module _ {D G R : Type 0} (d : DiskGhosts D) (g : SignerGhosts G) (draws : DrawG
               replies = known.out.says;
             } in
             record {
-              says = subst (λ depth. IsOutputOf depth (batches_made list_after) server.queue (output_of ready)) now.depth says;
+              says = subst (λ depth. IsOutputOf depth (batches_made list_after) server.queue output_after) now.depth says;
               pushes = subst (λ depth. IsPairIfStayed g mid.signer depth mid.head.spi list_after ready.output.pushes) now.depth is.pushes;
-              no_datagrams = no_datagrams ready.output.told;
+              replies = subst (λ depth. All (IsReplyMade depth mid.head.spi list_after sessions.sas) replies) now.depth known.out.sends;
               told = ready.output.told;
               keys = keys_after;
             }
 
         abbrev host_after : Host D
-        host_after = record { disk = new.disk; head = mid.head; server = with_batch (drawn_for server) (made_drawn server stands) }
+        host_after = record {
+          disk = new.disk;
+          head = mid.head;
+          server = with_batch (drawn_for server) (made_drawn server stands);
+          rules = rules;
+          sessions = settled sessions replies;
+        }
 
-        journal_after : HasJournal d (at_host old server) → HasJournal d host_after
+        journal_after : HasJournal d (at_host was_drawn server) → HasJournal d host_after
         journal_after journal = record {
           file = known.on_disk journal.file;
           crash = λ file is c may.
@@ -362,11 +393,14 @@ module _ {D G R : Type 0} (d : DiskGhosts D) (g : SignerGhosts G) (draws : DrawG
               );
         }
 
-      pub is_stored : ServesBatch d g draws (Batched (output_of ready)) ready.output.told old new
-      is_stored = by_core old (Batched (output_of ready)) ready.output.told new goes_on_stored each
+      abbrev is_after : ServerView D G R
+      is_after = server_of new rules (settled sessions replies)
+
+      pub is_stored : ServesBatch d g draws (Batched (with_replies ready.output replies)) ready.output.told was_drawn is_after
+      is_stored = by_core was_drawn (Batched (with_replies ready.output replies)) ready.output.told is_after (goes_on_stored (settled sessions replies)) each
         where
-          each : (server : Server) → Stands draws old server → HasJournal d (at_host old server)
-              → (next : Host D) × Closes old (Batched (output_of ready)) ready.output.told new (at_host old server) next
+          each : (server : Server) → Stands draws old server → HasJournal d (at_host was_drawn server)
+              → (next : Host D) × Closes was_drawn (Batched (with_replies ready.output replies)) ready.output.told is_after (at_host was_drawn server) next
           each server stands journal =
               let after = journal_after server stands journal in (
                 host_after server stands,
@@ -374,7 +408,7 @@ module _ {D G R : Type 0} (d : DiskGhosts D) (g : SignerGhosts G) (draws : DrawG
                   answered = inl (record {
                     granted = granted server stands;
                     fit = fits_drawn server stands;
-                    output = output_of ready;
+                    output = with_replies ready.output replies;
                     puts_out = puts_out server stands;
                     answers = refl;
                     beside = refl;
@@ -384,7 +418,14 @@ module _ {D G R : Type 0} (d : DiskGhosts D) (g : SignerGhosts G) (draws : DrawG
                   });
                   keeps = keeps;
                   counts = faults;
-                  server = record { disk = refl; head = sym same.2; stands = (known server stands).stands_after; journal = after };
+                  server = record {
+                    disk = refl;
+                    head = sym same.2;
+                    stands = (known server stands).stands_after;
+                    journal = after;
+                    rules = refl;
+                    sessions = refl;
+                  };
                   keys = keys_after server stands;
                 },
               )
@@ -414,9 +455,15 @@ module _ {D G R : Type 0} (d : DiskGhosts D) (g : SignerGhosts G) (draws : DrawG
             })
 
         abbrev host_in_doubt : Host D
-        host_in_doubt = record { disk = new.disk; head = mid.head; server = in_doubt (drawn_for server) (made_drawn server stands) }
+        host_in_doubt = record {
+          disk = new.disk;
+          head = mid.head;
+          server = in_doubt (drawn_for server) (made_drawn server stands);
+          rules = rules;
+          sessions = sessions;
+        }
 
-        journal_in_doubt : HasJournal d (at_host old server) → HasJournal d host_in_doubt
+        journal_in_doubt : HasJournal d (at_host was_drawn server) → HasJournal d host_in_doubt
         journal_in_doubt journal = record {
           file = doubted.on_disk journal.file;
           crash = λ file is c may.
@@ -425,15 +472,18 @@ module _ {D G R : Type 0} (d : DiskGhosts D) (g : SignerGhosts G) (draws : DrawG
               (moments_at server stands journal.file was.0 was.1) c may;
         }
 
-      pub is_in_doubt : ServesBatch d g draws (Refused why) [] old new
-      is_in_doubt = by_core old (Refused why) [] new goes_on_stored each
+      abbrev is_doubted : ServerView D G R
+      is_doubted = server_of new rules sessions
+
+      pub is_in_doubt : ServesBatch d g draws (Refused why) [] was_drawn is_doubted
+      is_in_doubt = by_core was_drawn (Refused why) [] is_doubted (goes_on_stored sessions) each
         where
-          each : (server : Server) → Stands draws old server → HasJournal d (at_host old server)
-              → (next : Host D) × Closes old (Refused why) [] new (at_host old server) next
+          each : (server : Server) → Stands draws old server → HasJournal d (at_host was_drawn server)
+              → (next : Host D) × Closes was_drawn (Refused why) [] is_doubted (at_host was_drawn server) next
           each server stands journal =
               let after = journal_in_doubt server stands journal in
               let failed : why ≡ DiskFault = (step (drawn_for server) (stands_drawn server stands)).1.0 in
-              subst (λ at. (next : Host D) × Closes old (Refused at) [] new (at_host old server) next) (sym failed) (
+              subst (λ at. (next : Host D) × Closes was_drawn (Refused at) [] is_doubted (at_host was_drawn server) next) (sym failed) (
                 host_in_doubt server stands,
                 record {
                   answered = inr (inl (record {
@@ -447,7 +497,14 @@ module _ {D G R : Type 0} (d : DiskGhosts D) (g : SignerGhosts G) (draws : DrawG
                   }));
                   keeps = keeps;
                   counts = rose;
-                  server = record { disk = refl; head = sym same.2; stands = (doubted server stands).stands_after; journal = after };
+                  server = record {
+                    disk = refl;
+                    head = sym same.2;
+                    stands = (doubted server stands).stands_after;
+                    journal = after;
+                    rules = refl;
+                    sessions = refl;
+                  };
                   keys = nobody_told server.depth mid.head.spi server.list;
                 },
               )

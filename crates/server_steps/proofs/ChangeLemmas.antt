@@ -1,6 +1,6 @@
 -- Changes that wait, and stops.
 use Rattle.std.proofs.Common.{◌≡◌, ◌∙◌, ℕ, Bool, true, false, List, [], ◌∷◌, ◌++◌, length, Option, None, Some, Ok, Err, refl, sym, ap, subst}
-use Rattle.std.specs.Prelude.{nat_lt, ◌==◌, ◌^◌, if◌then◌else◌}
+use Rattle.std.specs.Prelude.{nat_lt, ◌==◌, ◌^◌, Result, OnErr, if◌then◌else◌}
 use Rattle.gd_disk.specs.declared.disks.Disk.{Ghosts as DiskGhosts}
 use Rattle.gd_edges.specs.declared.draws.Draws.{Ghosts as DrawGhosts}
 use Rattle.gd_edges.specs.declared.signers.Signer.{Ghosts as SignerGhosts}
@@ -8,6 +8,7 @@ use Rattle.group_terms.specs.Changes.{is_pending}
 use Rattle.group_terms.specs.Names.{Name}
 use Rattle.group_terms.specs.declared.changes.Change.{Change}
 use Rattle.group_terms.specs.declared.changes.Change.TheVariants.{In, Out}
+use Rattle.group_terms.specs.declared.patterns.Rule.{Rule}
 use Rattle.group_values.specs.Values.{batches_made}
 use Rattle.group_model.specs.Answers.{answer_to_join, answer_to_leave, unless_refused}
 use Rattle.group_model.specs.Places.{Holders, holders_of, is_member}
@@ -20,10 +21,13 @@ use Rattle.group_model.specs.declared.entries.Refusal.{Refusal}
 use Rattle.group_model.specs.declared.entries.Refusal.TheVariants.{NeedsReopen}
 use Rattle.gcks_core.specs.Stands.{Stands}
 use Rattle.gcks_core.specs.Views.{View}
+use Rattle.pull_sessions.specs.Sessions.{Sessions}
 use Rattle.server_steps.specs.Changes.{after_join, after_leave}
 use Rattle.server_steps.specs.Hosts.{Host, with_server}
-use Rattle.server_steps.specs.Serves.{GoesOn, Serves}
-use Rattle.server_steps.proofs.StillLemmas.{IsPlain, plain_beside, plain_step, server_still, serves_still}
+use Rattle.server_steps.specs.Serves.{GoesOn, ServesBeside, answer_done}
+use Rattle.server_steps.specs.Views.{server_of}
+use Rattle.server_steps.specs.Waiting.{queue_after_leave}
+use Rattle.server_steps.proofs.StillLemmas.{IsPlain, core_of, plain_beside, plain_step, server_still, serves_still}
 
 -- ---- the answers are plain
 
@@ -86,8 +90,9 @@ module _ {D G R : Type 0} {draws : DrawGhosts R} {core : View D G R} {server : S
 
 module _ {D G R : Type 0} (d : DiskGhosts D) (g : SignerGhosts G) (draws : DrawGhosts R) (core : View D G R) (m : Name) where
   -- only what waits is another
-  goes_on_waiting : (new : View D G R) → new ≡ record core { queue = new.queue } → GoesOn draws core new
-  goes_on_waiting new rest = record {
+  goes_on_waiting : (new : View D G R) (rules : List Rule) (sessions : Sessions) → new ≡ record core { queue = new.queue }
+      → GoesOn draws (server_of core rules sessions) (server_of new rules sessions)
+  goes_on_waiting new rules sessions rest = record {
     signer = ap (λ (v : View D G R). v.signer) rest;
     blocks = λ k. ap (λ (v : View D G R). draws.block_at v.draws k) rest;
   }
@@ -98,44 +103,45 @@ module _ {D G R : Type 0} (d : DiskGhosts D) (g : SignerGhosts G) (draws : DrawG
   JoinIsDue answer = (server : Server) → Stands draws core server
       → answer ≡ answer_to_join server.need server.depth (members_now server) server.queue m
 
-  join_still : (answer : Answer) → ((host : Host D) → after_join host m answer ≡ host) → JoinIsDue answer → Serves d g draws (Join m) answer core core
+  join_still : (answer : Answer) → ((host : Host D) → after_join host m answer ≡ host) → JoinIsDue answer → ServesBeside d g draws (Join m) answer core core
   join_still answer stays due = serves_still d g draws (Join m) core answer (λ host server.
       let is = due host.server server.stands in
       let plain = subst IsPlain (sym is) (plain_join host.server.need host.server.depth (members_now host.server) host.server.queue m) in
       (plain, record { answers = is; beside = plain_beside d draws core host answer server plain; now = sym (stays host) }))
 
-  pub join_stopped : core.need ≡ true → Serves d g draws (Join m) (Refused NeedsReopen) core core
+  pub join_stopped : core.need ≡ true → ServesBeside d g draws (Join m) (Refused NeedsReopen) core core
   join_stopped stops = join_still (Refused NeedsReopen) (λ host. refl)
       (λ server stands. stopped server.need server.depth (members_now server) server.queue m (sym stands.need ∙ stops))
 
-  pub join_present : core.need ≡ false → is_member core.tree.holders m ≡ true → Serves d g draws (Join m) Nothing core core
+  pub join_present : core.need ≡ false → is_member core.tree.holders m ≡ true → ServesBeside d g draws (Join m) Nothing core core
   join_present goes member = join_still Nothing (λ host. refl)
       (λ server stands. present server.need server.depth (members_now server) server.queue m (sym stands.need ∙ goes)
       (ap (λ holders. is_member holders m) (sym (same_holders stands)) ∙ member))
 
   pub join_refused : (new : View D G R) (why : Refusal) → core.need ≡ false → is_member core.tree.holders m ≡ false → new ≡ core
       → ((server : Server) → Stands draws core server → (next : Server) × IsJoin server m (Err why) next × Stands draws new next)
-      → Serves d g draws (Join m) (Refused why) core new
+      → ServesBeside d g draws (Join m) (Refused why) core new
   join_refused new why goes stranger still step =
-      subst (λ new. Serves d g draws (Join m) (Refused why) core new) (sym still)
+      subst (λ new. ServesBeside d g draws (Join m) (Refused why) core new) (sym still)
       (join_still (Refused why) (λ host. refl)
       (λ server stands. by_reason server.need server.depth (members_now server) server.queue m (Some why) (sym stands.need ∙ goes)
       (ap (λ holders. is_member holders m) (sym (same_holders stands)) ∙ stranger) (step server stands).1.0))
 
   pub join_queued : (new : View D G R) → core.need ≡ false → is_member core.tree.holders m ≡ false → new ≡ record core { queue = new.queue }
       → ((server : Server) → Stands draws core server → (next : Server) × IsJoin server m (Ok tt) next × Stands draws new next)
-      → Serves d g draws (Join m) Queued core new
-  join_queued new goes stranger rest step = record {
-    goes_on = goes_on_waiting new rest;
+      → ServesBeside d g draws (Join m) Queued core new
+  join_queued new goes stranger rest step rules sessions = record {
+    goes_on = goes_on_waiting new rules sessions rest;
     each = λ host server.
         let taken = step host.server server.stands in
         let is = by_reason host.server.need host.server.depth (members_now host.server) host.server.queue m None (sym server.stands.need ∙ goes)
         (ap (λ holders. is_member holders m) (sym (same_holders server.stands)) ∙ stranger) taken.1.0 in
+        let on = core_of d draws core rules sessions host server in
         let plain : IsPlain Queued = record { no_fault = refl; not_opened = refl } in (
           after_join host m Queued,
           plain_step d g draws (Join m) core Queued host (with_change host.server (In m)) plain
-              (record { answers = is; beside = plain_beside d draws core host Queued server plain; now = refl }),
-          server_still d draws core new host (host.server.queue ++ In m ∷ []) host.server.need server
+              (record { answers = is; beside = plain_beside d draws core host Queued on plain; now = refl }),
+          server_still d draws core new rules sessions host (host.server.queue ++ In m ∷ []) host.server.need server
               (ap (λ (v : View D G R). v.disk) rest) (ap (λ (v : View D G R). v.head) rest)
               (subst (Stands draws new) taken.1.1 taken.2),
         );
@@ -145,9 +151,9 @@ module _ {D G R : Type 0} (d : DiskGhosts D) (g : SignerGhosts G) (draws : DrawG
 
   pub leave_refused : (new : View D G R) (why : Refusal) → new ≡ core
       → ((server : Server) → Stands draws core server → (next : Server) × IsLeave server m (Err why) next × Stands draws new next)
-      → Serves d g draws (Leave m) (Refused why) core new
+      → ServesBeside d g draws (Leave m) (Refused why) core new
   leave_refused new why still step =
-      subst (λ new. Serves d g draws (Leave m) (Refused why) core new) (sym still)
+      subst (λ new. ServesBeside d g draws (Leave m) (Refused why) core new) (sym still)
       (serves_still d g draws (Leave m) core (Refused why) (λ host server.
       let is = ap (λ reason. unless_refused reason Done) (sym (step host.server server.stands).1.0) in
       let plain = subst IsPlain (sym is) (plain_leave host.server.need host.server.depth (members_now host.server) host.server.queue m) in
@@ -155,38 +161,54 @@ module _ {D G R : Type 0} (d : DiskGhosts D) (g : SignerGhosts G) (draws : DrawG
 
   pub leave_done : (new : View D G R) → new ≡ record core { queue = new.queue }
       → ((server : Server) → Stands draws core server → (next : Server) × IsLeave server m (Ok tt) next × Stands draws new next)
-      → Serves d g draws (Leave m) Done core new
-  leave_done new rest step = record {
-    goes_on = goes_on_waiting new rest;
+      → ServesBeside d g draws (Leave m) Done core new
+  leave_done new rest step rules sessions = record {
+    goes_on = goes_on_waiting new rules sessions rest;
     each = λ host server.
         let taken = step host.server server.stands in
         let is = ap (λ reason. unless_refused reason Done) (sym taken.1.0) in
+        let on = core_of d draws core rules sessions host server in
         let plain : IsPlain Done = record { no_fault = refl; not_opened = refl } in (
           after_leave host m Done,
           plain_step d g draws (Leave m) core Done host (with_change host.server (Out m)) plain
-              (record { answers = is; beside = plain_beside d draws core host Done server plain; now = refl }),
-          server_still d draws core new host (host.server.queue ++ Out m ∷ []) host.server.need server
+              (record { answers = is; beside = plain_beside d draws core host Done on plain; now = refl }),
+          server_still d draws core new rules sessions host (host.server.queue ++ Out m ∷ []) host.server.need server
               (ap (λ (v : View D G R). v.disk) rest) (ap (λ (v : View D G R). v.head) rest)
               (subst (Stands draws new) taken.1.1 taken.2),
         );
   }
 
+  -- a leave is answered
+  pub leave_answered : (new : View D G R) (result : Result (Unit {0}) Refusal) → new ≡ record core { queue = new.queue } → OnErr result (new ≡ core)
+      → ((server : Server) → Stands draws core server → (next : Server) × IsLeave server m result next × Stands draws new next)
+      → ServesBeside d g draws (Leave m) (answer_done result) core new
+  leave_answered new (Ok done) rest still step = leave_done new rest step
+  leave_answered new (Err why) rest still step = leave_refused new why still step
+
+  -- and what waits then
+  pub leave_waits : (new : View D G R) (result : Result (Unit {0}) Refusal) → OnErr result (new ≡ core) → (server : Server) → Stands draws core server
+      → (next : Server) × IsLeave server m result next × Stands draws new next
+      → new.queue ≡ queue_after_leave core.queue m (answer_done result)
+  leave_waits new (Ok done) still server stands taken = queue_more stands new taken.0 (Out m) taken.1.1 taken.2
+  leave_waits new (Err why) still server stands taken = ap (λ (v : View D G R). v.queue) still
+
 -- ---- stops
 
 module _ {D G R : Type 0} (d : DiskGhosts D) (g : SignerGhosts G) (draws : DrawGhosts R) where
   pub halts : (core new : View D G R) → new ≡ record core { need = true }
-      → ((server : Server) → Stands draws core server → Stands draws new (halted server)) → Serves d g draws Halt Done core new
-  halts core new rest step = record {
+      → ((server : Server) → Stands draws core server → Stands draws new (halted server)) → ServesBeside d g draws Halt Done core new
+  halts core new rest step rules sessions = record {
     goes_on = record {
       signer = ap (λ (v : View D G R). v.signer) rest;
       blocks = λ k. ap (λ (v : View D G R). draws.block_at v.draws k) rest;
     };
     each = λ host server.
+        let on = core_of d draws core rules sessions host server in
         let plain : IsPlain Done = record { no_fault = refl; not_opened = refl } in (
           with_server host (halted host.server),
           plain_step d g draws Halt core Done host (halted host.server) plain
-              (record { answers = refl; beside = plain_beside d draws core host Done server plain; now = refl }),
-          server_still d draws core new host host.server.queue true server
+              (record { answers = refl; beside = plain_beside d draws core host Done on plain; now = refl }),
+          server_still d draws core new rules sessions host host.server.queue true server
               (ap (λ (v : View D G R). v.disk) rest) (ap (λ (v : View D G R). v.head) rest) (step host.server server.stands),
         );
   }

@@ -9,4 +9,5 @@ mod ReopenLemmas
 mod ReplyLemmas
 mod SeenLemmas
 mod ServedLemmas
+mod SessionLemmas
 mod StillLemmas

@@ -1,5 +1,5 @@
 -- What comes of opening a group from its journal.
-use Rattle.std.proofs.Common.{◌≡◌, ◌∙◌, ◌⊎◌, inl, inr, ℕ, false, List, Option, Some, refl, sym, ap, subst}
+use Rattle.std.proofs.Common.{◌≡◌, ◌∙◌, ◌⊎◌, inl, inr, ℕ, false, List, [], Option, Some, refl, sym, ap, subst}
 use Rattle.std.proofs.lemmas.List.{length-map}
 use Rattle.gd_disk.specs.Disks.{Knows, Only}
 use Rattle.gd_disk.specs.Moments.{Keeps, LeavesOnly, shown}
@@ -25,9 +25,10 @@ use Rattle.gcks_core.specs.Stored.{stored_list}
 use Rattle.gcks_core.specs.Views.{View}
 use Rattle.server_steps.specs.Disks.{ComesToLast}
 use Rattle.server_steps.specs.Entries.{beside}
-use Rattle.server_steps.specs.Hosts.{Host, no_host, with_disk}
+use Rattle.server_steps.specs.Hosts.{Host, no_host, no_sessions, with_disk}
 use Rattle.server_steps.specs.Openings.{Found, FindsGroup, IsBeginning, IsHead, opened_host}
 use Rattle.server_steps.specs.Opens.{FailsToOpen, Opens}
+use Rattle.server_steps.specs.Views.{server_of}
 use Rattle.server_steps.proofs.BesideLemmas.{beside_refused, counts_refused}
 use Rattle.server_steps.proofs.JournalLemmas.{comes_to_last, has_read}
 
@@ -73,23 +74,20 @@ module _ {D G R : Type 0} (d : DiskGhosts D) (g : SignerGhosts G) (draws : DrawG
     }
 
   -- the first opening of a group
-  module _ (parts : Parts D G R) (name : Name) (limit : ℕ) where
+  module _ (parts : Parts D G R) (name : Name) (limit phases : ℕ) where
     abbrev start : Host D
-    start = no_host parts.disk name limit (draws.place_of parts.draws)
+    start = no_host parts.disk name limit (draws.place_of parts.draws) phases
 
     -- it begins
-    pub begins : (core : View D G R) (list : List Made) (resent : Option PushPair) (answer : Answer) → answer ≡ shown_open core.head.depth list resent
+    pub begins : (core : View D G R) (list : List Made) (resent : Option PushPair)
         → ((c : List ℕ) → d.left_since core.disk (d.moment core.disk) c → d.may_leave core.disk c)
         → IsOpened d g draws parts.signer (draws.place_of parts.draws) parts.disk core list resent
         → core.signer ≡ parts.signer → ((k : ℕ) → draws.block_at core.draws k ≡ draws.block_at parts.draws k)
-        → Opens d draws (IsBeginning d g parts.signer) Begin start parts core answer
-    begins core list resent answer shows only_now opened signer blocks =
+        → Opens d draws (IsBeginning d g parts.signer) Begin start parts (server_of core [] (no_sessions phases)) resent
+    begins core list resent only_now opened signer blocks =
         let after = host_by parts.signer start core list resent opened in
         let found = finds parts.signer start core list resent opened (draws.place_of parts.draws) refl in
-        subst (Opens d draws (IsBeginning d g parts.signer) Begin start parts core) (sym shows) (record {
-          seen = seen_group core.head.depth (batches_made list);
-          resent = resent;
-          is_open = refl;
+        record {
           next = after;
           stepped = record {
             answered = record {
@@ -105,10 +103,10 @@ module _ {D G R : Type 0} (d : DiskGhosts D) (g : SignerGhosts G) (draws : DrawG
             keeps = opened.keeps;
             counts = opened.unfaulted;
           };
-          server = record { disk = refl; head = refl; stands = opened.stands; journal = found.journal };
+          server = record { disk = refl; head = refl; stands = opened.stands; journal = found.journal; rules = refl; sessions = refl };
           signer = signer;
           blocks = blocks;
-        })
+        }
 
     -- it is refused, and these parts come back
     pub begins_not : (why : Refusal) (back : Parts D G R) → ((c : List ℕ) → d.left_since back.disk (d.moment back.disk) c → d.may_leave back.disk c)

@@ -1,5 +1,6 @@
 -- What comes of opening a group again.
-use Rattle.std.proofs.Common.{◌≡◌, ◌∙◌, ◌⊎◌, inl, inr, ℕ, ◌≤◌, List, [], ◌∷◌, ◌++◌, map, Option, Some, refl, sym, ap, subst}
+use Rattle.std.proofs.Common.{◌≡◌, ◌∙◌, ◌⊎◌, inl, inr, ℕ, ◌≤◌, List, [], ◌∷◌, ◌++◌, map, Option, Some, Result, Ok, Err, refl, sym, ap, subst}
+use Rattle.std.specs.Prelude.{IsErrAnd}
 use Rattle.gd_disk.specs.Disks.{Knows}
 use Rattle.gd_disk.specs.Moments.{Keeps, LeavesOnly, shown}
 use Rattle.gd_disk.specs.declared.disks.Disk.{Ghosts as DiskGhosts}
@@ -7,11 +8,9 @@ use Rattle.gd_edges.specs.declared.draws.Draws.{Ghosts as DrawGhosts}
 use Rattle.gd_edges.specs.declared.signers.Signer.{Ghosts as SignerGhosts}
 use Rattle.group_terms.specs.Faults.{Rose}
 use Rattle.group_terms.specs.declared.changes.Change.{Change}
+use Rattle.group_terms.specs.declared.patterns.Rule.{Rule}
 use Rattle.group_values.specs.Values.{Made}
 use Rattle.group_model.specs.Servers.{MayHave, Server, halted}
-use Rattle.group_model.specs.declared.entries.Answer.{Answer}
-use Rattle.group_model.specs.declared.entries.Answer.TheVariants.{Refused}
-use Rattle.group_model.specs.declared.entries.Asked.TheVariants.{Reopen}
 use Rattle.group_model.specs.declared.entries.PushPair.{PushPair}
 use Rattle.group_model.specs.declared.entries.Refusal.{Refusal}
 use Rattle.group_model.specs.declared.entries.Refusal.TheVariants.{DiskFault, NotAJournal, NoMemory}
@@ -21,12 +20,14 @@ use Rattle.tree_store.specs.Groups.{IsGroup, IsNoGroup}
 use Rattle.gcks_core.specs.Stands.{Stands}
 use Rattle.gcks_core.specs.Stored.{IsFileOf, made_of, stored_from, stored_list}
 use Rattle.gcks_core.specs.Views.{View}
+use Rattle.pull_sessions.specs.Sessions.{Sessions, without_sessions}
 use Rattle.server_steps.specs.Hosts.{Host, with_disk, with_server}
 use Rattle.server_steps.specs.Openings.{IsSame}
-use Rattle.server_steps.specs.Serves.{GoesOn, Serves}
+use Rattle.server_steps.specs.Serves.{GoesOn, ServesReopening, sessions_reopened}
+use Rattle.server_steps.specs.Views.{server_of}
 use Rattle.server_steps.proofs.BesideLemmas.{beside_refused, counts_refused}
 use Rattle.server_steps.proofs.JournalLemmas.{has_still, leaves_still}
-use Rattle.server_steps.proofs.OpenLemmas.{IsOpened, finds, found_by, host_by, shown_open}
+use Rattle.server_steps.proofs.OpenLemmas.{IsOpened, finds, found_by, host_by}
 
 -- a file has one group, as a law
 abbrev pub OneGroup : Type 0
@@ -56,18 +57,20 @@ pub record IsRefusedAgain {D : Type 0} (d : DiskGhosts D) (why : Refusal) (disk 
   pub same_file : shown d left ≡ shown d disk
   pub keeps : Keeps d disk left
 
-module _ {D G R : Type 0} (d : DiskGhosts D) (g : SignerGhosts G) (draws : DrawGhosts R) (old new : View D G R) where
+module _ {D G R : Type 0} (d : DiskGhosts D) (g : SignerGhosts G) (draws : DrawGhosts R) (old new : View D G R) (rules : List Rule)
+    (sessions : Sessions) where
   -- signer and draws stay
-  goes_on_again : (new.signer ≡ old.signer) × (new.draws ≡ old.draws) → GoesOn draws old new
-  goes_on_again same = record { signer = same.0; blocks = λ k. ap (λ (at : R). draws.block_at at k) same.1 }
+  goes_on_again : (new.signer ≡ old.signer) × (new.draws ≡ old.draws) → (after : Sessions)
+      → GoesOn draws (server_of old rules sessions) (server_of new rules after)
+  goes_on_again same after = record { signer = same.0; blocks = λ k. ap (λ (at : R). draws.block_at at k) same.1 }
 
   -- it was opened again
   pub opens_again : OneGroup → (list : List Made) (resent : Option PushPair)
       → IsOpened d g draws old.signer (draws.place_of old.draws) old.disk new list resent
-      → (new.signer ≡ old.signer) × (new.draws ≡ old.draws) → (answer : Answer) → answer ≡ shown_open new.head.depth list resent
-      → Serves d g draws Reopen answer old new
-  opens_again one list resent opens same answer shows = subst (λ answer. Serves d g draws Reopen answer old new) (sym shows) (record {
-    goes_on = goes_on_again same;
+      → (new.signer ≡ old.signer) × (new.draws ≡ old.draws)
+      → ServesReopening d g draws (Ok resent) (server_of old rules sessions) (server_of new rules (without_sessions sessions))
+  opens_again one list resent opens same = record {
+    goes_on = goes_on_again same (without_sessions sessions);
     each = λ host is.
         let place = draws.place_of old.draws in
         let opened = subst (λ (x : ℕ × D). IsOpened d g draws old.signer x.0 x.1 new list resent) (λ i. (is.stands.place i, sym is.disk i)) opens in
@@ -87,9 +90,16 @@ module _ {D G R : Type 0} (d : DiskGhosts D) (g : SignerGhosts G) (draws : DrawG
             keeps = opened.keeps;
             counts = opened.unfaulted;
           },
-          record { disk = refl; head = refl; stands = opened.stands; journal = found.journal },
+          record {
+            disk = refl;
+            head = refl;
+            stands = opened.stands;
+            journal = found.journal;
+            rules = is.rules;
+            sessions = ap without_sessions is.sessions;
+          },
         );
-  })
+  }
     where
       it_is : (host : Host D) → Knows (shown d host.disk) (λ file. IsGroup file new.head (stored_list new.head.depth list)) → (file : List ℕ)
           → shown d host.disk ≡ Some file → IsFileOf host.head host.server file → IsSame host (record { head = new.head; list = list })
@@ -104,9 +114,10 @@ module _ {D G R : Type 0} (d : DiskGhosts D) (g : SignerGhosts G) (draws : DrawG
   pub opens_not_again : NoGroup → (why : Refusal) → IsRefusedAgain d why old.disk new.disk
       → ((t : ℕ) (c : List ℕ) → t ≤ d.moment new.disk → d.may_leave new.disk c → d.left_since new.disk t c)
       → ((server : Server) → Stands draws old server → Stands draws new (halted server)) → new.head ≡ old.head
-      → (new.signer ≡ old.signer) × (new.draws ≡ old.draws) → Serves d g draws Reopen (Refused why) old new
+      → (new.signer ≡ old.signer) × (new.draws ≡ old.draws)
+      → ServesReopening d g draws (Err why) (server_of old rules sessions) (server_of new rules sessions)
   opens_not_again none why refuses counts_now stands same_head same = record {
-    goes_on = goes_on_again same;
+    goes_on = goes_on_again same sessions;
     each = λ host is.
         let place = draws.place_of old.draws in
         let refused = subst (λ (disk : D). IsRefusedAgain d why disk new.disk) (sym is.disk) refuses in
@@ -129,7 +140,14 @@ module _ {D G R : Type 0} (d : DiskGhosts D) (g : SignerGhosts G) (draws : DrawG
             keeps = refused.keeps;
             counts = counts_refused d why host.disk new.disk refused.cause refused.unfaulted;
           },
-          record { disk = refl; head = is.head ∙ sym same_head; stands = stands host.server is.stands; journal = journal },
+          record {
+            disk = refl;
+            head = is.head ∙ sym same_head;
+            stands = stands host.server is.stands;
+            journal = journal;
+            rules = is.rules;
+            sessions = is.sessions;
+          },
         );
   }
     where
@@ -147,3 +165,11 @@ module _ {D G R : Type 0} (d : DiskGhosts D) (g : SignerGhosts G) (draws : DrawG
                 let there = has file shows in
                 none file host.head (stored_list host.head.depth there.0) at there.2 (broken file shows at said)),
           ))
+
+  -- the reason was handed on
+  pub hands_on : (result : Result (Option PushPair) Refusal) (why : Refusal) → IsErrAnd result (λ reason. reason ≡ why)
+      → ServesReopening d g draws (Err why) (server_of old rules sessions) (server_of new rules sessions)
+      → ServesReopening d g draws result (server_of old rules sessions) (server_of new rules (sessions_reopened result sessions))
+  hands_on (Ok resent) why is serves = absurd is
+  hands_on (Err reason) why is serves =
+      subst (λ reason. ServesReopening d g draws (Err reason) (server_of old rules sessions) (server_of new rules sessions)) (sym is) serves

@@ -1,5 +1,6 @@
 -- What is told to those who come in with a batch is what its replies have to say.
 use Rattle.std.proofs.Common.{◌≡◌, ◌∙◌, ◌||◌, ◌&&◌, ℕ, Bool, true, false, not, List, [], ◌∷◌, ◌++◌, length, map, get_or, refl, sym, ap, subst}
+use Rattle.std.specs.Prelude.{MatchBool}
 use Rattle.std.specs.List.{All, list_any}
 use Rattle.std.proofs.lemmas.List.{length-map, map-append}
 use Rattle.std.proofs.lemmas.List.Elements.{All-cons, All-head, All-nil, All-tail}
@@ -15,23 +16,39 @@ use Rattle.group_model.specs.Laws.{BatchesSayWhoIsMember}
 use Rattle.group_model.specs.Places.{IsValid, holders_of, is_member}
 use Rattle.group_model.specs.Replies.{replies_to, reply_at, says_of}
 use Rattle.group_model.specs.declared.entries.SentReply.{SentReply}
-use Rattle.server_steps.specs.Private.Told.{sent_reply}
+use Rattle.group_model.specs.declared.entries.SymReply.{SymReply}
+use Rattle.pull_sessions.specs.Sessions.{is_queued_of}
+use Rattle.pull_sessions.specs.declared.sas.Sa.{Sa}
+use Rattle.server_steps.specs.Fourths.{IsFourthReply, IsReplyMade}
+use Rattle.server_steps.specs.Private.Told.{AreRepliesTo, IsDatagramTo, IsReplyTo, says_told}
 use Rattle.server_steps.specs.Replies.{AreTold, IsTold}
+use Rattle.server_steps.proofs.SessionLemmas.{queued_session}
 
 -- ---- who is told something
 
 abbrev pub Told : Type 0
 Told = List (Name × Keyed)
 
--- no datagram is made of a reply
-pub no_datagrams : (told : Told) → All (λ (reply : SentReply). reply.datagram ≡ []) (map sent_reply told)
-no_datagrams [] = All-nil _
-no_datagrams (reply ∷ told) = All-cons (λ (reply : SentReply). reply.datagram ≡ []) (sent_reply reply) (map sent_reply told) refl (no_datagrams told)
-
 -- each reply names whom it tells something
-pub names_told_to : (told : Told) → map (λ (reply : Name × Keyed). reply.0) told ≡ map (λ (reply : SentReply). reply.says.member) (map sent_reply told)
-names_told_to [] = refl
-names_told_to (reply ∷ told) = λ i. reply.0 ∷ names_told_to told i
+pub names_told_to : (sas : List Sa) (told : Told) (replies : List SentReply) → AreRepliesTo sas told replies
+    → map (λ (reply : Name × Keyed). reply.0) told ≡ map (λ (reply : SentReply). reply.says.member) replies
+names_told_to sas [] replies are = ap (map (λ (reply : SentReply). reply.says.member)) (sym are)
+names_told_to sas (one ∷ told) replies are =
+    let first = ap (λ (says : SymReply). says.member) (sym are.3.says) in
+    let rest = names_told_to sas told are.1 are.4 in
+    (λ i. first i ∷ rest i) ∙ ap (map (λ (reply : SentReply). reply.says.member)) (sym are.2)
+
+-- one reply more
+pub replies_more : (sas : List Sa) (told : Told) (one : Name × Keyed) (replies : List SentReply) (reply : SentReply) → AreRepliesTo sas told replies
+    → IsReplyTo sas one reply → AreRepliesTo sas (told ++ one ∷ []) (replies ++ reply ∷ [])
+replies_more sas [] one replies reply are is = (reply, [], ap (λ replies. replies ++ reply ∷ []) are, is, refl)
+replies_more sas (first ∷ told) one replies reply are is = (
+  are.0,
+  are.1 ++ reply ∷ [],
+  ap (λ replies. replies ++ reply ∷ []) are.2,
+  are.3,
+  replies_more sas told one are.1 reply are.4 is,
+)
 
 -- each name of a list is in it
 each_named : (names : List Name) → All (λ m. list_any (same_name m) names ≡ true) names
@@ -54,30 +71,63 @@ module _ (depth : ℕ) (spi : List ℕ) (list : List Made) where
   abbrev AreMembers : List Name → Type 0
   AreMembers names = All (λ m. is_member (holders_of depth (batches_made list)) m ≡ true) names
 
-  says_one : (reply : Name × Keyed) → IsKeyedOf depth spi list reply.0 reply.1
-      → (sent_reply reply).says ≡ reply_at depth (batches_made list) (length list) reply.0
-  says_one reply is = λ i. record {
-    member = reply.0;
+  pub says_one : (m : Name) (keyed : Keyed) → IsKeyedOf depth spi list m keyed → says_told (m, keyed) ≡ reply_at depth (batches_made list) (length list) m
+  says_one m keyed is = λ i. record {
+    member = m;
     keyed_epoch = is.epoch i;
     sequence = is.sequence i;
     names = is.names i ++ Traffic (is.epoch i) ∷ [];
   }
 
-  says_each : (told : Told) → AreKeyed told
-      → says_of (map sent_reply told) ≡ map (reply_at depth (batches_made list) (length list)) (map (λ (reply : Name × Keyed). reply.0) told)
-  says_each [] all = refl
-  says_each (reply ∷ told) all =
-      let first = says_one reply (All-head (λ (reply : Name × Keyed). IsKeyedOf depth spi list reply.0 reply.1) reply told all) in
-      let rest = says_each told (All-tail (λ (reply : Name × Keyed). IsKeyedOf depth spi list reply.0 reply.1) reply told all) in
-      λ i. first i ∷ rest i
+  says_each : (sas : List Sa) (told : Told) (replies : List SentReply) → AreRepliesTo sas told replies → AreKeyed told
+      → says_of replies ≡ map (reply_at depth (batches_made list) (length list)) (map (λ (reply : Name × Keyed). reply.0) told)
+  says_each sas [] replies are all = ap says_of are
+  says_each sas (one ∷ told) replies are all =
+      let first = are.3.says ∙ says_one one.0 one.1 (All-head (λ (reply : Name × Keyed). IsKeyedOf depth spi list reply.0 reply.1) one told all) in
+      let rest = says_each sas told are.1 are.4 (All-tail (λ (reply : Name × Keyed). IsKeyedOf depth spi list reply.0 reply.1) one told all) in
+      ap says_of are.2 ∙ (λ i. first i ∷ rest i)
 
   -- the replies to those who come in say what they have to
-  pub replies_say : (told : Told) (changes : List Change) → map (λ (reply : Name × Keyed). reply.0) told ≡ joiners changes → AreKeyed told
-      → says_of (map sent_reply told) ≡ replies_to depth (batches_made list) changes
-  replies_say told changes joiners_are all =
-      says_each told all
+  pub replies_say : (sas : List Sa) (told : Told) (replies : List SentReply) (changes : List Change) → AreRepliesTo sas told replies
+      → map (λ (reply : Name × Keyed). reply.0) told ≡ joiners changes → AreKeyed told → says_of replies ≡ replies_to depth (batches_made list) changes
+  replies_say sas told replies changes are joiners_are all =
+      says_each sas told replies are all
       ∙ ap (map (reply_at depth (batches_made list) (length list))) joiners_are
       ∙ ap (λ epoch. map (reply_at depth (batches_made list) epoch) (joiners changes)) (sym (length-map list (λ (made : Made). made.changes)))
+
+  -- ---- their datagrams
+
+  -- one is the fourth message of the session that awaits the batch
+  reply_made : (sas : List Sa) (reply : SentReply) (keyed : Keyed) → IsKeyedOf depth spi list reply.says.member keyed
+      → IsDatagramTo sas (reply.says.member, keyed) reply.datagram → IsReplyMade depth spi list sas reply
+  reply_made sas reply keyed keys sends = by_queued (is_queued_of sas reply.says.member) refl
+    where
+      by_queued : (b : Bool) → is_queued_of sas reply.says.member ≡ b → MatchBool b (IsFourthReply depth spi list sas reply) (reply.datagram ≡ [])
+      by_queued true is =
+          let awaits = queued_session sas reply.says.member is in
+          record {
+            sa = awaits.0;
+            session = awaits.1;
+            has = awaits.2;
+            keyed = keyed;
+            keys = keys;
+            is_text = sends.fourth awaits.0 awaits.1 awaits.2 awaits.3;
+          }
+      by_queued false is = sends.none is
+
+  -- and so are all
+  pub replies_made : (sas : List Sa) (told : Told) (replies : List SentReply) → AreRepliesTo sas told replies → AreKeyed told
+      → All (IsReplyMade depth spi list sas) replies
+  replies_made sas [] replies are all = subst (All (IsReplyMade depth spi list sas)) (sym are) (All-nil _)
+  replies_made sas (one ∷ told) replies are all =
+      let same = ap (λ (says : SymReply). says.member) (sym are.3.says) in
+      let keys = All-head (λ (reply : Name × Keyed). IsKeyedOf depth spi list reply.0 reply.1) one told all in
+      let first = reply_made sas are.0 one.1 (subst (λ m. IsKeyedOf depth spi list m one.1) same keys)
+      (subst (λ m. IsDatagramTo sas (m, one.1) are.0.datagram) same are.3.sends) in
+      let rest = replies_made sas told are.1 are.4 (All-tail (λ (reply : Name × Keyed). IsKeyedOf depth spi list reply.0 reply.1) one told all) in
+      subst (All (IsReplyMade depth spi list sas)) (sym are.2) (All-cons (IsReplyMade depth spi list sas) are.0 are.1 first rest)
+
+  -- ---- what is told
 
   each_told : (told : Told) → AreMembers (map (λ (reply : Name × Keyed). reply.0) told) → AreKeyed told
       → All (λ (reply : Name × Keyed). IsTold depth spi list reply.0 reply.1) told
@@ -93,10 +143,11 @@ module _ (depth : ℕ) (spi : List ℕ) (list : List Made) where
       (All-tail (λ (reply : Name × Keyed). IsKeyedOf depth spi list reply.0 reply.1) reply told keyed))
 
   -- they are told that they are members, and their keys
-  pub are_told : (told : Told) (changes : List Change) → map (λ (reply : Name × Keyed). reply.0) told ≡ joiners changes → AreMembers (joiners changes)
-      → AreKeyed told → AreTold depth spi list (map (λ (reply : SentReply). reply.says.member) (map sent_reply told)) told
-  are_told told changes joiners_are members keyed = record {
-    to = names_told_to told;
+  pub are_told : (sas : List Sa) (told : Told) (replies : List SentReply) (changes : List Change) → AreRepliesTo sas told replies
+      → map (λ (reply : Name × Keyed). reply.0) told ≡ joiners changes → AreMembers (joiners changes) → AreKeyed told
+      → AreTold depth spi list (map (λ (reply : SentReply). reply.says.member) replies) told
+  are_told sas told replies changes are joiners_are members keyed = record {
+    to = names_told_to sas told replies are;
     each = each_told told (subst AreMembers (sym joiners_are) members) keyed;
   }
 

@@ -15,10 +15,10 @@ use Rattle.group_model.specs.declared.entries.Output.{Output}
 use Rattle.group_model.specs.declared.entries.Outside.{Outside}
 use Rattle.group_model.specs.declared.entries.Refusal.{Refusal}
 use Rattle.group_model.specs.declared.entries.Refusal.TheVariants.{DiskFault, NoMemory}
-use Rattle.group_model.specs.declared.entries.SentReply.{SentReply}
 use Rattle.group_pushes.specs.Fits.{MadeFits}
 use Rattle.group_pushes.specs.Pairs.{IsPairIfStayed}
 use Rattle.server_steps.specs.Disks.{HasJournal, LeavesJournal}
+use Rattle.server_steps.specs.Fourths.{IsReplyMade, settled}
 use Rattle.server_steps.specs.Hosts.{Host, with_disk, with_server}
 use Rattle.server_steps.specs.Outsides.{Says, failing, quiet}
 use Rattle.server_steps.specs.Replies.{AreTold, came_in}
@@ -36,16 +36,16 @@ module _ {D G : Type 0} (d : DiskGhosts D) (g : SignerGhosts G) (signer : G) (bl
   abbrev pub drawn_next : Server
   drawn_next = after_draws host.server (blocks_for (coming_positions host.server))
 
-  -- What the batch puts out: what it encrypts, its two pushes octet for octet (RFC 6407 section 4), and what its replies say, of which no datagram is made. Who
-  -- came in is told its keys.
+  -- What the batch puts out: what it encrypts, its two pushes octet for octet (RFC 6407 section 4), and its replies, each with its datagram. Who came in is told
+  -- its keys.
   pub record PutsOut (output : Output) : Type 0 where
     pub says : IsOutputOf host.server.depth (batches_made list_next) host.server.queue output
     pub pushes : IsPairIfStayed g signer host.server.depth host.head.spi list_next output.pushes
-    pub no_datagrams : All (λ (reply : SentReply). reply.datagram ≡ []) output.replies
+    pub replies : All (IsReplyMade host.server.depth host.head.spi list_next host.sessions.sas) output.replies
     pub told : List (Name × Keyed)
     pub keys : AreTold host.server.depth host.head.spi list_next (came_in output) told
 
-  -- what waits becomes a batch, whose values are keys, and is stored: from then on a crash leaves it
+  -- What waits becomes a batch, whose values are keys, and is stored: from then on a crash leaves it. Sessions that awaited it have their fourth messages.
   pub record IsStored (answer : Answer) (outside : Outside) (next : Host D) : Type 0 where
     pub granted : refusal_to_batch host.server ≡ None
     pub fit : MadeFits made_next
@@ -53,7 +53,11 @@ module _ {D G : Type 0} (d : DiskGhosts D) (g : SignerGhosts G) (signer : G) (bl
     pub puts_out : PutsOut output
     pub answers : answer ≡ Batched output
     pub beside : outside ≡ quiet host
-    pub now : next ≡ with_disk (with_server host (with_batch drawn_next made_next)) next.disk
+    pub now : next ≡ record host {
+      disk = next.disk;
+      server = with_batch drawn_next made_next;
+      sessions = settled host.sessions output.replies;
+    }
     pub journal : HasJournal d next
     pub moments : LeavesJournal d host.disk host.head (in_doubt host.server made_next) next.disk
 

@@ -1,22 +1,29 @@
 -- Requests to a server that touch neither its disk nor its draws.
-use Rattle.std.specs.Prelude.{◌≡◌, true, if◌then◌else◌}
+use Rattle.std.specs.Prelude.{◌≡◌, ◌⊎◌, ◌+◌, true, [], ◌∷◌, ◌++◌, length, if◌then◌else◌}
 use Rattle.group_terms.specs.Names.{Name}
 use Rattle.group_terms.specs.declared.changes.Change.TheVariants.{In, Out}
+use Rattle.group_terms.specs.declared.patterns.Rule.{Rule}
 use Rattle.group_model.specs.Answers.{answer_to_join, answer_to_leave}
 use Rattle.group_model.specs.Seen.{seen_group}
 use Rattle.group_model.specs.Servers.{Server, halted, members_now, present_batches, with_change}
 use Rattle.group_model.specs.declared.entries.Answer.{Answer}
-use Rattle.group_model.specs.declared.entries.Answer.TheVariants.{Done, Queued, Shown, Refused}
+use Rattle.group_model.specs.declared.entries.Answer.TheVariants.{Done, Queued, RuleNumber, Shown, Refused}
 use Rattle.group_model.specs.declared.entries.Outside.{Outside}
-use Rattle.group_model.specs.declared.entries.Refusal.TheVariants.{NeedsReopen}
-use Rattle.server_steps.specs.Hosts.{Host, with_server}
-use Rattle.server_steps.specs.Outsides.{Says, quiet}
+use Rattle.group_model.specs.declared.entries.Refusal.TheVariants.{NeedsReopen, NoMemory}
+use Rattle.server_steps.specs.Hosts.{Host, with_rules, with_server}
+use Rattle.server_steps.specs.Outsides.{Becomes, Says, quiet}
 
 -- who has which leaf, unless it has to be opened again
 abbrev pub shown_group : Server → Answer
 shown_group server = if server.need then Refused NeedsReopen else Shown (seen_group server.depth (present_batches server))
 
 module _ {D : Type 0} where
+  -- One more rule comes after all others, and its number is told, unless memory is short; also where the group has to be opened again.
+  abbrev pub IsAddingRule : Rule → Host D → Answer → Outside → Host D → Type 0
+  IsAddingRule rule host answer outside next =
+      Becomes (RuleNumber (length host.rules + 1)) (with_rules host (host.rules ++ rule ∷ [])) host answer outside next
+      ⊎ Says (Refused NoMemory) host answer outside next
+
   -- a name whose join is granted waits
   abbrev pub after_join : Host D → Name → Answer → Host D
   after_join host m Queued = with_server host (with_change host.server (In m))

@@ -21,6 +21,7 @@ use Rattle.group_records.specs.Fits.{HeadFits}
 use Rattle.group_records.specs.declared.heads.Head.{Head}
 use Rattle.tree_store.specs.Groups.{IsGroup, IsNoGroup, MakesGroup}
 use Rattle.gcks_core.specs.Stored.{AreDue, stored_list}
+use Rattle.pull_sessions.specs.Sessions.{without_sessions}
 use Rattle.server_steps.specs.Disks.{ComesToLast, HasJournal, LeavesJournal}
 use Rattle.server_steps.specs.Outsides.{beside_refusal, finding}
 use Rattle.server_steps.specs.Hosts.{Host, with_disk, with_server}
@@ -85,12 +86,13 @@ pub record IsSame {D : Type 0} (host : Host D) (found : Found) : Type 0 where
   pub head : found.head ≡ host.head
   pub batches : MayHave host.server found.list
 
--- a host that goes on with what was found; no change waits, and the place of the draws stays
+-- A host that goes on with what was found. No change waits, all sessions have ended, and the place of the draws stays; so do rules and SAs.
 abbrev pub opened_host : {D : Type 0} → Host D → Found → D → Host D
 opened_host host found disk = record host {
   disk = disk;
   head = found.head;
   server = opened_server found.head.depth found.head.limit found.list host.server.place;
+  sessions = without_sessions host.sessions;
 }
 
 module _ {D G : Type 0} (d : DiskGhosts D) (g : SignerGhosts G) (signer : G) where

@@ -3,31 +3,28 @@ use Rattle.std.specs.Prelude.{◌≡◌, ℕ, Option}
 use Rattle.gd_disk.specs.declared.disks.Disk.{Ghosts as DiskGhosts}
 use Rattle.gd_edges.specs.declared.draws.Draws.{Ghosts as DrawGhosts}
 use Rattle.group_model.specs.declared.entries.Answer.{Answer}
-use Rattle.group_model.specs.declared.entries.Answer.TheVariants.{Opened, Refused}
+use Rattle.group_model.specs.declared.entries.Answer.TheVariants.{Refused}
 use Rattle.group_model.specs.declared.entries.Asked.{Asked}
-use Rattle.group_model.specs.declared.entries.GroupSeen.{GroupSeen}
 use Rattle.group_model.specs.declared.entries.Outside.{Outside}
 use Rattle.group_model.specs.declared.entries.PushPair.{PushPair}
 use Rattle.group_model.specs.declared.entries.Refusal.{Refusal}
-use Rattle.gcks_core.specs.Views.{View}
 use Rattle.gcks_core.specs.declared.outputs.Parts.{Parts}
 use Rattle.server_steps.specs.Entries.{noted}
 use Rattle.server_steps.specs.Hosts.{Host}
 use Rattle.server_steps.specs.Reflects.{IsServerOf}
+use Rattle.server_steps.specs.Serves.{answer_opened}
 use Rattle.server_steps.specs.Steps.{IsHostStep}
+use Rattle.server_steps.specs.Views.{View}
 
 module _ {D G R : Type 0} (d : DiskGhosts D) (draws : DrawGhosts R) (step : Host D → Answer → Outside → Host D → Type 0) (request : Asked) (start : Host D)
     (parts : Parts D G R) where
-  -- The group is open, by such a step: its core is the server of the host after it, with the signer and the blocks of the parts.
-  pub record Opens (core : View D G R) (answer : Answer) : Type 0 where
-    pub seen : GroupSeen
-    pub resent : Option PushPair
-    pub is_open : answer ≡ Opened seen resent
+  -- The group is open, by such a step: this is the server of the host after it, with the signer and the blocks of the parts; and this pair, if there is one, was sent again.
+  pub record Opens (view : View D G R) (resent : Option PushPair) : Type 0 where
     pub next : Host D
-    pub stepped : IsHostStep d step start (noted request answer (draws.place_of parts.draws)) next
-    pub server : IsServerOf d draws core next
-    pub signer : core.signer ≡ parts.signer
-    pub blocks : (k : ℕ) → draws.block_at core.draws k ≡ draws.block_at parts.draws k
+    pub stepped : IsHostStep d step start (noted request (answer_opened next.server resent) (draws.place_of parts.draws)) next
+    pub server : IsServerOf d draws view next
+    pub signer : view.core.signer ≡ parts.signer
+    pub blocks : (k : ℕ) → draws.block_at view.core.draws k ≡ draws.block_at parts.draws k
 
   -- That was refused, by such a step, and these parts come back: the disk and the place of the draws are those of the host after it.
   pub record FailsToOpen (why : Refusal) (back : Parts D G R) : Type 0 where

@@ -24,6 +24,12 @@ module _ {D : Type 0} (host : Host D) where
   beside_refusal DiskFault = failing
   beside_refusal why = quiet
 
+-- the answer is this, nothing failed, and the host is this one then
+pub record Becomes {D : Type 0} (due : Answer) (changed host : Host D) (answer : Answer) (outside : Outside) (next : Host D) : Type 0 where
+  pub answers : answer ≡ due
+  pub beside : outside ≡ quiet host
+  pub now : next ≡ changed
+
 -- the answer is this, and nothing changes
 pub record Says {D : Type 0} (due : Answer) (host : Host D) (answer : Answer) (outside : Outside) (next : Host D) : Type 0 where
   pub answers : answer ≡ due

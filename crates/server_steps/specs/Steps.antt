@@ -5,14 +5,15 @@ use Rattle.gd_disk.specs.declared.disks.Disk.{Ghosts as DiskGhosts}
 use Rattle.gd_edges.specs.declared.signers.Signer.{Ghosts as SignerGhosts}
 use Rattle.group_model.specs.declared.entries.Answer.{Answer}
 use Rattle.group_model.specs.declared.entries.Asked.{Asked}
-use Rattle.group_model.specs.declared.entries.Asked.TheVariants.{Batch, DeliverAll, Halt, Join, Leave, Reopen, Show}
+use Rattle.group_model.specs.declared.entries.Asked.TheVariants.{AddRule, Batch, DeliverAll, Halt, Introduce, Join, Leave, Reopen, Serve, Show}
 use Rattle.group_model.specs.declared.entries.Entry.{Entry}
 use Rattle.group_model.specs.declared.entries.Outside.{Outside}
 use Rattle.server_steps.specs.Batches.{IsBatching}
-use Rattle.server_steps.specs.Changes.{IsHalting, IsJoining, IsLeaving, IsNoDelivery, IsShowing}
+use Rattle.server_steps.specs.Changes.{IsAddingRule, IsHalting, IsJoining, IsLeaving, IsNoDelivery, IsShowing}
 use Rattle.server_steps.specs.Disks.{Counts}
 use Rattle.server_steps.specs.Hosts.{Host}
 use Rattle.server_steps.specs.Openings.{IsOpeningAgain}
+use Rattle.server_steps.specs.Pulls.{IsAnswering, IsIntroducing}
 
 -- One entry is such a step. The disk stays as honest as it is, and a fault of it was counted exactly where the entry notes one.
 pub record IsHostStep {D : Type 0} (d : DiskGhosts D) (step : Host D → Answer → Outside → Host D → Type 0) (host : Host D) (entry : Entry) (next : Host D)
@@ -25,6 +26,9 @@ module _ {D G : Type 0} (d : DiskGhosts D) (g : SignerGhosts G) (signer : G) (bl
   -- The answer of a server that was opened to a request that is made of it. It looks neither at members nor at what came before. `DeliverAll` is answered by it
   -- only where it has to be opened again.
   abbrev pub IsServed : Asked → Host D → Answer → Outside → Host D → Type 0
+  IsServed (AddRule rule) = IsAddingRule rule
+  IsServed (Introduce phase) = IsIntroducing phase
+  IsServed (Serve m datagram) = λ host. IsAnswering g signer block host datagram
   IsServed (Join m) = IsJoining m
   IsServed (Leave m) = IsLeaving m
   IsServed Batch = IsBatching d g signer block

@@ -1,8 +1,9 @@
 //! Requests that touch neither the disk nor the draws: changes that wait, and stops.
 ghost use Rattle.std.specs.Prelude.{◌≡◌, None};
+ghost use Rattle.group_model.specs.declared.entries.Answer.TheVariants as answers;
 ghost use Rattle.group_model.specs.declared.entries.Asked.TheVariants as requests;
 ghost use Rattle.server_steps.specs.Sent.{pair_by};
-ghost use Rattle.server_steps.specs.Serves.{Serves};
+ghost use Rattle.server_steps.specs.Serves.{ServesBeside, answer_done};
 ghost use Rattle.server_steps.specs.Waiting.{queue_after_join, queue_after_leave};
 
 use gcks_core::Core;
@@ -13,7 +14,7 @@ use group_model::{Answer, MemberName, Refusal};
 /// Asks the server to let a name in with the next batch. The answer is `Queued`, `Nothing` for a member, or the first reason against it: `NeedsReopen`,
 /// `AlreadyPending`, `TreeFull`, `BatchFull`.
 pub fn join<D: Disk, G: Signer, R: Draws>(core: &mut Core<D, G, R>, member: &MemberName) -> Answer
-    ensures serves { Serves D.Disk G.Signer R.Draws (requests.Join member.now) result core.old core.new }
+    ensures serves { ServesBeside D.Disk G.Signer R.Draws (requests.Join member.now) result core.old core.new }
     ensures waits { core.new.queue ≡ queue_after_join core.old.queue member.now result }
     ensures silent { pair_by result ≡ None }
 {
@@ -31,26 +32,22 @@ pub fn join<D: Disk, G: Signer, R: Draws>(core: &mut Core<D, G, R>, member: &Mem
     }
 }
 
-/// Asks the server to take a member out with the next batch. The answer is `Done`, or the first reason against it: `NeedsReopen`, `NotMember`,
-/// `AlreadyPending`, `BatchFull`.
-pub fn leave<D: Disk, G: Signer, R: Draws>(core: &mut Core<D, G, R>, member: &MemberName) -> Answer
-    ensures serves { Serves D.Disk G.Signer R.Draws (requests.Leave member.now) result core.old core.new }
-    ensures waits { core.new.queue ≡ queue_after_leave core.old.queue member.now result }
-    ensures silent { pair_by result ≡ None }
+/// Asks the server to take a member out with the next batch: `NeedsReopen`, `NotMember`, `AlreadyPending`, `BatchFull`, the first of these that holds.
+pub fn leave<D: Disk, G: Signer, R: Draws>(
+    core: &mut Core<D, G, R>,
+    member: &MemberName,
+) -> Result<(), Refusal>
+    ensures serves { ServesBeside D.Disk G.Signer R.Draws (requests.Leave member.now) (answer_done result) core.old core.new }
+    ensures waits { core.new.queue ≡ queue_after_leave core.old.queue member.now (answer_done result) }
 {
     core.rests();
-    match core.leave(member) {
-        Ok(()) => Answer::Done,
-        Err(why) => Answer::Refused { why },
-    }
+    core.leave(member)
 }
 
 /// From now on the server answers that it has to be opened again.
-pub fn halt<D: Disk, G: Signer, R: Draws>(core: &mut Core<D, G, R>) -> Answer
-    ensures serves { Serves D.Disk G.Signer R.Draws requests.Halt result core.old core.new }
+pub fn halt<D: Disk, G: Signer, R: Draws>(core: &mut Core<D, G, R>)
+    ensures serves { ServesBeside D.Disk G.Signer R.Draws requests.Halt answers.Done core.old core.new }
     ensures waits { core.new.queue ≡ core.old.queue }
-    ensures silent { pair_by result ≡ None }
 {
     core.halt();
-    Answer::Done
 }

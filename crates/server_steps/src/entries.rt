@@ -2,6 +2,7 @@
 ghost use Rattle.std.specs.Prelude.{◌≡◌};
 ghost use Rattle.group_model.specs.Answers.{disk_failed_by, found_by, is_disk_fault};
 ghost use Rattle.server_steps.specs.Entries.{noted};
+ghost use Rattle.server_steps.specs.Serves.{answer_done};
 
 use group_model::{Answer, Asked, Entry, Outside, Refusal};
 
@@ -21,6 +22,16 @@ pub fn entry(asked: Asked, answer: Answer, place: u64) -> Entry
     }
 }
 
+/// The answer to a call that says no more than that it is done.
+pub fn answer_done(done: Result<(), Refusal>) -> Answer
+    ensures { result ≡ answer_done done }
+{
+    match done {
+        Ok(()) => Answer::Done,
+        Err(why) => Answer::Refused { why },
+    }
+}
+
 /// Whether it was refused because the disk failed.
 fn disk_failed_by(answer: &Answer) -> bool
     ensures { result ≡ disk_failed_by answer.now }
@@ -28,6 +39,8 @@ fn disk_failed_by(answer: &Answer) -> bool
     match answer {
         Answer::Refused { why } => is_disk_fault(*why),
         Answer::Done
+        | Answer::RuleNumber { .. }
+        | Answer::Datagram { .. }
         | Answer::Queued
         | Answer::Batched { .. }
         | Answer::Opened { .. }
@@ -56,6 +69,8 @@ fn found_by(answer: &Answer) -> Option<u32>
     match answer {
         Answer::Opened { group, .. } => Some(group.epoch),
         Answer::Done
+        | Answer::RuleNumber { .. }
+        | Answer::Datagram { .. }
         | Answer::Queued
         | Answer::Batched { .. }
         | Answer::Shown { .. }

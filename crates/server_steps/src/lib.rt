@@ -4,9 +4,12 @@
 
 pub use batching::{Closed, close_batch};
 pub use changing::{halt, join, leave};
-pub use entries::entry;
-pub use laws::{a_closed_batch_is_served, nothing_was_served_yet, one_more_is_served};
-pub use opening::{Opened, create, open, reopen};
+pub use entries::{answer_done, entry};
+pub use laws::{
+    a_closed_batch_is_served, a_reopening_is_served, nothing_was_served_yet, one_more_is_served,
+};
+pub use opening::{create, open, reopen, show_opened};
+pub use replying::reply_says;
 pub use seeing::{ShowRoom, refuse_deliveries, show};
 
 mod batching;
@@ -14,4 +17,5 @@ mod changing;
 mod entries;
 mod laws;
 mod opening;
+mod replying;
 mod seeing;

@@ -6,7 +6,7 @@ ghost use Rattle.group_model.specs.declared.entries.Asked.TheVariants as request
 ghost use Rattle.gcks_core.specs.Stands.{Stands};
 ghost use Rattle.server_steps.specs.Private.Standings.{standings_among};
 ghost use Rattle.server_steps.specs.Sent.{pair_by};
-ghost use Rattle.server_steps.specs.Serves.{Serves};
+ghost use Rattle.server_steps.specs.Serves.{ServesBeside};
 
 use gcks_core::{Core, LkhId, Refusal};
 use gd_disk::Disk;
@@ -37,7 +37,7 @@ pub fn show<D: Disk, G: Signer, R: Draws>(
     alloc: Global,
     core: &Core<D, G, R>,
 ) -> Result<Answer, NoMemory>
-    ensures serves { IfOk result (λ answer. Serves D.Disk G.Signer R.Draws requests.Show answer core.now core.now) }
+    ensures serves { IfOk result (λ answer. ServesBeside D.Disk G.Signer R.Draws requests.Show answer core.now core.now) }
     ensures silent { IfOk result (λ answer. pair_by answer ≡ None) }
 {
     let standings = room(alloc, leaf_count(core.depth()))?;
@@ -53,7 +53,7 @@ pub fn show<D: Disk, G: Signer, R: Draws>(
 /// That no push is given to any member, since the server has to be opened again.
 pub fn refuse_deliveries<D: Disk, G: Signer, R: Draws>(core: &Core<D, G, R>) -> Answer
     requires { core.now.need ≡ true }
-    ensures serves { Serves D.Disk G.Signer R.Draws requests.DeliverAll result core.now core.now }
+    ensures serves { ServesBeside D.Disk G.Signer R.Draws requests.DeliverAll result core.now core.now }
     ensures silent { pair_by result ≡ None }
 {
     let _ = core.needs_reopen();

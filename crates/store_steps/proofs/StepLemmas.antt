@@ -14,8 +14,8 @@ use Rattle.group_model.specs.Places.{holders_at, is_member}
 use Rattle.group_model.specs.declared.entries.Answer.{Answer}
 use Rattle.group_model.specs.declared.entries.Answer.TheVariants.{Queued}
 use Rattle.group_model.specs.declared.entries.Asked.{Asked}
-use Rattle.group_model.specs.declared.entries.Asked.TheVariants.{Batch, Create, Begin, Join, Leave, Halt, Reopen, Show, Keep, Deliver}
-use Rattle.group_model.specs.declared.entries.Asked.TheVariants.{DeliverAll, Key, Derive}
+use Rattle.group_model.specs.declared.entries.Asked.TheVariants.{AddRule, Batch, Create, Begin, Introduce, Join, Leave, Halt, Reopen, Serve, Show}
+use Rattle.group_model.specs.declared.entries.Asked.TheVariants.{Keep, Deliver, DeliverAll, Key, Derive}
 use Rattle.group_model.specs.declared.entries.Entry.{Entry}
 use Rattle.group_model.specs.declared.entries.Outside.{Outside}
 use Rattle.group_model.specs.declared.entries.PushPair.{PushPair}
@@ -108,6 +108,9 @@ module _ {D G V : Type 0} (g : SignerGhosts G) (signer : G) (v : VerifierGhosts 
     ours_granted m answer = all
 
     ours_get : (request : Asked) (answer : Answer) (host : Host D) (next : Members) → Get request answer host members next → AreOurs next.all
+    ours_get (AddRule rule) answer host next get = absurd get
+    ours_get (Introduce phase) answer host next get = absurd get
+    ours_get (Serve m datagram) answer host next get = absurd get
     ours_get (Join m) answer host next get = same_members next _ get (ours_granted m answer)
     ours_get Batch answer host next get = same_members next _ get.2 all
     ours_get Reopen answer host next get = same_members next _ get all
@@ -149,6 +152,9 @@ module _ {D G V : Type 0} (g : SignerGhosts G) (signer : G) (v : VerifierGhosts 
         → IsAnswered d g signer v verifier block before asked run answer outside next → AreOurs next.members.all
     ours_answered before (Create depth) sent grows now step = same_members run.members all next.members _ step.stay all
     ours_answered before Begin sent grows now step = same_members run.members all next.members _ step.stay all
+    ours_answered before (AddRule rule) sent grows now step = absurd step
+    ours_answered before (Introduce phase) sent grows now step = absurd step
+    ours_answered before (Serve m datagram) sent grows now step = absurd step
     ours_answered before (Join m) sent grows now step = ours_get run.members all (Join m) answer next.host next.members step.get
     ours_answered before (Leave m) sent grows now step = ours_get run.members all (Leave m) answer next.host next.members step.get
     ours_answered before Batch sent grows now step = ours_get run.members all Batch answer next.host next.members step.get

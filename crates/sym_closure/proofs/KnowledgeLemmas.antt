@@ -18,8 +18,8 @@ use Rattle.group_terms.specs.declared.keys.Wrap.{Wrap}
 use Rattle.group_model.specs.declared.entries.Entry.{Entry}
 use Rattle.group_model.specs.declared.entries.SymReply.{SymReply}
 use Rattle.group_model.specs.declared.entries.Answer.{Answer}
-use Rattle.group_model.specs.declared.entries.Answer.TheVariants.{Batched}
-use Rattle.group_model.specs.Derivations.{CanDerive, replies_in, held_names, names_to, reply_pairs, pairs_in, pairs_sent}
+use Rattle.group_model.specs.declared.entries.Answer.TheVariants.{Batched, Datagram}
+use Rattle.group_model.specs.Derivations.{CanDerive, reply_in, replies_in, held_names, names_to, reply_pairs, pairs_in, pairs_sent}
 use Rattle.group_model.specs.Replies.{says_of}
 use Rattle.sym_closure.specs.Firsts.{AreAmong, HasSame}
 use Rattle.sym_closure.specs.Knowledge.{Known, Knows, KnowsAll}
@@ -78,6 +78,7 @@ replied_pair : (answer : Answer) (reply : SymReply) (pair : Wrap) → Contains (
     → Contains (pairs_in answer) pair
 replied_pair (Batched output) reply pair c k = Contains-append_right output.wraps (flat_map reply_pairs (says_of output.replies)) pair
     (Contains-flat_map reply_pairs (says_of output.replies) reply pair c k)
+replied_pair (Datagram octets names) reply pair c k = Contains-flat_map reply_pairs (reply_in names) reply pair c k
 replied_pair answer reply pair c k = absurd (no_item reply c)
 
 -- so what members derive from all that they hold, they derive from their phase 1 keys

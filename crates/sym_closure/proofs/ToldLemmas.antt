@@ -15,7 +15,7 @@ use Rattle.group_model.specs.Wraps.{wraps_at}
 use Rattle.group_model.specs.Derivations.{replies_in, replies_sent, names_to, held_names, reply_pairs, pairs_in, pairs_resent, pairs_sent, wraps_in}
 use Rattle.group_model.specs.Growth.{Adds, AddsAll, Begins, IsReplyOf, SendsLast}
 use Rattle.group_model.specs.declared.entries.Answer.{Answer}
-use Rattle.group_model.specs.declared.entries.Answer.TheVariants.{Batched, Opened}
+use Rattle.group_model.specs.declared.entries.Answer.TheVariants.{Batched, Datagram, Opened}
 use Rattle.group_model.specs.declared.entries.Entry.{Entry}
 use Rattle.group_model.specs.declared.entries.SymReply.{SymReply}
 use Rattle.group_model.specs.Laws.{Laws}
@@ -36,6 +36,7 @@ pub record Tells (first depth : ℕ) (batches : List (List Change)) (entries : L
 -- all that an answer sends: what it sends for all to see, and what its replies encrypt
 pairs_parts : (answer : Answer) → pairs_in answer ≡ wraps_in answer ++ flat_map reply_pairs (replies_in answer)
 pairs_parts (Batched output) = refl
+pairs_parts (Datagram octets names) = refl
 pairs_parts (Opened seen resent) = sym (append-nil (pairs_resent resent))
 pairs_parts answer = refl
 

@@ -2,14 +2,15 @@
 ghost use Rattle.std.specs.Prelude.{◌≡◌, [], ◌++◌, IfOk, OnOk};
 ghost use Rattle.std.specs.List.{flat_map};
 ghost use Rattle.group_model.specs.declared.entries.SentReply.{SentReply};
-ghost use Rattle.group_model.specs.Replies.{says_of};
-ghost use Rattle.group_model.specs.Derivations.{names_to, held_names, replies_in};
+ghost use Rattle.group_model.specs.Derivations.{names_to, held_names, reply_in, replies_in};
 ghost use Rattle.group_model.specs.Derivations.{told_pairs, reply_pairs, pairs_resent, pairs_in, pairs_sent};
 ghost use Rattle.sym_closure.specs.Firsts.{AreFirsts, HasSame};
 ghost use Rattle.sym_closure.specs.Private.Gains.{Gains};
 
 use crate::once::Once;
-use group_model::{Answer, Entry, KeyName, List, MemberName, NoMemory, PushPair, SentReply, Wrap};
+use group_model::{
+    Answer, Entry, KeyName, List, MemberName, NoMemory, PushPair, SentReply, SymReply, Wrap,
+};
 use std::alloc::Global;
 
 /// What some members hold after a history, each key once: their phase 1 keys (RFC 6407 section 2) in the order asked, and then
@@ -27,7 +28,7 @@ pub fn held(
         names.add(KeyName::Phase { member: *member })?;
     }
     for entry in history {
-        add_names(&mut names, replies_of(&entry.answer), members)?;
+        add_told(&mut names, &entry.answer, members)?;
     }
     Ok(names.into_list())
 }
@@ -45,25 +46,32 @@ pub fn sent_pairs(alloc: Global, history: &[Entry]) -> Result<List<Wrap>, NoMemo
     Ok(pairs.into_list())
 }
 
-/// The replies that an answer sent.
-fn replies_of(answer: &Answer) -> &[SentReply]
-    ensures { says_of result.now ≡ replies_in answer.now }
+/// Adds the keys that an answer told these members.
+fn add_told(
+    names: &mut Once<KeyName>,
+    answer: &Answer,
+    members: &[MemberName],
+) -> Result<(), NoMemory>
+    ensures { OnOk result (Gains names.old (flat_map (names_to members.now) (replies_in answer.now)) names.new) }
 {
     match answer {
-        Answer::Batched { output } => output.replies.as_slice(),
-        Answer::Done
-        | Answer::Queued
-        | Answer::Opened { .. }
-        | Answer::Shown { .. }
-        | Answer::Kept { .. }
-        | Answer::Older { .. }
-        | Answer::TookRoot { .. }
-        | Answer::TookTraffic { .. }
-        | Answer::PushRefused { .. }
-        | Answer::KeyIs { .. }
-        | Answer::Nothing
-        | Answer::Derived { .. }
-        | Answer::Refused { .. } => &[],
+        Answer::Batched { output } => add_names(names, output.replies.as_slice(), members),
+        Answer::Datagram { names: replied, .. } => add_replied(names, replied, members),
+        _ => Ok(()),
+    }
+}
+
+/// Adds the keys of the reply in a message of a pull, where there is one and it went to one of these members.
+fn add_replied(
+    names: &mut Once<KeyName>,
+    replied: &Option<SymReply>,
+    members: &[MemberName],
+) -> Result<(), NoMemory>
+    ensures { OnOk result (Gains names.old (flat_map (names_to members.now) (reply_in replied.now)) names.new) }
+{
+    match replied {
+        Some(reply) => add_names_of(names, reply, members),
+        None => Ok(()),
     }
 }
 
@@ -76,26 +84,27 @@ fn add_names(
     ensures { OnOk result (Gains names.old (flat_map (λ (reply : SentReply). names_to members.now reply.says) replies.now) names.new) }
 {
     for reply in replies {
-        add_names_of(names, reply, members)?;
+        add_names_of(names, &reply.says, members)?;
     }
     Ok(())
 }
 
 fn add_names_of(
     names: &mut Once<KeyName>,
-    reply: &SentReply,
+    reply: &SymReply,
     members: &[MemberName],
 ) -> Result<(), NoMemory>
-    ensures { OnOk result (Gains names.old (names_to members.now reply.now.says) names.new) }
+    ensures { OnOk result (Gains names.old (names_to members.now reply.now) names.new) }
 {
-    if members.contains(&reply.says.member) {
-        names.add_all(reply.says.names.as_slice())
+    if members.contains(&reply.member) {
+        names.add_all(reply.names.as_slice())
     } else {
         Ok(())
     }
 }
 
-/// All that an answer sent: the wraps of a batch, and then what its replies encrypt; or the pushes that an opening sent again.
+/// All that an answer sent: the wraps of a batch, and then what its replies encrypt; or the pushes that an opening sent again; or
+/// a message of a pull.
 pub(crate) fn pairs_in(alloc: Global, answer: &Answer) -> Result<List<Wrap>, NoMemory>
     ensures { IfOk result (λ pairs. pairs ≡ pairs_in answer.now) }
 {
@@ -106,18 +115,8 @@ pub(crate) fn pairs_in(alloc: Global, answer: &Answer) -> Result<List<Wrap>, NoM
             Ok(pairs)
         }
         Answer::Opened { resent, .. } => pairs_resent(alloc, resent),
-        Answer::Done
-        | Answer::Queued
-        | Answer::Shown { .. }
-        | Answer::Kept { .. }
-        | Answer::Older { .. }
-        | Answer::TookRoot { .. }
-        | Answer::TookTraffic { .. }
-        | Answer::PushRefused { .. }
-        | Answer::KeyIs { .. }
-        | Answer::Nothing
-        | Answer::Derived { .. }
-        | Answer::Refused { .. } => Ok(List::new(alloc)),
+        Answer::Datagram { names: replied, .. } => pairs_replied(alloc, replied),
+        _ => Ok(List::new(alloc)),
     }
 }
 
@@ -127,6 +126,20 @@ fn pairs_resent(alloc: Global, resent: &Option<PushPair>) -> Result<List<Wrap>, 
 {
     match resent {
         Some(pair) => List::copy_of(alloc, pair.wraps.as_slice()),
+        None => Ok(List::new(alloc)),
+    }
+}
+
+/// What the reply in a message of a pull encrypts, where there is one.
+fn pairs_replied(alloc: Global, replied: &Option<SymReply>) -> Result<List<Wrap>, NoMemory>
+    ensures { IfOk result (λ pairs. pairs ≡ flat_map reply_pairs (reply_in replied.now)) }
+{
+    match replied {
+        Some(reply) => {
+            let mut pairs = List::new(alloc);
+            add_keys(&mut pairs, &reply.member, reply.names.as_slice())?;
+            Ok(pairs)
+        }
         None => Ok(List::new(alloc)),
     }
 }

@@ -35,6 +35,12 @@ pub fn add_shown(detail: Detail, octets: &[u8], text: &mut Text) {
 fn add_refusal(refusal: Refusal, text: &mut Text) {
     match refusal {
         Refusal::NeedsReopen => text.add("needs-reopen"),
+        Refusal::Malformed { .. } => text.add("malformed"),
+        Refusal::UnknownPeer => text.add("unknown-peer"),
+        Refusal::WrongStep => text.add("wrong-step"),
+        Refusal::BadHash { .. } => text.add("bad-hash"),
+        Refusal::WrongGroup => text.add("wrong-group"),
+        Refusal::Denied { rule } => add_with_number("denied ", u64::from(rule), text),
         Refusal::NotMember => text.add("not-member"),
         Refusal::AlreadyPending => text.add("already-pending"),
         Refusal::TreeFull { held } => add_with_number("tree-full ", u64::from(held), text),
@@ -43,6 +49,8 @@ fn add_refusal(refusal: Refusal, text: &mut Text) {
         }
         Refusal::Spent { counter, at } => add_with_number(spent(counter), u64::from(at), text),
         Refusal::DiskFault => text.add("disk-fault"),
+        Refusal::PhaseTaken => text.add("phase-taken"),
+        Refusal::PhaseFull { held } => add_with_number("phase-full ", u64::from(held), text),
         Refusal::NotAJournal { at } => add_with_number("not-a-journal ", at, text),
         Refusal::NoMemory => text.add("no-memory"),
     }

@@ -1,13 +1,17 @@
-use Rattle.std.proofs.Common.{◌∙◌, sym, subst}
+use Rattle.std.proofs.Common.{◌∙◌, sym, subst, refl}
+use Rattle.std.specs.Prelude.{IsOk}
 use Rattle.group_model.specs.Places.{Fits}
+use Rattle.gcks_core.proofs.WaitLemmas.{is_added}
 use Rattle.gcks_core.proofs.waiting.queue_join.Goals as goal
 
-pub returns-in-Ok-clause-fits : goal.returns-in-Ok-clause-fits
-returns-in-Ok-clause-fits c =
+pub unwrap-requires : goal.unwrap-requires
+unwrap-requires c =
     let tree = c.args.tree.now in
-    let queue = c.args.queue.now in
-    let m = c.args.member.now in
-    let each = sym c.leaves.ensures.each ∙ c.leaves.ensures.leaves in
-    subst (Fits tree.holders) (sym c.in-Ok.ensures.ok)
-    (c.granted_changes_fit.ensures.joins tree.depth tree.holders queue m each c.requires.fits c.requires.stranger (sym c.has.ensures ∙ c.if-has.false)
-    (λ full. c.if-held-leaves.false (c.count_taken-held.ensures ∙ full ∙ sym c.leaves.ensures.leaves)))
+    let none = sym c.why_no_join.ensures.why ∙ c.in_default.is in
+    let added = is_added c.args.stopped tree.depth tree.holders c.args.queue.now c.args.member.now none in
+    subst IsOk (sym (c.add.ensures.answer ∙ added)) refl
+
+pub returns-clause-fits : goal.returns-clause-fits
+returns-clause-fits c =
+    let added = rw c.unwrap.ensures at c.add.ensures.ok in
+    subst (Fits c.args.tree.now.holders) (sym added) (c.why_no_join.ensures.fits c.in_default.is c.requires.stranger)

@@ -1,9 +1,7 @@
-use Rattle.std.proofs.Common.{[], map, sym, ap, ◌∙◌, subst}
+use Rattle.std.proofs.Common.{[], map, sym, subst}
 use Rattle.std.proofs.lemmas.List.{take_all}
-use Rattle.std.proofs.lemmas.List.Folds.{flat_map-map}
 use Rattle.group_terms.specs.declared.keys.KeyName.TheVariants.{Phase}
 use Rattle.group_model.specs.declared.entries.Entry.{Entry}
-use Rattle.group_model.specs.declared.entries.SentReply.{SentReply}
 use Rattle.group_model.specs.Derivations.{names_to, replies_in, held_names}
 use Rattle.std.specs.List.{flat_map}
 use Rattle.sym_closure.specs.Firsts.{HasSame}
@@ -19,11 +17,8 @@ loop-member-preserved c =
 pub loop-entry-preserved : goal.loop-entry-preserved
 loop-entry-preserved c =
     let members = c.args.members.now in
-    Gains-next (λ (entry : Entry). flat_map (names_to members) (replies_in entry.answer)) [] c.loop-entry.names c.add_names.new.names (map Phase members) c.args.history.now c.loop-entry.entry-index c.entry-item.result
-    c.loop-entry-test.true c.entry-item.is c.loop-entry.invariant
-    (subst (λ names. Gains c.loop-entry.names names c.add_names.new.names)
-    (sym (flat_map-map (names_to members) (λ (reply : SentReply). reply.says) c.replies_of.result.now) ∙ ap (flat_map (names_to members)) c.replies_of.ensures)
-    c.in_ok-add_names.ensures)
+    Gains-next (λ (entry : Entry). flat_map (names_to members) (replies_in entry.answer)) [] c.loop-entry.names c.add_told.new.names (map Phase members) c.args.history.now c.loop-entry.entry-index c.entry-item.result
+    c.loop-entry-test.true c.entry-item.is c.loop-entry.invariant c.in_ok-add_told.ensures
 
 pub returns-clause-same : goal.returns-clause-same
 returns-clause-same c =

@@ -1,7 +1,7 @@
 use Rattle.std.proofs.Common.{subst}
 use Rattle.std.proofs.lemmas.Bool.{and_parts, leb-true}
 use Rattle.group_terms.specs.Octets.{AreOctets}
-use Rattle.pull_sessions.proofs.fits.nonce_fits.Goals as goal
+use Rattle.pull_msgs.proofs.fits.nonce_fits.Goals as goal
 
 pub returns : goal.returns
 returns c = record {

@@ -1,0 +1,108 @@
+//! The lines of rules, of introductions, and of the messages of pulls.
+ghost use Rattle.std.specs.Prelude.{◌≡◌, ◌++◌, OnOk};
+ghost use Rattle.std.specs.List.{flat_map};
+ghost use Rattle.script_text.specs.Report.{rule_text, introduction_text, message_line, serve_text, reply_line};
+
+use crate::numbers::append_number;
+use crate::pushes::append_octets;
+use crate::refusals::append_refusal;
+use group_model::{Answer, MemberName, NoMemory, Octets, SentReply};
+use std::alloc::Global;
+
+pub fn append_rule(alloc: Global, answer: &Answer, out: &mut Octets) -> Result<(), NoMemory>
+    ensures { OnOk result (out.new ≡ out.old ++ rule_text answer.now) }
+{
+    match answer {
+        Answer::RuleNumber { number } => {
+            out.extend(b"rule ")?;
+            append_number(alloc, *number, out)?;
+            out.extend(b"\n")
+        }
+        _ => Ok(()),
+    }
+}
+
+pub fn append_introduction(
+    alloc: Global,
+    member: &MemberName,
+    answer: &Answer,
+    out: &mut Octets,
+) -> Result<(), NoMemory>
+    ensures { OnOk result (out.new ≡ out.old ++ introduction_text member.now answer.now) }
+{
+    match answer {
+        Answer::Refused { why } => append_refusal(alloc, member.text(), why, out),
+        _ => Ok(()),
+    }
+}
+
+pub fn append_serve(
+    alloc: Global,
+    member: &MemberName,
+    answer: &Answer,
+    out: &mut Octets,
+) -> Result<(), NoMemory>
+    ensures { OnOk result (out.new ≡ out.old ++ serve_text member.now answer.now) }
+{
+    match answer {
+        Answer::Datagram {
+            octets,
+            names: None,
+        } => append_message(alloc, b"second", member, octets.as_slice(), out),
+        Answer::Datagram {
+            octets,
+            names: Some(_),
+        } => append_message(alloc, b"fourth", member, octets.as_slice(), out),
+        Answer::Queued => {
+            out.extend(member.text())?;
+            out.extend(b" queued\n")
+        }
+        Answer::Refused { why } => append_refusal(alloc, member.text(), why, out),
+        _ => Ok(()),
+    }
+}
+
+/// Puts a line for each reply that has a datagram at the end of a text.
+pub fn append_replies(
+    alloc: Global,
+    replies: &[SentReply],
+    out: &mut Octets,
+) -> Result<(), NoMemory>
+    ensures { OnOk result (out.new ≡ out.old ++ flat_map reply_line replies.now) }
+{
+    for reply in replies {
+        append_reply(alloc, reply, out)?;
+    }
+    Ok(())
+}
+
+fn append_reply(alloc: Global, reply: &SentReply, out: &mut Octets) -> Result<(), NoMemory>
+    ensures { OnOk result (out.new ≡ out.old ++ reply_line reply.now) }
+{
+    if reply.datagram.is_empty() {
+        return Ok(());
+    }
+    append_message(
+        alloc,
+        b"fourth",
+        &reply.says.member,
+        reply.datagram.as_slice(),
+        out,
+    )
+}
+
+/// Puts the line of a message to a member at the end of a text; `which` is the word for the message.
+fn append_message(
+    alloc: Global,
+    which: &[u8],
+    member: &MemberName,
+    octets: &[u8],
+    out: &mut Octets,
+) -> Result<(), NoMemory>
+    ensures { OnOk result (out.new ≡ out.old ++ message_line which.now member.now octets.now) }
+{
+    out.extend(which)?;
+    out.extend(b" ")?;
+    out.extend(member.text())?;
+    append_octets(alloc, octets, out)
+}
