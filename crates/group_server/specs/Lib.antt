@@ -1,0 +1,4 @@
+pub mod Answers
+pub mod Complete
+pub mod Invariants
+pub mod Private

@@ -1,0 +1,83 @@
+//! What a server shows of its group.
+ghost use Rattle.std.specs.Prelude.{◌≡◌, ◌≤◌, length};
+ghost use Rattle.group_model.specs.Places.{member_at, member_count, place_in};
+
+use crate::GroupServer;
+use gd_disk::Disk;
+use gd_edges::{Draws, Signer};
+use group_model::{LkhId, MemberName};
+use group_terms::TrafficValue;
+
+impl<D: Disk, G: Signer, R: Draws> GroupServer<D, G, R> {
+    /// How deep its tree is.
+    pub fn depth(&self) -> u8
+        ensures depth { result ≡ self.now.core.head.depth }
+        ensures shallow { 1 ≤ result }
+        ensures not_deep { result ≤ 9 }
+    {
+        self.core.depth()
+    }
+
+    /// The present epoch.
+    pub fn epoch(&self) -> u32
+        ensures { result ≡ self.now.core.tree.epoch }
+    {
+        self.core.epoch()
+    }
+
+    /// The number of the last push, 0 before the first.
+    pub fn sequence(&self) -> u32
+        ensures { result ≡ self.now.core.tree.sequence }
+    {
+        self.core.sequence()
+    }
+
+    /// How many members there are.
+    pub fn members(&self) -> u32
+        ensures { result ≡ member_count self.now.core.tree.holders }
+    {
+        self.core.members()
+    }
+
+    /// How many rules there are.
+    pub fn rule_count(&self) -> u32
+        ensures { result ≡ length self.now.rules }
+    {
+        self.rules.len()
+    }
+
+    /// The leaf of a member; `None` iff not a member.
+    pub fn place(&self, member: &MemberName) -> Option<LkhId>
+        ensures { result ≡ place_in self.now.core.tree.depth self.now.core.tree.holders member.now }
+    {
+        self.core.place(member)
+    }
+
+    /// Who has a leaf; `None` where nobody has it, and at a position that is no leaf.
+    pub fn member_at(&self, leaf: LkhId) -> Option<MemberName>
+        ensures { result ≡ member_at self.now.core.tree.depth self.now.core.tree.holders leaf }
+    {
+        self.core.member_at(leaf)
+    }
+
+    /// The value of the present traffic key; `None` exactly at epoch 0.
+    pub fn traffic(&self) -> Option<TrafficValue>
+        ensures { result ≡ self.now.core.kept.traffic }
+    {
+        self.core.traffic()
+    }
+
+    /// The place of its draws.
+    pub fn draws_at(&self) -> u64
+        ensures { result ≡ R.place_of self.now.core.draws }
+    {
+        self.core.draws_at()
+    }
+
+    /// Whether it has to be opened again.
+    pub fn needs_reopen(&self) -> bool
+        ensures { result ≡ self.now.core.need }
+    {
+        self.core.needs_reopen()
+    }
+}
