@@ -33,9 +33,11 @@ use Rattle.pull_sessions.specs.Sessions.{Sessions}
 use Rattle.pull_sessions.specs.declared.answers.Kept.{Kept}
 use Rattle.pull_sessions.specs.declared.answers.Kept.TheVariants as kept
 use Rattle.pull_sessions.specs.declared.answers.Looked.{Looked}
+use Rattle.pull_sessions.specs.declared.answers.LookedAt.{LookedAt}
 use Rattle.pull_sessions.specs.declared.answers.LookedAt.TheVariants.{NewFirst, NextThird, Repeat}
 use Rattle.pull_sessions.specs.declared.refusals.SessionRefusal.{SessionRefusal}
 use Rattle.pull_sessions.specs.declared.refusals.SessionRefusal.TheVariants as causes
+use Rattle.pull_sessions.specs.declared.sas.Sa.{Sa}
 use Rattle.server_steps.specs.Disks.{Counts}
 use Rattle.server_steps.specs.Entries.{beside}
 use Rattle.server_steps.specs.Hosts.{Host}
@@ -110,6 +112,14 @@ plain_third rules server m =
     plain_unless (judgement rules m) (if is_member (members_now server) m then why_pending server m else refusal_to_join server m)
     (plain_if (is_member (members_now server) m) (why_pending server m) (refusal_to_join server m) (plain_pending server m)
     (plain_no_join server.need server.depth (members_now server) server.queue m))
+
+-- ---- looks
+
+-- what a look found is this
+pub found : (sas : List Sa) (datagram : List ℕ) (looked : Looked) (what : LookedAt) → looked.what ≡ what → IsLook sas datagram (Ok looked)
+    → IsLook sas datagram (Ok (record { member = looked.member; what = what }))
+found sas datagram looked what is look =
+    subst (λ (what : LookedAt). IsLook sas datagram (Ok (record { member = looked.member; what = what }))) is look
 
 -- ---- requests
 

@@ -12,8 +12,8 @@ ghost use Rattle.pull_sessions.specs.Builds.{IsFirstFrom, IsThirdFrom};
 ghost use Rattle.pull_sessions.specs.Sessions.{is_queued_of, sa_of, session_of};
 ghost use Rattle.server_steps.specs.Views.{server_of};
 
+use crate::Reply;
 use crate::messages::policy_of;
-use crate::{GroupServer, Reply};
 use gcks_core::{Core, Keyed};
 use gd_disk::Disk;
 use gd_edges::{Draws, Signer};
@@ -23,77 +23,6 @@ use pull_sessions::{First, Kept, Nonce, Sessions, Third};
 use server_steps::reply_says;
 use std::alloc::Global;
 
-impl<D: Disk, G: Signer, R: Draws> GroupServer<D, G, R> {
-    /// A first message is accepted: the next block of the draws is the server's nonce, a session begins, in place of the member's old one, and the answer is the
-    /// second message. `NoMemory`.
-    pub(crate) fn begin(
-        &mut self,
-        alloc: Global,
-        member: &MemberName,
-        first: First,
-        datagram: &[u8],
-    ) -> Result<Reply, Refusal>
-        requires first { IsFirstFrom self.old.sessions.sas member.now datagram.now first }
-        requires idle { is_pending self.old.core.queue member.now ≡ false }
-        ensures { AcceptsFirst D.Disk G.Signer R.Draws member.now first datagram.now (answer_served result) self.old self.new }
-    {
-        begin_session(
-            alloc,
-            &mut self.core,
-            &mut self.sessions,
-            member,
-            first,
-            datagram,
-        )
-    }
-
-    /// A third message of a member is accepted: the answer is the fourth message, with the present keys. `NoMemory`.
-    pub(crate) fn reply(
-        &mut self,
-        alloc: Global,
-        member: &MemberName,
-        third: Third,
-        datagram: &[u8],
-    ) -> Result<Reply, Refusal>
-        requires third { IsThirdFrom self.old.sessions.sas member.now datagram.now third }
-        requires member { is_member self.old.core.tree.holders member.now ≡ true }
-        requires open { self.old.core.need ≡ false }
-        ensures { AcceptsMember D.Disk G.Signer R.Draws member.now third datagram.now (answer_served result) self.old self.new }
-    {
-        reply_now(
-            alloc,
-            &self.core,
-            &mut self.sessions,
-            member,
-            third,
-            datagram,
-        )
-    }
-
-    /// A third message of somebody who is no member is accepted: the join waits for the next batch, and so does the session. `NoMemory`.
-    pub(crate) fn queue(
-        &mut self,
-        alloc: Global,
-        member: &MemberName,
-        third: Third,
-        datagram: &[u8],
-    ) -> Result<Reply, Refusal>
-        requires third { IsThirdFrom self.old.sessions.sas member.now datagram.now third }
-        requires stranger { is_member self.old.core.tree.holders member.now ≡ false }
-        requires granted { why_no_join self.old.core.need self.old.core.tree.depth self.old.core.tree.holders self.old.core.queue member.now ≡ None }
-        ensures { AcceptsJoin D.Disk G.Signer R.Draws member.now third datagram.now (answer_served result) self.old self.new }
-    {
-        queue_join(
-            alloc,
-            &mut self.core,
-            &mut self.sessions,
-            member,
-            third,
-            datagram,
-        )
-    }
-}
-
 /// A message that is sent, and the same again, which its session keeps.
 #[derive(Drop)]
 struct Twice {
@@ -101,8 +30,9 @@ struct Twice {
     kept: Octets,
 }
 
-/// Begins the session of a first message.
-fn begin_session<D: Disk, G: Signer, R: Draws>(
+/// A first message is accepted: the next block of the draws is the server's nonce, a session begins, in place of the member's old one, and the answer is the
+/// second message. `NoMemory`.
+pub(crate) fn begin_session<D: Disk, G: Signer, R: Draws>(
     alloc: Global,
     core: &mut Core<D, G, R>,
     sessions: &mut Sessions,
@@ -159,8 +89,8 @@ fn second_message<D: Disk, G: Signer, R: Draws>(
     Ok(Twice { sent, kept })
 }
 
-/// Answers the third message of a member.
-fn reply_now<D: Disk, G: Signer, R: Draws>(
+/// A third message of a member is accepted: the answer is the fourth message, with the present keys. `NoMemory`.
+pub(crate) fn reply_now<D: Disk, G: Signer, R: Draws>(
     alloc: Global,
     core: &Core<D, G, R>,
     sessions: &mut Sessions,
@@ -209,8 +139,8 @@ fn fourth_message(
     Ok(Twice { sent, kept })
 }
 
-/// Lets the join of a third message wait, and its session.
-fn queue_join<D: Disk, G: Signer, R: Draws>(
+/// A third message of somebody who is no member is accepted: the join waits for the next batch, and so does the session. `NoMemory`.
+pub(crate) fn queue_join<D: Disk, G: Signer, R: Draws>(
     alloc: Global,
     core: &mut Core<D, G, R>,
     sessions: &mut Sessions,

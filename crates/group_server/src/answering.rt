@@ -1,137 +1,79 @@
 //! Datagrams that the server is given (RFC 6407 section 3).
-ghost use Rattle.std.specs.Prelude.{◌≡◌, false, None, Ok};
-ghost use Rattle.gcks_core.specs.Stands.{Stands};
+ghost use Rattle.std.specs.Prelude.{◌≡◌};
 ghost use Rattle.group_terms.specs.Names.{Name};
-ghost use Rattle.group_model.specs.Places.{is_member};
-ghost use Rattle.group_model.specs.Servers.{Server};
 ghost use Rattle.group_model.specs.declared.entries.Asked.TheVariants as requests;
 ghost use Rattle.group_server.specs.Answers.{answer_served};
-ghost use Rattle.pull_sessions.specs.Looks.{IsLook};
-ghost use Rattle.pull_sessions.specs.declared.answers.LookedAt.TheVariants.{NewFirst, NextThird};
-ghost use Rattle.server_steps.specs.Refusals.{refusal_to_third};
+ghost use Rattle.group_server.specs.Invariants.{JoinsHaveSessions};
 ghost use Rattle.server_steps.specs.Serves.{Serves};
+ghost use Rattle.server_steps.specs.Views.{server_of};
 
+use crate::accepting::{begin_session, queue_join, reply_now};
+use crate::judging::{refusal_to_first, refusal_to_third};
 use crate::refusals::refusal_of;
 use crate::replies::reply_of;
 use crate::{GroupServer, Reply};
+use gcks_core::Core;
 use gd_disk::Disk;
 use gd_edges::{Draws, Signer};
-use group_model::{MemberName, Refusal};
-use pull_sessions::{First, Looked, LookedAt, SessionRefusal, Third, what_is_found_can_be_held};
+use group_model::Refusal;
+use group_policy::Rules;
+use pull_sessions::{Looked, LookedAt, Sessions, what_is_found_can_be_held};
 use std::alloc::Global;
 
 impl<D: Disk, G: Signer, R: Draws> GroupServer<D, G, R> {
     /// Answers a datagram: a first message by the second one, the third one of a member by the fourth one; of anybody else the join waits for the next batch.
     ///
-    /// The first of these that holds is the answer: `NeedsReopen`; `Malformed` for the header; `UnknownPeer`; what was answered before, to the datagram that the
-    /// session took last; `WrongStep`; `Malformed` or `BadHash` for the message that is due; of a first message `WrongGroup`; `Denied`; `AlreadyPending`; of the
-    /// third message of who is no member `TreeFull`, `BatchFull`. `NoMemory`.
+    /// The first of these that holds is the answer: `NeedsReopen`; `Malformed` for the header; `UnknownPeer`; what was answered before, to the datagram that
+    /// the session took last; `WrongStep`; `Malformed` or `BadHash` for the message that is due; of a first message `WrongGroup`; `Denied`; `AlreadyPending`;
+    /// of the third message of who is no member `TreeFull`, `BatchFull`. `NoMemory`.
     pub fn serve(&mut self, alloc: Global, datagram: &[u8]) -> Result<Reply, Refusal>
         ensures { (asker : Name) → Serves D.Disk G.Signer R.Draws (requests.Serve asker datagram.now) (answer_served result) self.old self.new }
     {
-        if self.needs_reopen() {
-            return Err(Refusal::NeedsReopen);
-        }
-        match self.look(alloc, datagram) {
-            Ok(looked) => self.answer(alloc, looked, datagram),
-            Err(why) => Err(refusal_of(why)),
-        }
+        answer(
+            alloc,
+            &mut self.core,
+            &self.rules,
+            &mut self.sessions,
+            datagram,
+        )
     }
+}
 
-    /// Finds out what a datagram is.
-    fn look(&self, alloc: Global, datagram: &[u8]) -> Result<Looked, SessionRefusal>
-        ensures { IsLook self.now.sessions.sas datagram.now result }
-    {
-        self.sessions.look(alloc, datagram)
+/// The order of what a datagram meets: whether the group is open; what the sessions find that it is; what was answered to it before; the first reason against a
+/// first message, or against a third one; and who is a member.
+fn answer<D: Disk, G: Signer, R: Draws>(
+    alloc: Global,
+    core: &mut Core<D, G, R>,
+    rules: &Rules,
+    sessions: &mut Sessions,
+    datagram: &[u8],
+) -> Result<Reply, Refusal>
+    ensures serves { (asker : Name) → Serves D.Disk G.Signer R.Draws (requests.Serve asker datagram.now) (answer_served result)
+        (server_of core.old rules.now sessions.old) (server_of core.new rules.now sessions.new) }
+    ensures sound { JoinsHaveSessions core.old.queue sessions.old.sas → JoinsHaveSessions core.new.queue sessions.new.sas }
+{
+    what_is_found_can_be_held();
+    core.rests();
+    sessions.prove_sound();
+    if core.needs_reopen() {
+        return Err(Refusal::NeedsReopen);
     }
-
-    /// Answers a datagram, of which this was found.
-    fn answer(&mut self, alloc: Global, looked: Looked, datagram: &[u8]) -> Result<Reply, Refusal>
-        requires open { self.old.core.need ≡ false }
-        requires look { IsLook self.old.sessions.sas datagram.now (Ok looked) }
-        ensures { (asker : Name) → Serves D.Disk G.Signer R.Draws (requests.Serve asker datagram.now) (answer_served result) self.old self.new }
-    {
-        let Looked { member, what } = looked;
-        match what {
-            LookedAt::Repeat { kept } => Ok(reply_of(kept)),
-            LookedAt::NewFirst { first } => self.take_first(alloc, &member, first, datagram),
-            LookedAt::NextThird { third } => self.take_third(alloc, &member, third, datagram),
-        }
-    }
-
-    /// Answers a first message.
-    fn take_first(
-        &mut self,
-        alloc: Global,
-        member: &MemberName,
-        first: First,
-        datagram: &[u8],
-    ) -> Result<Reply, Refusal>
-        requires open { self.old.core.need ≡ false }
-        requires look { IsLook self.old.sessions.sas datagram.now (Ok (record { member = member.now; what = NewFirst first })) }
-        ensures { (asker : Name) → Serves D.Disk G.Signer R.Draws (requests.Serve asker datagram.now) (answer_served result) self.old self.new }
-    {
-        what_is_found_can_be_held();
-        self.prove_sound();
-        self.rests();
-        match self.refusal_to_first(member, &first) {
+    let Looked { member, what } = match sessions.look(alloc, datagram) {
+        Ok(looked) => looked,
+        Err(why) => return Err(refusal_of(why)),
+    };
+    match what {
+        LookedAt::Repeat { kept } => Ok(reply_of(kept)),
+        LookedAt::NewFirst { first } => match refusal_to_first(core, rules, &member, &first) {
             Some(why) => Err(why),
-            None => self.begin(alloc, member, first, datagram),
-        }
-    }
-
-    /// Answers a third message.
-    fn take_third(
-        &mut self,
-        alloc: Global,
-        member: &MemberName,
-        third: Third,
-        datagram: &[u8],
-    ) -> Result<Reply, Refusal>
-        requires open { self.old.core.need ≡ false }
-        requires look { IsLook self.old.sessions.sas datagram.now (Ok (record { member = member.now; what = NextThird third })) }
-        ensures { (asker : Name) → Serves D.Disk G.Signer R.Draws (requests.Serve asker datagram.now) (answer_served result) self.old self.new }
-    {
-        match self.refusal_to_third(member) {
+            None => begin_session(alloc, core, sessions, &member, first, datagram),
+        },
+        LookedAt::NextThird { third } => match refusal_to_third(core, rules, &member) {
             Some(why) => Err(why),
-            None => self.accept_third(alloc, member, third, datagram),
-        }
-    }
-
-    /// Answers a third message against which there is no reason.
-    fn accept_third(
-        &mut self,
-        alloc: Global,
-        member: &MemberName,
-        third: Third,
-        datagram: &[u8],
-    ) -> Result<Reply, Refusal>
-        requires open { self.old.core.need ≡ false }
-        requires look { IsLook self.old.sessions.sas datagram.now (Ok (record { member = member.now; what = NextThird third })) }
-        requires granted { (server : Server) → Stands R.Draws self.old.core server → None ≡ refusal_to_third self.old.rules server member.now }
-        ensures { (asker : Name) → Serves D.Disk G.Signer R.Draws (requests.Serve asker datagram.now) (answer_served result) self.old self.new }
-    {
-        what_is_found_can_be_held();
-        self.prove_sound();
-        self.rests();
-        if self.is_member(member) {
-            self.reply(alloc, member, third, datagram)
-        } else {
-            self.queue(alloc, member, third, datagram)
-        }
-    }
-
-    /// Whether somebody of this name is a member.
-    fn is_member(&self, member: &MemberName) -> bool
-        ensures { result ≡ is_member self.now.core.tree.holders member.now }
-    {
-        self.core.is_member(member)
-    }
-
-    /// Some server is its core.
-    fn rests(&self)
-        ensures { (server : Server) × Stands R.Draws self.now.core server }
-    {
-        self.core.rests();
+            None if core.is_member(&member) => {
+                reply_now(alloc, core, sessions, &member, third, datagram)
+            }
+            None => queue_join(alloc, core, sessions, &member, third, datagram),
+        },
     }
 }

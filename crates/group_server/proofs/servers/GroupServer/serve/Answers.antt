@@ -1,19 +1,14 @@
-use Rattle.std.proofs.Common.{◌∙◌, sym, subst}
-use Rattle.group_model.specs.declared.entries.Answer.TheVariants.{Refused}
+use Rattle.std.proofs.Common.{subst}
 use Rattle.group_model.specs.declared.entries.Asked.TheVariants.{Serve}
 use Rattle.server_steps.specs.Serves.{Serves}
-use Rattle.group_server.proofs.ServeLemmas.{refused_look, stopped}
+use Rattle.server_steps.specs.Views.{View, server_of}
+use Rattle.group_server.specs.Answers.{answer_served}
 use Rattle.group_server.proofs.servers.GroupServer.serve.Goals as goal
 
-pub returns-then-needs_reopen : goal.returns-then-needs_reopen
-returns-then-needs_reopen g c asker =
-    stopped g.D.Disk g.G.Signer g.R.Draws asker c.args.datagram.now c.args.self.now (sym c.needs_reopen.ensures ∙ c.if-needs_reopen.true)
+pub invariant_of-self : goal.invariant_of-self
+invariant_of-self g c = c.answer.ensures.sound c.self.invariant
 
-pub answer-requires : goal.answer-requires
-answer-requires g c = record { «open» = sym c.needs_reopen.ensures ∙ c.if-needs_reopen.false; look = c.in-Ok.ensures }
-
-pub returns-in-Err : goal.returns-in-Err
-returns-in-Err g c asker =
-    let self = c.args.self.now in
-    subst (λ why. Serves g.D.Disk g.G.Signer g.R.Draws (Serve asker c.args.datagram.now) (Refused why) self self) (sym c.refusal_of.ensures)
-    (refused_look g.D.Disk g.G.Signer g.R.Draws asker c.args.datagram.now self c.in-Err.why (sym c.needs_reopen.ensures ∙ c.if-needs_reopen.false) c.in-Err.ensures)
+pub returns : goal.returns
+returns g c asker =
+    subst (λ (view : View g.row.D.Denot g.row.G.Denot g.row.R.Denot). Serves g.D.Disk g.G.Signer g.R.Draws (Serve asker c.args.datagram.now)
+    (answer_served c.answer.result) view (server_of c.answer.new.core c.self.inside.rules c.answer.new.sessions)) c.self.view_is (c.answer.ensures.serves asker)
