@@ -1,6 +1,7 @@
 //! Asks the readers of the framing, of payloads, of pushes and of the messages of a pull what they find: each line names a reader, its arguments
-//! and octets in hexadecimal (`-` for none). For each a line says `ok`, or the first fault and its place; `sa-fields` and `kd-fields` say what an
-//! accepted body holds. A push and a message of a pull are answered by what they give, or by why they are refused.
+//! and octets in hexadecimal (`-` for none). For each a line says `ok`, or the first fault and its place; a reader's name with `-fields` says what is
+//! read of accepted octets, and `chain-fields` after a fault which payloads are before it. A push and a message of a pull are answered by what they
+//! give, or by why they are refused.
 //!
 //! A line that says what is known has no answer: `kek` names the SPI and the key of the pushes after it, `phase` the phase 1 SA of the
 //! messages after it, and `pull` their message id, IV, nonces and SPI (`-` where a nonce or the SPI is not given).
@@ -11,6 +12,9 @@
 //! chain FIRST-KIND DUE-KIND,DUE-KIND.. BASE OCTETS
 //! sa BASE OCTETS
 //! kd BASE OCTETS
+//! header-fields EXCHANGE OCTETS
+//! attribute-fields PLACE BASE OCTETS
+//! chain-fields FIRST-KIND DUE-KIND,DUE-KIND.. BASE OCTETS
 //! sa-fields BASE OCTETS
 //! kd-fields BASE OCTETS
 //! kek SPI IV KEY
@@ -38,7 +42,7 @@ use group_terms::NoMemory;
 use std::alloc::Global;
 
 mod bodies;
-mod fields;
+pub mod fields;
 mod pulls;
 mod pushes;
 mod repeated_pushes;
@@ -106,9 +110,12 @@ impl Frames {
     ) -> Option<()> {
         match word {
             "push" => self.pushes.answer(rest, octets, text),
-            "header" => header(rest, octets, text),
-            "attribute" => attribute(rest, octets, text),
-            "chain" => chain(alloc, rest, octets, text),
+            "header" => header(rest, false, octets, text),
+            "header-fields" => header(rest, true, octets, text),
+            "attribute" => attribute(rest, false, octets, text),
+            "attribute-fields" => attribute(rest, true, octets, text),
+            "chain" => chain(alloc, rest, false, octets, text),
+            "chain-fields" => chain(alloc, rest, true, octets, text),
             _ => self.ask_body(alloc, word, rest, octets, text),
         }
     }

@@ -1,8 +1,13 @@
-//! Asks what journals are. An image is the octets of a file, in hexadecimal (`-` for none): the answer is a line that has the sizes of the records, or the
-//! place at which the file is no journal; and what the group is after its batches, or the place at which the file is no group's journal.
+//! Asks what journals are. An image is the octets of a file, in hexadecimal (`-` for none): the answer to `journal` is a line that has the sizes of the
+//! records, or the place at which the file is no journal; and what the group is after its batches, or the place at which the file is no group's journal.
+//! `group` answers with the head and each batch in full, and after them `end`, or the place at which the file is no group's journal. `head` and `batch`
+//! answer with a record in full and the octets that are written for it, or with the first fault of its form.
 //!
 //! ```text
 //! journal OCTETS
+//! group OCTETS
+//! head OCTETS
+//! batch OCTETS
 //! append PATH COUNT
 //! make PATH COUNT
 //! open PATH
@@ -14,11 +19,15 @@
 //! and four others come in, in turn.
 
 use case_lines::{Text, number};
+use forms::record;
+use groups::group;
 use images::journal;
 use makings::make;
 use records::append;
 use stores::open;
 
+mod forms;
+mod groups;
 mod images;
 mod makings;
 mod records;
@@ -38,6 +47,8 @@ pub fn answer(rt: &HostRuntime, word: &str, rest: &[&str], text: &mut Text) -> O
 fn with_one(rt: &HostRuntime, word: &str, only: &str, text: &mut Text) -> Option<()> {
     match word {
         "journal" => journal(rt.alloc(), only, text),
+        "group" => group(rt.alloc(), only, text),
+        "head" | "batch" => record(rt.alloc(), word, only, text),
         "open" => open(rt, only, text),
         _ => None,
     }

@@ -43,7 +43,9 @@ impl<R: Threads + Wait + Sync> Cases for Rooms<'_, R> {
     fn answer(&mut self, rt: &HostRuntime, words: &[&str], text: &mut Text) -> Option<()> {
         let (word, rest) = words.split_first()?;
         match *word {
-            "journal" | "append" | "make" | "open" => journals::answer(rt, word, rest, text),
+            "journal" | "group" | "head" | "batch" | "append" | "make" | "open" => {
+                journals::answer(rt, word, rest, text)
+            }
             "looks" | "turns" => threads::answer(self.threads, rt.alloc(), word, rest, text),
             word => self.frames.answer(rt.alloc(), word, rest, text),
         }

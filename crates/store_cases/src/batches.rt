@@ -18,12 +18,14 @@ pub(crate) fn push_next(
     if !tree.fits(&batch) {
         return Err(NoMemory);
     }
-    let Some(step) = tree.step(alloc, &batch, u32::MAX)? else {
-        return Err(NoMemory);
-    };
-    let pushed = push_stored(alloc, batch, &step, numbers, list);
-    tree.advance(step);
-    pushed
+    match tree.step(alloc, &batch, u32::MAX) {
+        Ok(Some(step)) => {
+            let pushed = push_stored(alloc, batch, &step, numbers, list);
+            tree.advance(step);
+            pushed
+        }
+        _ => Err(NoMemory),
+    }
 }
 
 fn push_stored(
@@ -61,48 +63,38 @@ fn nodes_of(
     Ok(nodes)
 }
 
-/// Two batches of a group with a tree of depth 2: a, b and c come in, and b goes out.
-pub(crate) fn two_batches(alloc: Global) -> Result<List<Stored>, NoMemory> {
+/// The batches of a group with a tree of depth 2: a, b and c come in, b goes out, and c does.
+static CHANGES: [(bool, &[u8]); 3] = [(true, b"abc"), (false, b"b"), (false, b"c")];
+
+/// The first of these, so many.
+pub(crate) fn first_batches(alloc: Global, count: usize) -> Result<List<Stored>, NoMemory> {
     let mut list = List::new(alloc);
-    push_two(alloc, &mut list)?;
+    push_first(alloc, count, &mut list)?;
     Ok(list)
 }
 
-fn push_two(alloc: Global, list: &mut List<Stored>) -> Result<(), NoMemory> {
+fn push_first(alloc: Global, count: usize, list: &mut List<Stored>) -> Result<(), NoMemory> {
     let mut tree = PresentTree::new(alloc, 2)?;
-    push_both(alloc, &mut tree, &mut Numbers::new(1), list)
+    push_each(alloc, count, &mut tree, list)
 }
 
-fn push_both(
+fn push_each(
     alloc: Global,
+    count: usize,
     tree: &mut PresentTree,
-    numbers: &mut Numbers,
     list: &mut List<Stored>,
 ) -> Result<(), NoMemory> {
-    push_next(alloc, tree, batch_of(true, b"abc"), numbers, list)?;
-    push_next(alloc, tree, batch_of(false, b"b"), numbers, list)
-}
-
-/// Three batches of such a group: after those two c goes out.
-pub(crate) fn three_batches(alloc: Global) -> Result<List<Stored>, NoMemory> {
-    let mut list = List::new(alloc);
-    push_three(alloc, &mut list)?;
-    Ok(list)
-}
-
-fn push_three(alloc: Global, list: &mut List<Stored>) -> Result<(), NoMemory> {
-    let mut tree = PresentTree::new(alloc, 2)?;
-    push_all(alloc, &mut tree, &mut Numbers::new(1), list)
-}
-
-fn push_all(
-    alloc: Global,
-    tree: &mut PresentTree,
-    numbers: &mut Numbers,
-    list: &mut List<Stored>,
-) -> Result<(), NoMemory> {
-    push_both(alloc, tree, numbers, list)?;
-    push_next(alloc, tree, batch_of(false, b"c"), numbers, list)
+    let mut numbers = Numbers::new(1);
+    for (comes_in, letters) in CHANGES.iter().take(count) {
+        push_next(
+            alloc,
+            tree,
+            batch_of(*comes_in, letters),
+            &mut numbers,
+            list,
+        )?;
+    }
+    Ok(())
 }
 
 /// The batch with which these come in or go out, each of whom has a letter as the name.

@@ -1,171 +1,178 @@
-//! What each call of a store answers, calls of the disk that fail, and crashes.
-ghost use Rattle.std.specs.Prelude.{◌≤◌, IsSome};
-
-use crate::batches::two_batches;
-use crate::stores::{
-    CLOSED, FAULT, Store, Why, close, commit, created, disk_failing_at, head_of, holds,
-    store_failing_at, why_not_read,
-};
-use crate::unseen::UnseenDisk;
-use gd_disk::MemDisk;
+//! What each call of a store answers, calls of the disk that fail, crashes, and stores that are opened again in place.
+use crate::batches::first_batches;
+use crate::stores::{CLOSED, Call, FAULT, Stage, Why, all_go, head_of};
 use group_terms::NoMemory;
 use std::alloc::Global;
-use tree_store::{FormatRefusal, Head, Stored, a_file_has_one_group};
+use tree_store::{Head, JournalRefusal, Stored, a_file_has_one_group};
 
-/// Making a store takes eleven calls of the disk.
-#[test]
-fn a_fault_while_a_store_is_made_gives_the_disk_back(rt: HostRuntime) {
-    assert!(rt; each_gives_back(rt.alloc()) == Ok(true));
+/// Where a call from the first number to the second fails: how two batches are committed, and how many are there after a crash: one that loses what
+/// was not synced, and one that keeps it.
+struct Row {
+    first: u64,
+    last: u64,
+    made: Stage,
+    lost: usize,
+    kept: usize,
 }
 
-fn each_gives_back(alloc: Global) -> Result<bool, NoMemory> {
-    let head = head_of(2)?;
-    let mut holds = true;
-    for call in 1..12 {
-        holds &= gives_back(alloc, &head, call)?;
-    }
-    Ok(holds)
-}
+const AT_FIRST: Stage = Stage::Make(None, &[FAULT, CLOSED], &[]);
 
-/// Whether a call that fails is the fault for which no store is made on a disk, and one is made on the disk that is given back.
-fn gives_back(alloc: Global, head: &Head, call: u64) -> Result<bool, NoMemory>
-    requires shallow { 1 ≤ head.now.depth }
-    requires not_deep { head.now.depth ≤ 9 }
-    requires limited { 1 ≤ head.now.limit }
-{
-    match created(alloc, disk_failing_at(alloc, &[call])?, head) {
-        Ok(store) => {
-            close(store);
-            Ok(false)
-        }
-        Err(FormatRefusal { why, disk }) => {
-            Ok((Some(why) == FAULT) & is_made_on(alloc, disk, head))
-        }
-    }
-}
+const AT_SECOND: Stage = Stage::Make(None, &[None, FAULT], &[]);
 
-fn is_made_on(alloc: Global, disk: UnseenDisk<MemDisk>, head: &Head) -> bool
-    requires shallow { 1 ≤ head.now.depth }
-    requires not_deep { head.now.depth ≤ 9 }
-    requires limited { 1 ≤ head.now.limit }
-{
-    match created(alloc, disk, head) {
-        Ok(store) => {
-            close(store);
-            true
-        }
-        Err(_) => false,
-    }
-}
+const BOTH: &[Why] = &[None, None];
 
-/// How two batches are committed where a call from the first number to the second fails, and how many batches are there after a crash: one that
-/// loses what was not synced, and one that keeps it.
-type Row = (u64, u64, [Why; 2], usize, usize);
-
-const ROWS: [Row; 5] = [
-    (12, 14, [FAULT, CLOSED], 0, 0),
-    (15, 15, [FAULT, CLOSED], 0, 1),
-    (16, 18, [None, FAULT], 1, 1),
-    (19, 19, [None, FAULT], 1, 2),
-    (20, 20, [None, None], 2, 2),
+static ROWS: [Row; 5] = [
+    Row {
+        first: 12,
+        last: 14,
+        made: AT_FIRST,
+        lost: 0,
+        kept: 0,
+    },
+    Row {
+        first: 15,
+        last: 15,
+        made: AT_FIRST,
+        lost: 0,
+        kept: 1,
+    },
+    Row {
+        first: 16,
+        last: 18,
+        made: AT_SECOND,
+        lost: 1,
+        kept: 1,
+    },
+    Row {
+        first: 19,
+        last: 19,
+        made: AT_SECOND,
+        lost: 1,
+        kept: 2,
+    },
+    Row {
+        first: 20,
+        last: 20,
+        made: Stage::Make(None, BOTH, &[]),
+        lost: 2,
+        kept: 2,
+    },
 ];
 
-#[test]
-fn a_fault_closes_the_store_and_a_crash_leaves_a_batch_or_not(rt: HostRuntime) {
-    assert!(rt; rows_hold(rt.alloc()) == Ok(true));
-}
-
-fn rows_hold(alloc: Global) -> Result<bool, NoMemory> {
-    let head = head_of(2)?;
-    let list = two_batches(alloc)?;
-    are_rows(alloc, &head, list.as_slice())
-}
-
-fn are_rows(alloc: Global, head: &Head, list: &[Stored]) -> Result<bool, NoMemory> {
+fn are_rows(alloc: Global, head: &Head, list: &[Stored]) -> bool {
     let mut holds = true;
     for row in &ROWS {
-        holds &= is_row(alloc, head, list, row)?;
+        holds &= is_row(alloc, head, list, row);
     }
-    Ok(holds)
+    holds
 }
 
 /// Of an octet that was not synced, the choices 1, 2 and 5 keep the octet, and the others lose it, or leave another.
-fn is_row(alloc: Global, head: &Head, list: &[Stored], row: &Row) -> Result<bool, NoMemory> {
-    let (first, last, whys, lost, kept) = *row;
+fn is_row(alloc: Global, head: &Head, list: &[Stored], row: &Row) -> bool {
     let mut holds = true;
-    for call in first..=last {
+    for call in row.first..=row.last {
         for choice in 0..8 {
             let count = if [1, 2, 5].contains(&choice) {
-                kept
+                row.kept
             } else {
-                lost
+                row.lost
             };
-            let front = &list[..list.len().min(count)];
-            holds &= leaves(alloc, head, list, call, whys, choice, front)?;
+            let crash = Stage::Crash(choice);
+            holds &= all_go(alloc, head, list, &[call], (&row.made, &crash), count);
         }
     }
-    Ok(holds)
+    holds
 }
 
-/// Whether commits go so on a disk that fails at a call, and a crash leaves these batches.
-fn leaves(
-    alloc: Global,
-    head: &Head,
-    list: &[Stored],
-    call: u64,
-    whys: [Why; 2],
-    choice: u64,
-    front: &[Stored],
-) -> Result<bool, NoMemory> {
-    let mut store = store_failing_at(alloc, &[call])?;
-    let are_answered = commits(alloc, &mut store, list, whys);
-    let disk = store.into_disk().into_disk().crashed(choice)?;
-    Ok(are_answered & holds(alloc, disk, head, front))
-}
+const NEXT_IS_CLOSED: Call = Call::Next(Err(JournalRefusal::Closed));
 
-/// Whether two batches are committed so.
-fn commits(alloc: Global, store: &mut Store, list: &[Stored], whys: [Why; 2]) -> bool
-    requires { IsSome store.old.end }
-{
-    let [first, second] = list else {
-        return false;
-    };
-    let is_first = commit(alloc, store, first) == whys[0];
-    is_first & (commit(alloc, store, second) == whys[1])
-}
+/// The calls of a disk that fail, what is done with it, and how many batches it has then. Making a store takes eleven calls, and opening it again a
+/// sync and two reads.
+type Case = (&'static [u64], Stage, usize);
 
-/// After a fault of the disk a read answers that, and each later one that the store is closed.
+static CASES: [Case; 4] = [
+    // A store that is made has its head, and two batches that are committed are read of the disk afterwards.
+    (&[], Stage::Make(None, BOTH, &[]), 2),
+    // After a fault of the disk a read answers that, and each later one that the store is closed.
+    (
+        &[12],
+        Stage::Make(
+            None,
+            &[],
+            &[Call::Next(Err(JournalRefusal::DiskFault)), NEXT_IS_CLOSED],
+        ),
+        0,
+    ),
+    // A store that was read halfway begins at its first batch each time it is opened again.
+    (
+        &[],
+        Stage::Make(
+            None,
+            BOTH,
+            &[
+                Call::Reopen(None),
+                Call::Next(Ok(true)),
+                Call::Reopen(None),
+                Call::Next(Ok(true)),
+                Call::Reopen(None),
+                Call::Batches(2),
+            ],
+        ),
+        2,
+    ),
+    // A store that is not opened again is closed each of three times, and has its head and no batch once it is.
+    (
+        &[12, 14, 17],
+        Stage::Make(
+            None,
+            &[],
+            &[
+                Call::Reopen(FAULT),
+                NEXT_IS_CLOSED,
+                Call::Reopen(FAULT),
+                NEXT_IS_CLOSED,
+                Call::Reopen(FAULT),
+                NEXT_IS_CLOSED,
+                Call::Reopen(None),
+                Call::Head,
+                Call::Batches(0),
+            ],
+        ),
+        0,
+    ),
+];
+
 #[test]
-fn a_fault_while_batches_are_read_closes_the_store(rt: HostRuntime) {
-    assert!(rt; is_closed(rt.alloc()) == Ok(true));
-}
-
-fn is_closed(alloc: Global) -> Result<bool, NoMemory> {
-    let mut store = store_failing_at(alloc, &[12])?;
-    let is_fault = why_not_read(alloc, &mut store) == FAULT;
-    let is_closed = why_not_read(alloc, &mut store) == CLOSED;
-    close(store);
-    Ok(is_fault & is_closed)
-}
-
-#[test]
-fn a_store_is_made_and_opened(rt: HostRuntime) {
+fn stores_go_as_they_should(rt: HostRuntime) {
     a_file_has_one_group();
-    assert!(rt; is_made_and_opened(rt.alloc()) == Ok(true));
+    assert!(rt; all_hold(rt.alloc()) == Ok(true));
 }
 
-fn is_made_and_opened(alloc: Global) -> Result<bool, NoMemory> {
+fn all_hold(alloc: Global) -> Result<bool, NoMemory> {
     let head = head_of(2)?;
-    let list = two_batches(alloc)?;
-    is_made(alloc, &head, list.as_slice())
+    let list = first_batches(alloc, 2)?;
+    Ok(are_right(alloc, &head, list.as_slice()))
 }
 
-/// Whether a store that is made has its head, and two batches that are committed are read of the disk afterwards.
-fn is_made(alloc: Global, head: &Head, list: &[Stored]) -> Result<bool, NoMemory> {
-    let mut store = store_failing_at(alloc, &[])?;
-    store.rests();
-    let is_head = store.head() == *head;
-    let are_committed = commits(alloc, &mut store, list, [None, None]);
-    let disk = store.into_disk().into_disk();
-    Ok(is_head & are_committed & holds(alloc, disk, head, list))
+fn are_right(alloc: Global, head: &Head, list: &[Stored]) -> bool {
+    are_rows(alloc, head, list) & are_cases(alloc, head, list) & are_given_back(alloc, head)
+}
+
+fn are_cases(alloc: Global, head: &Head, list: &[Stored]) -> bool {
+    let mut holds = true;
+    for (calls, made, count) in &CASES {
+        holds &= all_go(alloc, head, list, calls, (made, &Stage::Rest), *count);
+    }
+    holds
+}
+
+/// Whether each call of the eleven that make a store is the fault for which none is made, and one is made on the disk that is given back.
+fn are_given_back(alloc: Global, head: &Head) -> bool {
+    let refused = Stage::Make(FAULT, &[], &[]);
+    let made = Stage::Make(None, &[], &[]);
+    let mut holds = true;
+    for call in 1..12 {
+        holds &= all_go(alloc, head, &[], &[call], (&refused, &made), 0);
+    }
+    holds
 }

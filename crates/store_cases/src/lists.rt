@@ -3,13 +3,14 @@ ghost use Rattle.std.specs.Prelude.{◌≤◌};
 
 use crate::batches::push_next;
 use crate::numbers::Numbers;
-use crate::stores::{commit_all, created, head_of, holds};
-use crate::unseen::UnseenDisk;
-use gd_disk::MemDisk;
+use crate::stores::{Stage, all_go, head_of};
 use group_model::PresentTree;
 use group_terms::{Batch, Change, List, MOST_CHANGES, MemberName, NoMemory};
 use std::alloc::Global;
 use tree_store::Stored;
+
+/// All batches are stored.
+static ALL: Stage = Stage::Make(None, &[None; 40], &[]);
 
 #[test]
 fn lists_are_read_as_they_were_stored(rt: HostRuntime) {
@@ -33,19 +34,9 @@ fn is_read_as_stored(alloc: Global, seed: u64) -> Result<bool, NoMemory> {
 }
 
 /// Whether a list is read as it was stored.
-fn is_kept(alloc: Global, depth: u8, list: &[Stored]) -> Result<bool, NoMemory>
-    requires shallow { 1 ≤ depth }
-    requires not_deep { depth ≤ 9 }
-{
+fn is_kept(alloc: Global, depth: u8, list: &[Stored]) -> Result<bool, NoMemory> {
     let head = head_of(depth)?;
-    match created(alloc, UnseenDisk::new(MemDisk::new(alloc)), &head) {
-        Ok(mut store) => {
-            let are_committed = commit_all(alloc, &mut store, list);
-            let disk = store.into_disk().into_disk();
-            Ok(are_committed & holds(alloc, disk, &head, list))
-        }
-        Err(_) => Ok(false),
-    }
+    Ok(all_go(alloc, &head, list, &[], (&ALL, &Stage::Rest), list.len()))
 }
 
 /// Appends 1 to 40 batches, each of them due after those before it.

@@ -2,18 +2,20 @@
 ghost use Rattle.std.specs.Prelude.{◌≡◌, ◌+◌, ◌^◌, ◌≤◌, ⊤, false, None, length, IfOk, OnOk, OnErr, is_err, if◌then◌else◌};
 ghost use Rattle.group_terms.specs.Faults.{Rose, one_more};
 
-use file_disks::{MemFile, OverFile};
+use file_disks::{FileDisk, MemFile, OverFile};
 use gd_disk::{Disk, Failed, MemDisk};
 use group_terms::counted_on;
+use std::fs::File;
 use std::marker::Model;
+use std::rt::Files;
 
-/// A disk in memory, or one over a file in memory, of which contracts see how much a read moves and how far a write goes.
+/// A disk in memory, one over a file in memory, or one in a file, of which contracts see how much a read moves and how far a write goes.
 pub(crate) trait Hidden: Drop {
     fn read_hidden(&mut self, at: u64, into: &mut [u8]) -> Result<usize, Failed>
         ensures count { IfOk result (λ n. n ≤ length into.new) }
         ensures far { 2 ^ 62 ≤ at → IfOk result (λ n. n ≡ 0) };
 
-    /// Fails past the end, too.
+    /// Fails past the end in memory, too.
     fn write_hidden(&mut self, at: u64, octets: &[u8]) -> Result<(), Failed>
         ensures { OnOk result (at + length octets.now ≤ 2 ^ 62) };
 
@@ -62,6 +64,24 @@ impl Hidden for OverFile<MemFile> {
         if to > self.file().image().len() as u64 {
             return Err(Failed);
         }
+        self.cut(to)
+    }
+
+    fn sync_hidden(&mut self) -> Result<(), Failed> {
+        self.sync()
+    }
+}
+
+impl<R: Files<File = File> + Drop> Hidden for FileDisk<R> {
+    fn read_hidden(&mut self, at: u64, into: &mut [u8]) -> Result<usize, Failed> {
+        self.read(at, into)
+    }
+
+    fn write_hidden(&mut self, at: u64, octets: &[u8]) -> Result<(), Failed> {
+        self.write_at(at, octets)
+    }
+
+    fn cut_hidden(&mut self, to: u64) -> Result<(), Failed> {
         self.cut(to)
     }
 

@@ -1,7 +1,7 @@
 //! What the readers of the framing and of payloads find.
 ghost use Rattle.std.specs.Prelude.{◌+◌, ◌≤◌, ◌↔◌, length, IsTrue, IfSome};
 
-use crate::frames::fields::{add_answer, add_fault, add_kd, add_sa};
+use crate::frames::fields::{add_attribute, add_fault, add_header, add_kd, add_parts, add_sa};
 use crate::frames::words::kinds;
 use case_lines::{Text, number};
 use gd_wire::{MOST_PAYLOADS, read_attribute, read_chain, read_header};
@@ -9,53 +9,81 @@ use kd_wire::read_kd;
 use sa_wire::read_sa;
 use std::alloc::Global;
 
-pub fn header(words: &[&str], datagram: &[u8], text: &mut Text) -> Option<()> {
+/// What a header holds, where fields are asked for.
+pub fn header(words: &[&str], fields: bool, datagram: &[u8], text: &mut Text) -> Option<()> {
     let [exchange] = words else {
         return None;
     };
-    let exchange = exchange.parse::<u8>().ok()?;
-    add_answer(read_header(datagram, exchange).err(), text);
+    match read_header(datagram, exchange.parse::<u8>().ok()?) {
+        Ok(header) if fields => add_header(&header, text),
+        Ok(_) => text.add("ok"),
+        Err(fault) => add_fault(fault, text),
+    }
     Some(())
 }
 
-pub fn attribute(words: &[&str], body: &[u8], text: &mut Text) -> Option<()> {
+pub fn attribute(words: &[&str], fields: bool, body: &[u8], text: &mut Text) -> Option<()> {
     let [at, base] = words else {
         return None;
     };
-    attribute_at(at.parse::<usize>().ok()?, base_of(base, body)?, body, text)
+    let base = base_of(base, body)?;
+    attribute_at(at.parse::<usize>().ok()?, base, fields, body, text)
 }
 
-fn attribute_at(at: usize, base: u32, body: &[u8], text: &mut Text) -> Option<()>
+fn attribute_at(at: usize, base: u32, fields: bool, body: &[u8], text: &mut Text) -> Option<()>
     requires { base + length body.now ≤ 4294967295 }
 {
     if at > body.len() {
         return None;
     }
-    add_answer(read_attribute(body, at, base).err(), text);
+    match read_attribute(body, at, base) {
+        Ok(read) if fields => add_attribute(&read, text),
+        Ok(_) => text.add("ok"),
+        Err(fault) => add_fault(fault, text),
+    }
     Some(())
 }
 
-pub fn chain(alloc: Global, words: &[&str], body: &[u8], text: &mut Text) -> Option<()> {
+pub fn chain(
+    alloc: Global,
+    words: &[&str],
+    fields: bool,
+    body: &[u8],
+    text: &mut Text,
+) -> Option<()> {
     let [first, due, base] = words else {
         return None;
     };
     let first = first.parse::<u8>().ok()?;
     let base = base_of(base, body)?;
     let due = kinds(alloc, due)?;
-    let asked = chain_of(first, due.as_slice(), base, body, text);
+    let asked = chain_of(first, due.as_slice(), base, fields, body, text);
     drop(due);
     asked
 }
 
-fn chain_of(first: u8, due: &[u8], base: u32, body: &[u8], text: &mut Text) -> Option<()>
+fn chain_of(
+    first: u8,
+    due: &[u8],
+    base: u32,
+    fields: bool,
+    body: &[u8],
+    text: &mut Text,
+) -> Option<()>
     requires { base + length body.now ≤ 4294967295 }
 {
     if due.is_empty() || due.len() > MOST_PAYLOADS {
         return None;
     }
     match read_chain(first, due, body, base) {
+        Ok(read) if fields => add_parts(read.parts(), text),
         Ok(_) => text.add("ok"),
-        Err(error) => add_fault(error.fault, text),
+        Err(error) => {
+            add_fault(error.fault, text);
+            if fields {
+                add_parts(error.before.parts(), text);
+            }
+        }
     }
     Some(())
 }

@@ -1,16 +1,56 @@
 //! What accepted bodies hold, and what is wrong with others, as a piece of a line.
 
 use case_lines::Text;
-use gd_wire::{WireFault, WireWhat};
+use gd_wire::{AttrValue, Attribute, Header, Part, WireFault, WireWhat};
 use group_terms::Keyed;
 use kd_wire::{KdView, PathKey, SealedKey, SealedKeys, TrafficValue, UpdateSpan};
 use sa_wire::{KekPolicy, SaPolicy, TekPolicy};
 
-/// `ok`, or what a reader finds wrong.
-pub fn add_answer(fault: Option<WireFault>, text: &mut Text) {
-    match fault {
-        None => text.add("ok"),
-        Some(fault) => add_fault(fault, text),
+/// `cookies COOKIES next KIND exchange KIND message ID length COUNT`.
+pub fn add_header(header: &Header, text: &mut Text) {
+    text.add("cookies");
+    add_spaced(&header.cookies, text);
+    text.add(" next ");
+    text.add_number(u64::from(header.next));
+    text.add(" exchange ");
+    text.add_number(u64::from(header.exchange));
+    text.add(" message");
+    add_spaced(&header.message, text);
+    text.add(" length ");
+    text.add_number(u64::from(header.length));
+}
+
+/// `kind KIND number NUMBER next PLACE` of the short form, or `kind KIND start PLACE length COUNT next PLACE` of the long one.
+pub fn add_attribute(read: &Attribute, text: &mut Text) {
+    text.add("kind ");
+    text.add_number(u64::from(read.kind));
+    match read.value {
+        AttrValue::Short { number } => {
+            text.add(" number ");
+            text.add_number(u64::from(number));
+        }
+        AttrValue::Long { start, length } => {
+            text.add(" start ");
+            text.add_number(start as u64);
+            text.add(" length ");
+            text.add_number(length as u64);
+        }
+    }
+    text.add(" next ");
+    text.add_number(read.next as u64);
+}
+
+/// ` part KIND AT START LENGTH` for each payload.
+pub fn add_parts(parts: &[Part], text: &mut Text) {
+    for part in parts {
+        text.add(" part ");
+        text.add_number(u64::from(part.kind));
+        text.add(" ");
+        text.add_number(u64::from(part.at));
+        text.add(" ");
+        text.add_number(part.start as u64);
+        text.add(" ");
+        text.add_number(part.length as u64);
     }
 }
 

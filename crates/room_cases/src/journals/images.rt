@@ -20,7 +20,7 @@ pub fn journal(alloc: Global, image: &str, text: &mut Text) -> Option<()> {
 }
 
 /// A disk with an image.
-fn disk(alloc: Global, image: &str) -> Option<MemDisk> {
+pub fn disk(alloc: Global, image: &str) -> Option<MemDisk> {
     let image = octets(alloc, image)?;
     if image.len() > FARTHEST {
         return None;

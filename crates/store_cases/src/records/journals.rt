@@ -1,8 +1,8 @@
-//! Journals on disks in memory. Calls that promise much are made in functions here that promise no more than is used.
+//! Journals on disks in memory, and what is asked of them. Calls that promise much are made in functions here that promise no more than is used.
 ghost use Rattle.std.specs.Prelude.{◌≤◌, length, IsSome, IfOk};
 
 use gd_disk::MemDisk;
-use group_terms::{List, NoMemory, Octets};
+use group_terms::Octets;
 use std::alloc::Global;
 use tree_journal::{FormatRefusal, JournalRefusal};
 
@@ -15,37 +15,114 @@ pub(crate) const FAULT: Why = Some(JournalRefusal::DiskFault);
 
 pub(crate) const CLOSED: Why = Some(JournalRefusal::Closed);
 
-/// A disk that fails at these calls.
-pub(crate) fn disk_failing_at(alloc: Global, calls: &[u64]) -> Result<MemDisk, NoMemory> {
-    Ok(MemDisk::planned(alloc, List::copy_of(alloc, calls)?))
+/// A record that is appended, and why that is refused, if it is.
+pub(crate) type Append = (&'static [u8], Why);
+
+/// A call of a journal, and what it has to answer.
+pub(crate) enum Call {
+    /// A read; its answer, the body after it, and where reading goes on then.
+    Read(Result<bool, JournalRefusal>, &'static [u8], u64),
+    /// A read that comes to the closed gate, and a record that is appended there.
+    Append(&'static [u8]),
+    Place(u64),
+    /// The body is emptied.
+    Forget,
+    Rewind,
+    /// The journal is closed: a record is refused.
+    Close,
+    Reopen,
+    /// An opening that a fault of the disk refuses, after which the journal is closed: a record is refused.
+    FailToReopen,
+}
+
+/// What is done with a disk.
+#[derive(Drop)]
+pub(crate) enum Stage {
+    /// A journal is made of it, to which these records are appended and these calls made; or that is refused.
+    Make(Why, &'static [Append], &'static [Call]),
+    /// The journal on it is opened, of which these calls are made; or that is refused.
+    Open(Why, &'static [Call]),
+    Crash(u64),
+    /// It has these octets.
+    Has(&'static [u8]),
+    Rest,
+}
+
+/// A disk after a stage, if all goes as it should.
+pub(crate) fn goes(alloc: Global, disk: MemDisk, stage: &Stage) -> Option<MemDisk> {
+    match stage {
+        Stage::Make(due, appends, calls) => goes_made(alloc, disk, *due, appends, calls),
+        Stage::Open(due, calls) => goes_opened(alloc, disk, *due, calls),
+        Stage::Crash(choice) => disk.crashed(*choice).ok(),
+        Stage::Has(octets) => {
+            let has = disk.image() == *octets;
+            only_if(has, disk)
+        }
+        Stage::Rest => Some(disk),
+    }
+}
+
+fn goes_made(
+    alloc: Global,
+    disk: MemDisk,
+    due: Why,
+    appends: &[Append],
+    calls: &[Call],
+) -> Option<MemDisk> {
+    match made(alloc, disk) {
+        Ok(mut journal) => {
+            let are_appended = append_all(&mut journal, appends);
+            let goes = are_appended & all_go(alloc, &mut journal, calls);
+            only_if(goes & due.is_none(), journal.into_disk())
+        }
+        Err(FormatRefusal { why, disk }) => only_if(due == Some(why), disk),
+    }
+}
+
+fn goes_opened(alloc: Global, disk: MemDisk, due: Why, calls: &[Call]) -> Option<MemDisk> {
+    match open(alloc, disk) {
+        Ok(mut journal) => {
+            let goes = all_go(alloc, &mut journal, calls);
+            only_if(goes & due.is_none(), journal.into_disk())
+        }
+        Err(FormatRefusal { why, disk }) => only_if(due == Some(why), disk),
+    }
+}
+
+fn only_if(holds: bool, disk: MemDisk) -> Option<MemDisk> {
+    if holds { Some(disk) } else { None }
 }
 
 /// Makes an empty journal. It takes seven calls of the disk.
-pub(crate) fn made(alloc: Global, disk: MemDisk) -> Result<Journal, FormatRefusal<MemDisk>>
+fn made(alloc: Global, disk: MemDisk) -> Result<Journal, FormatRefusal<MemDisk>>
     ensures { IfOk result (λ journal. IsSome journal.end) }
 {
     Journal::format(alloc, disk)
 }
 
-/// An empty journal on a disk that fails at these calls.
-pub(crate) fn journal_failing_at(alloc: Global, calls: &[u64]) -> Result<Journal, NoMemory>
-    ensures { IfOk result (λ journal. IsSome journal.end) }
-{
-    match made(alloc, disk_failing_at(alloc, calls)?) {
-        Ok(journal) => Ok(journal),
-        Err(_) => Err(NoMemory),
-    }
-}
-
-pub(crate) fn open(alloc: Global, disk: MemDisk) -> Result<Journal, FormatRefusal<MemDisk>> {
+fn open(alloc: Global, disk: MemDisk) -> Result<Journal, FormatRefusal<MemDisk>> {
     Journal::open(alloc, disk)
 }
 
-/// Lets a journal go. Each other function that did so would cost the proof as much again.
-pub(crate) fn close(_journal: Journal) {}
+fn append_all(journal: &mut Journal, appends: &[Append]) -> bool
+    requires { IsSome journal.old.end }
+{
+    let mut holds = true;
+    for given in appends {
+        holds &= append(journal, whole(given.0)) == given.1;
+    }
+    holds
+}
+
+/// The octets of a body, cut to as many as a record may have.
+fn whole(body: &[u8]) -> &[u8]
+    ensures { length result.now ≤ 65536 }
+{
+    &body[..body.len().min(65_536)]
+}
 
 /// Why a record is not appended, if it is not.
-pub(crate) fn append(journal: &mut Journal, body: &[u8]) -> Why
+fn append(journal: &mut Journal, body: &[u8]) -> Why
     requires few { length body.now ≤ 65536 }
     requires walked { IsSome journal.old.end }
     ensures { IsSome journal.new.end }
@@ -53,35 +130,95 @@ pub(crate) fn append(journal: &mut Journal, body: &[u8]) -> Why
     journal.append(body).err()
 }
 
-pub(crate) fn read(
+fn all_go(alloc: Global, journal: &mut Journal, calls: &[Call]) -> bool {
+    let mut body = Octets::new(alloc);
+    let mut holds = true;
+    for call in calls {
+        holds &= is_answered(alloc, journal, &mut body, call);
+    }
+    holds
+}
+
+fn is_answered(alloc: Global, journal: &mut Journal, body: &mut Octets, call: &Call) -> bool {
+    match call {
+        Call::Read(answer, octets, place) => {
+            is_step(alloc, journal, body, *answer, octets, *place)
+        }
+        Call::Append(octets) => appends(alloc, journal, body, octets),
+        Call::Place(place) => journal.place() == *place,
+        Call::Forget => {
+            body.clear();
+            true
+        }
+        Call::Rewind => {
+            journal.rewind();
+            true
+        }
+        Call::Close => is_closed(journal),
+        Call::Reopen => is_opened(journal),
+        Call::FailToReopen => fails_to_open(journal),
+    }
+}
+
+/// Whether a read answers this, the body is this then, and reading goes on there.
+fn is_step(
     alloc: Global,
     journal: &mut Journal,
     body: &mut Octets,
-) -> Result<bool, JournalRefusal> {
+    answer: Result<bool, JournalRefusal>,
+    octets: &[u8],
+    place: u64,
+) -> bool {
+    (read(alloc, journal, body) == answer)
+        & (body.as_slice() == octets)
+        & (journal.place() == place)
+}
+
+fn read(alloc: Global, journal: &mut Journal, body: &mut Octets) -> Result<bool, JournalRefusal> {
     journal.read_next(alloc, body)
 }
 
-/// The sizes of the bodies that are read, and what the read after them answers.
-pub(crate) type Left = (&'static [usize], Result<bool, JournalRefusal>);
-
-/// Whether this is left from where reading goes on.
-pub(crate) fn has_left(alloc: Global, journal: &mut Journal, (sizes, end): Left) -> bool {
-    let mut body = Octets::new(alloc);
-    let mut holds = true;
-    for size in sizes {
-        holds &= (read(alloc, journal, &mut body) == Ok(true)) & (body.len() == *size);
+fn appends(alloc: Global, journal: &mut Journal, body: &mut Octets, octets: &[u8]) -> bool {
+    match journal.read_next(alloc, body) {
+        Ok(false) => append(journal, whole(octets)).is_none(),
+        _ => false,
     }
-    holds & (read(alloc, journal, &mut body) == end)
 }
 
-/// Whether this is read of a disk. Where no journal is opened on it there is no body, and the reason is the answer.
-pub(crate) fn leaves(alloc: Global, disk: MemDisk, left: Left) -> bool {
-    match open(alloc, disk) {
-        Ok(mut journal) => {
-            let holds = has_left(alloc, &mut journal, left);
-            close(journal);
-            holds
-        }
-        Err(refused) => left.0.is_empty() & (Err(refused.why) == left.1),
+fn is_closed(journal: &mut Journal) -> bool {
+    journal.close();
+    journal.append(b"second").err() == CLOSED
+}
+
+fn is_opened(journal: &mut Journal) -> bool {
+    journal.reopen().is_ok()
+}
+
+fn fails_to_open(journal: &mut Journal) -> bool {
+    match journal.reopen() {
+        Ok(()) => false,
+        Err(why) => (Some(why) == FAULT) & (journal.append(b"first").err() == CLOSED),
     }
+}
+
+/// Whether the longest body is read as it was appended.
+pub(crate) fn reads_back(alloc: Global, body: &[u8]) -> bool
+    requires { length body.now ≤ 65536 }
+{
+    match made(alloc, MemDisk::new(alloc)) {
+        Ok(mut journal) => {
+            let is_read = is_read_back(alloc, &mut journal, body);
+            drop(journal);
+            is_read
+        }
+        Err(_) => false,
+    }
+}
+
+fn is_read_back(alloc: Global, journal: &mut Journal, long: &[u8]) -> bool
+    requires few { length long.now ≤ 65536 }
+    requires walked { IsSome journal.old.end }
+{
+    let mut body = Octets::new(alloc);
+    append(journal, long).is_none() & is_step(alloc, journal, &mut body, Ok(true), long, 65_550)
 }
