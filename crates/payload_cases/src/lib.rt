@@ -1,6 +1,6 @@
 //! Tests of payloads: of the framing, of headers, attributes, chains and bodies, of the policies in the SA payload, of the key download
-//! payload, of pushes, and of the messages of a pull. Known ones are as another implementation writes them; of those with a fault it is told
-//! where that is.
+//! payload, of pushes, and of the messages of a pull. Known ones are as another implementation writes them. What is read of headers, attributes and chains, and
+//! where a faulty one has its fault, are lines of `room_cases`.
 #![tactic(auto)]
 
 #[cfg(test)]

@@ -1,8 +1,8 @@
-//! Bodies of the SA payload, and what is told of those with a fault.
+//! Bodies of the SA payload.
 ghost use Rattle.std.specs.Prelude.{◌⊎◌, IsSome};
 
 use crate::known::octets;
-use group_terms::{List, NoMemory, Octets, SignKind, WireFault, WireWhat};
+use group_terms::{List, NoMemory, SignKind, WireFault};
 use sa_wire::{
     KekPolicy, PlacedKek, PlacedSa, PlacedTek, SaPolicy, TekPolicy, read_placed_sa, read_sa,
     sa_size, write_sa,
@@ -96,110 +96,4 @@ fn is_read_again(alloc: Global, policy: &SaPolicy, size: usize) -> Result<bool, 
 /// Reads a body whose first octet has the place 40, and of which a datagram holds at most 65,507 octets.
 fn read(body: &[u8]) -> Result<SaPolicy, WireFault> {
     read_sa(&body[..body.len().min(65_507)], 40)
-}
-
-/// The body of a SAT alone, up to its attributes, of which there are 24 octets.
-const SAT_OF_24: &str =
-    "00000002000000000010000000000033011101000004c000020101000004e9fc00010c9ac3e826";
-
-/// The same with 20 octets of attributes.
-const SAT_OF_20: &str =
-    "0000000200000000001000000000002f011101000004c000020101000004e9fc00010c9ac3e826";
-
-/// The same with 16 octets of attributes.
-const SAT_OF_16: &str =
-    "0000000200000000001000000000002b011101000004c000020101000004e9fc00010c9ac3e826";
-
-/// A body up to its attributes, these, and what is read of it.
-type Attributes = (&'static str, &'static str, Result<SaPolicy, WireFault>);
-
-/// The attributes of a TEK stand in any order, and the duration has either form.
-static TAKEN: [Attributes; 3] = [
-    (
-        SAT_OF_24,
-        "800100010002000400000e10800400018005000580060080",
-        Ok(TEK_ALONE),
-    ),
-    (
-        SAT_OF_24,
-        "8006008080050005800400010002000400000e1080010001",
-        Ok(TEK_ALONE),
-    ),
-    (
-        SAT_OF_24,
-        "000200040000000080040002800100018006008080050005",
-        Ok(TEK_ALONE),
-    ),
-];
-
-/// A second attribute of a kind, one without a rule, a long form where that is not taken, and a number that is not taken, after a SAT of
-/// which the attributes begin at place 39 of the body; then a SAT that ends where the key length is still awaited.
-static REFUSED: [Attributes; 5] = [
-    (
-        SAT_OF_20,
-        "800100018001000180020e108004000180050005",
-        Err(WireFault {
-            what: WireWhat::Kind { number: 1 },
-            at: 83,
-        }),
-    ),
-    (
-        SAT_OF_20,
-        "800100018003000180020e108004000180050005",
-        Err(WireFault {
-            what: WireWhat::Kind { number: 3 },
-            at: 83,
-        }),
-    ),
-    (
-        SAT_OF_20,
-        "800100010004000180020e108004000180050005",
-        Err(WireFault {
-            what: WireWhat::Kind { number: 4 },
-            at: 83,
-        }),
-    ),
-    (
-        SAT_OF_20,
-        "800100028003000180020e108004000180050005",
-        Err(WireFault {
-            what: WireWhat::Value,
-            at: 81,
-        }),
-    ),
-    (
-        SAT_OF_16,
-        "8001000180020e108004000180050005",
-        Err(WireFault {
-            what: WireWhat::Short,
-            at: 95,
-        }),
-    ),
-];
-
-#[test]
-fn attributes_stand_in_any_order_and_exactly_once(rt: HostRuntime) {
-    assert!(rt; are_answered(rt.alloc(), &TAKEN) & are_answered(rt.alloc(), &REFUSED));
-}
-
-fn are_answered(alloc: Global, rows: &[Attributes]) -> bool {
-    let mut holds = true;
-    for row in rows {
-        holds &= is_answered(alloc, row);
-    }
-    holds
-}
-
-fn is_answered(alloc: Global, (head, attributes, answer): &Attributes) -> bool {
-    let mut body = List::new(alloc);
-    let is_whole = append(alloc, head, &mut body) & append(alloc, attributes, &mut body);
-    is_whole & (read(body.as_slice()) == *answer)
-}
-
-/// Appends the octets of hexadecimal digits.
-fn append(alloc: Global, digits: &str, body: &mut Octets) -> bool {
-    match hex::decode(alloc, digits) {
-        Ok(octets) => body.extend(octets.as_slice()).is_ok(),
-        Err(_) => false,
-    }
 }
