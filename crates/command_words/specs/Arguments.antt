@@ -1,5 +1,6 @@
--- The arguments of the command line: `--new` with a number from 1 to 9, `--open` with none, `--limit` with a number from 1 to 2^32 - 1, and
--- `--seed` with a number from 0 to 2^64 - 1. A number is the next word, or it is in the same word after an equals sign.
+-- The arguments of the command line: `--new` with a number from 1 to 9, `--open` with none, `--limit` with a number from 1 to 2^32 - 1,
+-- `--seed` with a number from 0 to 2^64 - 1, and `--workers` with a number from 1 to 16. A number is the next word, or it is in the same word
+-- after an equals sign.
 use Rattle.std.specs.Prelude.{ℕ, ◌+◌, ◌-◌, ◌^◌, ◌==◌, nat_le, Bool, List, [], ◌∷◌, take, drop, position, Option, None, Some, if◌then◌else◌}
 use Rattle.std.specs.Prelude.{codes}
 use Rattle.std.specs.Option.{is_some, option_map, option_map_or}
@@ -7,7 +8,7 @@ use Rattle.std.specs.Str.{bytes_eq}
 use Rattle.script_text.specs.Numbers.{decimal_in}
 use Rattle.command_words.specs.declared.commands.Opening.TheVariants.{New, Open}
 use Rattle.command_words.specs.declared.arguments.Argument.{Argument}
-use Rattle.command_words.specs.declared.arguments.Argument.TheVariants.{Opens, Limit, Seed}
+use Rattle.command_words.specs.declared.arguments.Argument.TheVariants.{Opens, Limit, Seed, Workers}
 use Rattle.command_words.specs.Options.{◌>>=◌}
 
 -- the number that 1 to 20 decimal digits say, where it is from a least to a greatest one
@@ -22,7 +23,8 @@ argument_with name text =
     if bytes_eq name (codes "--new") then option_map (λ depth. Opens (New depth)) (number_between 1 9 text)
     else (if bytes_eq name (codes "--limit") then option_map Limit (number_between 1 (2 ^ 32 - 1) text)
     else (if bytes_eq name (codes "--seed") then option_map Seed (number_between 0 (2 ^ 64 - 1) text)
-    else None))
+    else (if bytes_eq name (codes "--workers") then option_map Workers (number_between 1 16 text)
+    else None)))
 
 -- whether a character is the equals sign
 abbrev pub is_equals_sign : ℕ → Bool

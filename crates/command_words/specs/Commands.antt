@@ -5,7 +5,7 @@ use Rattle.command_words.specs.declared.commands.Opening.{Opening}
 use Rattle.command_words.specs.declared.commands.Opening.TheVariants.{New, Open}
 use Rattle.command_words.specs.declared.commands.Command.{Command}
 use Rattle.command_words.specs.declared.arguments.Argument.{Argument}
-use Rattle.command_words.specs.declared.arguments.Argument.TheVariants.{Opens, Limit, Seed}
+use Rattle.command_words.specs.declared.arguments.Argument.TheVariants.{Opens, Limit, Seed, Workers}
 use Rattle.command_words.specs.Options.{◌>>=◌, one, one_or}
 use Rattle.command_words.specs.Arguments.{arguments_of}
 
@@ -24,13 +24,19 @@ abbrev pub seed_in : Argument → Option ℕ
 seed_in (Seed seed) = Some seed
 seed_in _ = None
 
--- one opening, and a limit and a seed where they are given: else the limit is the greatest one and the seed is 0
+-- how many workers an argument asks for, where it does
+abbrev pub workers_in : Argument → Option ℕ
+workers_in (Workers workers) = Some workers
+workers_in _ = None
+
+-- One opening, and a limit, a seed and a number of workers where they are given: else the limit is the greatest one, the seed is 0, and there is one worker.
 abbrev pub command_from : List Argument → Option Command
 command_from arguments = do
   opening ← one (filter_map opening_in arguments)
   limit ← one_or (2 ^ 32 - 1) (filter_map limit_in arguments)
   seed ← one_or 0 (filter_map seed_in arguments)
-  Some (record { opening = opening; limit = limit; seed = seed })
+  workers ← one_or 1 (filter_map workers_in arguments)
+  Some (record { opening = opening; limit = limit; seed = seed; workers = workers })
 
 -- the command that the words ask for, where they are of the grammar
 unfoldable pub command_of : List (List ℕ) → Option Command
@@ -41,7 +47,8 @@ abbrev pub HasDepth : Opening → Type 0
 HasDepth (New depth) = (1 ≤ depth) × (depth ≤ 9)
 HasDepth Open = Unit {0}
 
--- a command has a depth from 1 to 9, where it has one, and a limit of 1 at least
+-- a command has a depth from 1 to 9, where it has one, a limit of 1 at least, and from 1 to 16 workers
 pub record IsWithin (command : Command) : Type 0 where
   pub depth : HasDepth command.opening
   pub limit : 1 ≤ command.limit
+  pub workers : (1 ≤ command.workers) × (command.workers ≤ 16)

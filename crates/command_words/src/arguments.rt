@@ -7,10 +7,13 @@ use crate::commands::Opening;
 use crate::numbers::read_between;
 
 /// The greatest depth of the tree of a group that is made.
-const MOST_DEPTH: u64 = 9;
+pub(crate) const MOST_DEPTH: u64 = 9;
 
 /// The greatest limit.
-const MOST_LIMIT: u64 = (1 << 32) - 1;
+pub(crate) const MOST_LIMIT: u64 = (1 << 32) - 1;
+
+/// The greatest number of workers.
+pub(crate) const MOST_WORKERS: u64 = 16;
 
 /// One argument of the command line.
 #[derive(Clone, Copy)]
@@ -21,6 +24,8 @@ pub(crate) enum Argument {
     Limit(u32),
     /// The seed of the draws.
     Seed(u64),
+    /// How many workers share the lines of a block.
+    Workers(u8),
 }
 
 /// The argument that begins with this word, and the words after it; `None` where there is none.
@@ -83,6 +88,9 @@ fn read_argument_with(name: &[u8], number: &[u8]) -> Option<Argument>
     } else if name == b"--seed".as_slice() {
         let seed = read_between(0, u64::MAX, number)?;
         Some(Argument::Seed(seed))
+    } else if name == b"--workers".as_slice() {
+        let workers = read_between(1, MOST_WORKERS, number)?;
+        Some(Argument::Workers(workers as u8))
     } else {
         None
     }

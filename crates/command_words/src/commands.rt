@@ -1,5 +1,4 @@
 ghost use Rattle.std.specs.Prelude.{◌≡◌, map, string_bytes, IfSome};
-ghost use Rattle.std.specs.Option.{option_map_or};
 ghost use Rattle.command_words.specs.Commands.{command_of, IsWithin};
 
 use crate::found::Found;
@@ -21,27 +20,19 @@ pub struct Command {
     pub limit: u32,
     /// The seed of the draws.
     pub seed: u64,
+    /// How many workers share the lines of a block: from 1 to 16.
+    pub workers: u8,
 }
 
 /// The command that the words ask for, after the name of the program; `None` exactly where they are not of the grammar.
 ///
-/// `--new` with a number from 1 to 9 or `--open`, and `--limit` with a number from 1 to 2^32 - 1 and `--seed` with a number from 0 to
-/// 2^64 - 1 where they are given, in any order and each once at most. A number, of 1 to 20 decimal digits, is the next word, or it is in
-/// the same word after an equals sign.
+/// `--new` with a number from 1 to 9 or `--open`, and where they are given `--limit` with a number from 1 to 2^32 - 1, `--seed` with a number from 0
+/// to 2^64 - 1 and `--workers` with a number from 1 to 16, in any order and each once at most. A number, of 1 to 20 decimal digits, is the next word,
+/// or it is in the same word after an equals sign.
 pub fn read_words(words: &[String]) -> Option<Command>
     ensures command { result ≡ command_of (map string_bytes words.now) }
     ensures within { IfSome result IsWithin }
 {
     let found = Found::read(words)?;
     found.command()
-}
-
-/// The seed of the command that the words ask for; 0 where they are not of the grammar.
-pub fn seed_of(words: &[String]) -> u64
-    ensures { result ≡ option_map_or (λ command. command.seed) (command_of (map string_bytes words.now)) 0 }
-{
-    match read_words(words) {
-        Some(command) => command.seed,
-        None => 0,
-    }
 }

@@ -12,6 +12,7 @@ pub(crate) struct Found {
     opening: Option<Opening>,
     limit: Option<u32>,
     seed: Option<u64>,
+    workers: Option<u8>,
 }
 
 impl Found {
@@ -33,12 +34,13 @@ impl Found {
     }
 
     fn new() -> Found
-        ensures { result ≡ record { opening = None; limit = None; seed = None } }
+        ensures { result ≡ record { opening = None; limit = None; seed = None; workers = None } }
     {
         Found {
             opening: None,
             limit: None,
             seed: None,
+            workers: None,
         }
     }
 
@@ -53,6 +55,7 @@ impl Found {
             Argument::Opens(opening) => self.with_opening(opening),
             Argument::Limit(limit) => self.with_limit(limit),
             Argument::Seed(seed) => self.with_seed(seed),
+            Argument::Workers(workers) => self.with_workers(workers),
         }
     }
 
@@ -95,6 +98,19 @@ impl Found {
         }
     }
 
+    fn with_workers(self, workers: u8) -> Option<Found>
+        ensures { result ≡ (if is_some self.workers then None else Some (record self { workers = Some workers })) }
+    {
+        if self.workers.is_some() {
+            None
+        } else {
+            Some(Found {
+                workers: Some(workers),
+                ..self
+            })
+        }
+    }
+
     /// The command that the arguments say; `None` where none of them says how a group is opened.
     pub(crate) fn command(self) -> Option<Command>
         requires { AreAllowed self }
@@ -104,10 +120,12 @@ impl Found {
         let opening = self.opening?;
         let limit = self.limit.unwrap_or(u32::MAX);
         let seed = self.seed.unwrap_or(0);
+        let workers = self.workers.unwrap_or(1);
         Some(Command {
             opening,
             limit,
             seed,
+            workers,
         })
     }
 }

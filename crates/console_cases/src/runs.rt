@@ -1,8 +1,7 @@
 //! A run of the console.
 
 use case_lines::put;
-use command_words::seed_of;
-use console_run::{Ending, Finished, console};
+use console_run::{Ending, Finished, console, seed_of};
 use gd_disk::MemDisk;
 use gd_edges::{ChaChaDraws, TestSigner, TestVerifier, TextSink, TextSource};
 use group_terms::{List, NoMemory, Octets};
@@ -92,7 +91,8 @@ pub fn run(alloc: Global, asked: Asked, disk: MemDisk) -> Ran {
     } = asked;
     let mut source = TextSource::new(script, source_fails);
     let mut sink = TextSink::new(alloc, sink_fails);
-    let draws = ChaChaDraws::new(seed_of(&words), 0);
+    let seed = seed_of(&words);
+    let mut peers = ChaChaDraws::new(seed, 1);
     let Finished { ending, disk, .. } = console(
         alloc,
         &words,
@@ -101,7 +101,8 @@ pub fn run(alloc: Global, asked: Asked, disk: MemDisk) -> Ran {
         disk,
         TestSigner::new(),
         &TestVerifier::new(),
-        draws,
+        ChaChaDraws::new(seed, 0),
+        &mut peers,
     );
     Ran { sink, ending, disk }
 }

@@ -1,13 +1,14 @@
 -- One line of a script, request by request.
 -- What a line gives is a recursion over its entries (`GoesThrough`), each of which answers what `AsksNext` says; `GoesThrough-then` adds one at the end, where
--- code adds. `Going` is a loop of requests with a property of the run (`keeps`): nothing for a batch, the last delivery for deliver-all, `any_run` for a line
--- of one request.
+-- code adds. `Going` is a loop of requests with a property of the run (`keeps`): the last delivery for deliver-all, `any_run` for a line of one request.
+-- What is said of the keys of the engine (`keys_of`) is said of those that a run has (`same_keys`).
 use Rattle.std.proofs.Common.{◌≡◌, ℕ, false, ◌||◌, List, [], ◌∷◌, ◌++◌, Option, None, Some, Result, Ok, Err, sym, refl, ap, ◌∙◌, subst, inl, inr, append_assoc}
 use Rattle.std.specs.Prelude.{IfErr, MatchResult, OnOk}
 use Rattle.std.proofs.lemmas.Bool.{or_parts}
 use Rattle.std.proofs.lemmas.List.{append-nil}
 use Rattle.std.proofs.lemmas.List.Folds.{list_any-append}
 use Rattle.std.proofs.lemmas.Result.{IfOk-at_ok, MatchResult-weaker}
+use Rattle.gd_disk.specs.declared.disks.Disk.{Ghosts as DiskGhosts}
 use Rattle.gd_edges.specs.Shown.{Shown}
 use Rattle.gd_edges.specs.declared.draws.Draws.{Ghosts as DrawGhosts}
 use Rattle.group_model.specs.Answers.{any_ran_out, ran_out}
@@ -15,10 +16,14 @@ use Rattle.group_model.specs.declared.entries.Asked.{Asked}
 use Rattle.group_model.specs.declared.entries.Entry.{Entry}
 use Rattle.group_terms.specs.declared.memory.NoMemory.{NoMemory}
 use Rattle.group_run.specs.Moves.{Moves}
+use Rattle.group_run.specs.Reads.{Ask}
 use Rattle.group_run.specs.Reflects.{Reflects}
 use Rattle.group_run.specs.Views.{View}
-use Rattle.group_steps.specs.Runs.{Run}
-use Rattle.group_steps.specs.Steps.{IsAnswered}
+use Rattle.group_steps.specs.Devices.{Devices, Keying, keying}
+use Rattle.group_steps.specs.Runs.{Run, with_members}
+use Rattle.group_steps.specs.Steps.{IsAnswered, IsAnsweredAfter}
+use Rattle.member_steps.specs.Members.{Members}
+use Rattle.server_steps.specs.Reflects.{IsServerOf}
 use Rattle.script_text.specs.Lines.{line_of}
 use Rattle.script_text.specs.Report.{entry_text, entries_text}
 use Rattle.script_text.specs.declared.lines.Line.{Line as ScriptLine}
@@ -27,108 +32,129 @@ use Rattle.run_report.specs.declared.stops.Stop.{Stop}
 use Rattle.run_report.specs.declared.stops.Stop.TheVariants.{Line, Source, Sink, Memory, Unreported}
 use Rattle.run_report.specs.declared.endings.Ending.{Ending}
 use Rattle.run_report.specs.declared.endings.Ending.TheVariants.{Sink as SinkEnding, Memory as MemoryEnding}
-use Rattle.console_run.specs.Devices.{Devices, Keying, Steps}
-use Rattle.console_run.specs.Lines.{AsksNext, BeginsToGive, GoesThrough, once}
+use Rattle.console_run.specs.Names.{console_name}
+use Rattle.console_run.specs.Lines.{AsksAfter, AsksBy, AsksFirst, AsksNext, BeginsToGive, GoesThrough}
 use Rattle.run_report.specs.Reports.{BreaksOff, Puts, ReportBreaksOff}
 use Rattle.console_run.specs.Private.Asks.{Answers, StopsIn}
 use Rattle.console_run.specs.Private.Reports.{EntryStops}
-use Rattle.console_run.specs.Private.Runs.{ReportsUntil, Runs, Stands, Stops, begun_by_text, by_line, by_text}
+use Rattle.console_run.specs.Private.Runs.{Drawing, ReportsUntil, Runs, Stands, Stops, begun_by_text, by_line, by_text}
 use Rattle.run_report.proofs.KnownLemmas.{Puts-entries, Puts-entry, Puts-none, ReportBreaksOff-last}
+use Rattle.console_run.proofs.ActLemmas.{last_is}
 
 -- ---- what a request of the engine answers
 
-module _ {D G V R : Type 0} (on : Devices D G V) (draws : DrawGhosts R) (old new : View D G R) where
-  -- what a step does that answers a request, with the server that the group has
-  abbrev pub MovesBy : Asked → Type 0
-  MovesBy request =
-      Moves on.disks draws (IsAnswered on.disks on.signers old.core.signer on.verifiers on.verifier (draws.block_at old.core.draws) old.entries request) request
-      old new
+module _ {D G R : Type 0} (draws : DrawGhosts R) (peers : Drawing) (held : View D G R) where
+  -- what a group makes its keys with, and its members theirs
+  abbrev pub keys_of : Keying G
+  keys_of = keying held.server.core.signer (draws.block_at held.server.core.draws) peers.block console_name
 
-  pub Answers-by : (request : Asked) → MovesBy request → Answers on draws request old new
-  Answers-by request moves = record {
+  pub same_keys : (d : DiskGhosts D) (by : Keying G) (run : Run D) → Stands d draws peers by held run → keys_of ≡ by
+  same_keys d by run stands =
+      λ i. keying (stands.signer i) (λ k. stands.blocks k i) (λ k. stands.members_blocks k i) (sym stands.group i)
+
+module _ {D G V R : Type 0} (on : Devices D G V) (draws : DrawGhosts R) (peers : Drawing) (old new : View D G R) where
+  -- what a step does that answers a request, with the server that the group has
+  abbrev pub MovesBy : Members → Asked → Type 0
+  MovesBy acted request = Moves on.disks draws (IsAnswered on (keys_of draws peers old) old.entries request) acted request old new
+
+  pub Answers-by : (acted : Members) (request : Asked) → MovesBy acted request → Answers on draws peers acted request old new
+  Answers-by acted request moves = record {
     entry = moves.entry;
     added = moves.added;
     asked = moves.asked;
     each = λ by run stands.
-        let next = moves.each run stands.reflects in
-        let block : draws.block_at old.core.draws ≡ by.block = λ i k. stands.blocks k i in (
+        let next = moves.each run stands.reflects in (
           next.0,
-          record {
+          subst (λ by. IsAnsweredAfter on by acted old.entries run moves.entry next.0) (same_keys draws peers old on.disks by run stands) (record {
             answered = subst
-                (λ asked. IsAnswered on.disks on.signers by.signer on.verifiers on.verifier by.block old.entries asked run moves.entry.answer
-                moves.entry.outside next.0)
-                (sym moves.asked)
-                (subst
-                (λ block. IsAnswered on.disks on.signers by.signer on.verifiers on.verifier block old.entries request run moves.entry.answer
-                moves.entry.outside next.0)
-                block
-                (subst
-                (λ signer. IsAnswered on.disks on.signers signer on.verifiers on.verifier
-                (draws.block_at old.core.draws) old.entries request run moves.entry.answer moves.entry.outside next.0)
-                stands.signer next.1.answered));
+                (λ asked. IsAnswered on (keys_of draws peers old) old.entries asked (with_members run acted) moves.entry.answer moves.entry.outside next.0)
+                (sym moves.asked) next.1.answered;
             keeps = next.1.keeps;
             counts = next.1.counts;
-          },
+          }),
           record {
             reflects = next.2;
             signer = moves.goes_on.signer ∙ stands.signer;
             blocks = λ k. moves.goes_on.blocks k ∙ stands.blocks k;
+            members_blocks = stands.members_blocks;
+            group = stands.group;
           },
         );
   }
 
-module _ {D G V R : Type 0} (on : Devices D G V) (draws : DrawGhosts R) (old new : View D G R) where
+module _ {D G V R : Type 0} (on : Devices D G V) (draws : DrawGhosts R) (peers : Drawing) (held : View D G R) where
+  -- what a line asks with the keys of the engine, it asks with those of a run
+  pub asks_by : (line : ScriptLine) (so_far : List Entry) (next : Option Ask) (by : Keying G) (run : Run D) → Stands on.disks draws peers by held run
+      → (before : List Entry) → AsksNext peers.block console_name run before so_far line next → AsksNext by.members_block by.group run before so_far line next
+  asks_by line so_far next by run stands before asks =
+      subst (λ (by : Keying G). AsksNext by.members_block by.group run before so_far line next) (same_keys draws peers held on.disks by run stands) asks
+
+-- what a line asks after its last entry
+pub asks_later : {D : Type 0} (line : ScriptLine) (block : ℕ → List ℕ) (group : List ℕ) (run : Run D) (before front : List Entry) (last : Entry)
+    (next : Option Ask) → AsksAfter block group run before (front ++ last ∷ []) line last next → AsksNext block group run before (front ++ last ∷ []) line next
+asks_later line block group run before front last next asks =
+    subst (λ (found : Option Entry). AsksBy block group run before (front ++ last ∷ []) line found next) (sym (last_is front last)) asks
+
+module _ {D G V R : Type 0} (on : Devices D G V) (draws : DrawGhosts R) (peers : Drawing) (old new : View D G R) where
   -- a line asks just once, and its request was answered
   pub record AsksOnce (line : ScriptLine) : Type 0 where
     pub request : Asked
-    pub asks : (run : Run D) (so_far : List Entry) (next : Option Asked) → next ≡ once request so_far → AsksNext run old.entries so_far line next
-    pub answers : Answers on draws request old new
+    pub first : (run : Run D) (members : Members) → AsksFirst peers.block console_name run old.entries [] line members (Some (request, members))
+    pub later : (run : Run D) (so_far : List Entry) (last : Entry) → AsksAfter peers.block console_name run old.entries so_far line last None
+    pub answers : Answers on draws peers old.members request old new
 
   -- a call answered it
   pub asked_once : (line kind : ScriptLine) → line ≡ kind → (request : Asked)
-      → ((run : Run D) (so_far : List Entry) (next : Option Asked) → next ≡ once request so_far → AsksNext run old.entries so_far kind next)
-      → (held : View D G R) → new ≡ held → (call : Result Unit NoMemory) (u : Unit {0}) → call ≡ Ok u → OnOk call (MovesBy on draws old held request)
-      → AsksOnce line
-  asked_once line kind is request asks held same call u ok moves = record {
+      → ((run : Run D) (members : Members) → AsksFirst peers.block console_name run old.entries [] kind members (Some (request, members)))
+      → ((run : Run D) (so_far : List Entry) (last : Entry) → AsksAfter peers.block console_name run old.entries so_far kind last None)
+      → (held : View D G R) → new ≡ held → (call : Result Unit NoMemory) (u : Unit {0}) → call ≡ Ok u
+      → OnOk call (MovesBy on draws peers old held old.members request) → AsksOnce line
+  asked_once line kind is request first later held same call u ok moves = record {
     request = request;
-    asks = subst
-        (λ line. (run : Run D) (so_far : List Entry) (next : Option Asked) → next ≡ once request so_far → AsksNext run old.entries so_far line next)
-        (sym is) asks;
-    answers = subst (λ new. Answers on draws request old new) (sym same)
-        (Answers-by on draws old held request (IfOk-at_ok (λ _. MovesBy on draws old held request) ok moves));
+    first = subst
+        (λ line. (run : Run D) (members : Members) → AsksFirst peers.block console_name run old.entries [] line members (Some (request, members)))
+        (sym is) first;
+    later = subst
+        (λ line. (run : Run D) (so_far : List Entry) (last : Entry) → AsksAfter peers.block console_name run old.entries so_far line last None)
+        (sym is) later;
+    answers = subst (λ new. Answers on draws peers old.members request old new) (sym same)
+        (Answers-by on draws peers old held old.members request (IfOk-at_ok (λ _. MovesBy on draws peers old held old.members request) ok moves));
   }
 
 -- ---- entry after entry
 
 module _ {D G V : Type 0} (on : Devices D G V) (by : Keying G) (line : ScriptLine) (before : List Entry) where
   -- a line goes through one entry more
-  pub GoesThrough-then : (so_far : List Entry) (run : Run D) (more : List Entry) (middle : Run D) (entry : Entry) (after : Run D)
+  pub GoesThrough-then : (so_far : List Entry) (run : Run D) (more : List Entry) (middle : Run D) (entry : Entry) (acted : Members) (after : Run D)
       → any_ran_out more ≡ false → GoesThrough on by line before so_far run more middle
-      → AsksNext middle before (so_far ++ more) line (Some entry.asked) → Steps on by (before ++ (so_far ++ more)) middle entry after
+      → AsksNext by.members_block by.group middle before (so_far ++ more) line (Some (entry.asked, acted))
+      → IsAnsweredAfter on by acted (before ++ (so_far ++ more)) middle entry after
       → GoesThrough on by line before so_far run (more ++ entry ∷ []) after
-  GoesThrough-then so_far run [] middle entry after enough same asks step = (
-    subst (λ (run : Run D). AsksNext run before so_far line (Some entry.asked)) same
-        (subst (λ list. AsksNext middle before list line (Some entry.asked)) (append-nil so_far) asks),
+  GoesThrough-then so_far run [] middle entry acted after enough same asks step = (
+    acted,
+    subst (λ (run : Run D). AsksNext by.members_block by.group run before so_far line (Some (entry.asked, acted))) same
+        (subst (λ list. AsksNext by.members_block by.group middle before list line (Some (entry.asked, acted))) (append-nil so_far) asks),
     inl refl,
     after,
-    subst (λ (run : Run D). Steps on by (before ++ so_far) run entry after) same
-        (subst (λ list. Steps on by (before ++ list) middle entry after) (append-nil so_far) step),
+    subst (λ (run : Run D). IsAnsweredAfter on by acted (before ++ so_far) run entry after) same
+        (subst (λ list. IsAnsweredAfter on by acted (before ++ list) middle entry after) (append-nil so_far) step),
     refl,
   )
-  GoesThrough-then so_far run (first ∷ more) middle entry after enough goes asks step =
+  GoesThrough-then so_far run (first ∷ more) middle entry acted after enough goes asks step =
       let enough_memory = or_parts (ran_out first.answer) (any_ran_out more) enough in
       let same = sym (append_assoc so_far (first ∷ []) more) in (
         goes.0,
+        goes.1,
         inr enough_memory.0,
-        goes.2,
         goes.3,
-        GoesThrough-then (so_far ++ first ∷ []) goes.2 more middle entry after enough_memory.1 goes.4
-            (subst (λ list. AsksNext middle before list line (Some entry.asked)) same asks)
-            (subst (λ list. Steps on by (before ++ list) middle entry after) same step),
+        goes.4,
+        GoesThrough-then (so_far ++ first ∷ []) goes.3 more middle entry acted after enough_memory.1 goes.5
+            (subst (λ list. AsksNext by.members_block by.group middle before list line (Some (entry.asked, acted))) same asks)
+            (subst (λ list. IsAnsweredAfter on by acted (before ++ list) middle entry after) same step),
       )
 
 -- one entry more, at which the report stopped
-until : (stop : Stop) (was seen now : Shown) (more : List Entry) (entry : Entry) → Puts was seen (entries_text more) → EntryStops stop seen now entry
+pub until : (stop : Stop) (was seen now : Shown) (more : List Entry) (entry : Entry) → Puts was seen (entries_text more) → EntryStops stop seen now entry
     → ReportsUntil stop was now (more ++ entry ∷ [])
 until stop was seen now more entry puts stops = by_stop stop stops
   where
@@ -142,13 +168,13 @@ until stop was seen now more entry puts stops = by_stop stop stops
     by_stop Memory h = Puts-entries was seen now more (entry ∷ []) puts (Puts-entry seen now entry h.0)
     by_stop Unreported h = broken MemoryEnding h
 
-module _ {D G V R : Type 0} (on : Devices D G V) (draws : DrawGhosts R) (line : ScriptLine) where
+module _ {D G V R : Type 0} (on : Devices D G V) (draws : DrawGhosts R) (peers : Drawing) (line : ScriptLine) where
   -- A line has given entries so far, all of them reported, and memory did not run out. Whatever run it was before, these have made a run with such a property.
   pub record Going (keeps : List Entry → Run D → Type 0) (more : List Entry) (old new : View D G R) (was now : Shown) : Type 0 where
     pub grown : new.entries ≡ old.entries ++ more
     pub enough : any_ran_out more ≡ false
-    pub each : (by : Keying G) (run : Run D) → Stands on.disks draws by old run
-        → (after : Run D) × BeginsToGive on by line old.entries run more after × Stands on.disks draws by new after × keeps more after
+    pub each : (by : Keying G) (run : Run D) → Stands on.disks draws peers by old run
+        → (after : Run D) × BeginsToGive on by line old.entries run more after × Stands on.disks draws peers by new after × keeps more after
     pub puts : Puts was now (entries_text more)
 
   -- nothing was asked yet
@@ -164,32 +190,43 @@ module _ {D G V R : Type 0} (on : Devices D G V) (draws : DrawGhosts R) (line : 
   module _ (keeps : List Entry → Run D → Type 0) (more : List Entry) (old middle : View D G R) (was seen : Shown)
       (going : Going keeps more old middle was seen) where
     -- nothing more is asked
-    pub Runs-all : ((run : Run D) → Reflects on.disks draws middle run → keeps more run → AsksNext run old.entries more line None)
-        → Runs on.disks draws (by_line on line) old middle was seen
+    pub Runs-all : ((run : Run D) → Reflects on.disks draws middle run → keeps more run → AsksNext peers.block console_name run old.entries more line None)
+        → Runs on.disks draws peers (by_line on line) old middle was seen
     Runs-all no_more = record {
       more = more;
       grown = going.grown;
       each = λ by run stands.
-          let h = going.each by run stands in
-          (h.0, record { begins = h.1; no_more = no_more h.0 h.2.reflects h.3; enough_memory = going.enough }, h.2);
+          let h = going.each by run stands in (
+            h.0,
+            record {
+              begins = h.1;
+              no_more = asks_by on draws peers middle line more None by h.0 h.2 old.entries (no_more h.0 h.2.reflects h.3);
+              enough_memory = going.enough;
+            },
+            h.2,
+          );
       puts = going.puts;
     }
 
     -- there was no memory for a request
-    pub Stops-unasked : (new : View D G R) → new ≡ middle → StopsIn on draws line Memory old new was seen
-    Stops-unasked new same = subst (λ new. StopsIn on draws line Memory old new was seen) (sym same) (record {
+    pub Stops-unasked : (new : View D G R) → new.server ≡ middle.server → new.entries ≡ middle.entries
+        → StopsIn on draws peers line Memory old new was seen
+    Stops-unasked new server entries = record {
       stops = record {
         more = more;
-        grown = going.grown;
-        each = λ by run stands. let h = going.each by run stands in (h.0, h.1, h.2);
+        grown = entries ∙ going.grown;
+        each = λ by run stands.
+            let h = going.each by run stands in
+            (h.0, h.1, subst (λ server. IsServerOf on.disks draws server h.0.host) (sym server) h.2.reflects.server);
         reports = going.puts;
       };
       known = λ same. cc;
-    })
+    }
 
     -- one request was answered
-    module _ (new : View D G R) (request : Asked) (answers : Answers on draws request middle new)
-        (asks : (run : Run D) → Reflects on.disks draws middle run → keeps more run → AsksNext run old.entries more line (Some request)) where
+    module _ (new : View D G R) (acted : Members) (request : Asked) (answers : Answers on draws peers acted request middle new)
+        (asks : (run : Run D) → Reflects on.disks draws middle run → keeps more run
+        → AsksNext peers.block console_name run old.entries more line (Some (request, acted))) where
       abbrev all_now : List Entry
       all_now = more ++ answers.entry ∷ []
 
@@ -201,14 +238,14 @@ module _ {D G V R : Type 0} (on : Devices D G V) (draws : DrawGhosts R) (line : 
       -- from the run that the entries so far have made
       record Goes (by : Keying G) (run : Run D) : Type 0 where
         middle_run : Run D
-        stood : Stands on.disks draws by middle middle_run
+        stood : Stands on.disks draws peers by middle middle_run
         kept : keeps more middle_run
         after : Run D
-        step : Steps on by middle.entries middle_run answers.entry after
+        step : IsAnsweredAfter on by acted middle.entries middle_run answers.entry after
         gives : BeginsToGive on by line old.entries run all_now after
-        stands : Stands on.disks draws by new after
+        stands : Stands on.disks draws peers by new after
 
-      goes : (by : Keying G) (run : Run D) → Stands on.disks draws by old run → Goes by run
+      goes : (by : Keying G) (run : Run D) → Stands on.disks draws peers by old run → Goes by run
       goes by run stands =
           let h = going.each by run stands in
           let next = answers.each by h.0 h.2 in
@@ -218,16 +255,17 @@ module _ {D G V R : Type 0} (on : Devices D G V) (draws : DrawGhosts R) (line : 
             kept = h.3;
             after = next.0;
             step = next.1;
-            gives = GoesThrough-then on by line old.entries [] run more h.0 answers.entry next.0 going.enough h.1
-                (subst (λ asked. AsksNext h.0 old.entries more line (Some asked)) (sym answers.asked) (asks h.0 h.2.reflects h.3))
-                (subst (λ entries. Steps on by entries h.0 answers.entry next.0) going.grown next.1);
+            gives = GoesThrough-then on by line old.entries [] run more h.0 answers.entry acted next.0 going.enough h.1
+                (subst (λ asked. AsksNext by.members_block by.group h.0 old.entries more line (Some (asked, acted))) (sym answers.asked)
+                (asks_by on draws peers middle line more (Some (request, acted)) by h.0 h.2 old.entries (asks h.0 h.2.reflects h.3)))
+                (subst (λ entries. IsAnsweredAfter on by acted entries h.0 answers.entry next.0) going.grown next.1);
             stands = next.2;
           }
 
       -- and reported
       pub Going-more : (keeps_now : List Entry → Run D → Type 0) (now : Shown)
-          → ((by : Keying G) (run next : Run D) → Stands on.disks draws by middle run → keeps more run
-          → Steps on by middle.entries run answers.entry next → keeps_now all_now next)
+          → ((by : Keying G) (run next : Run D) → Stands on.disks draws peers by middle run → keeps more run
+          → IsAnsweredAfter on by acted middle.entries run answers.entry next → keeps_now all_now next)
           → Puts seen now (entry_text answers.entry) → ran_out answers.entry.answer ≡ false → Going keeps_now all_now old new was now
       Going-more keeps_now now kept puts enough = record {
         grown = grown_now;
@@ -237,12 +275,12 @@ module _ {D G V R : Type 0} (on : Devices D G V) (draws : DrawGhosts R) (line : 
       }
 
       -- or there the run stopped
-      pub Stops-more : (now : Shown) (stop : Stop) → EntryStops stop seen now answers.entry → StopsIn on draws line stop old new was now
+      pub Stops-more : (now : Shown) (stop : Stop) → EntryStops stop seen now answers.entry → StopsIn on draws peers line stop old new was now
       Stops-more now stop stops = record {
         stops = record {
           more = all_now;
           grown = grown_now;
-          each = λ by run stands. let h = goes by run stands in (h.after, h.gives, h.stands);
+          each = λ by run stands. let h = goes by run stands in (h.after, h.gives, h.stands.reflects.server);
           reports = until stop was seen now more answers.entry going.puts stops;
         };
         known = λ same. subst (λ stop. EntryStops stop seen now answers.entry) same stops;
@@ -254,7 +292,7 @@ module _ {D G V R : Type 0} (on : Devices D G V) (draws : DrawGhosts R) (line : 
 abbrev pub any_run : {D : Type 0} → List Entry → Run D → Type 0
 any_run more run = Unit {0}
 
-module _ {D G V R : Type 0} (on : Devices D G V) (draws : DrawGhosts R) (old new : View D G R) (was now : Shown) where
+module _ {D G V R : Type 0} (on : Devices D G V) (draws : DrawGhosts R) (peers : Drawing) (old new : View D G R) (was now : Shown) where
   -- the report of the last entry was put, and memory did not run out in it
   abbrev pub IsReported : Type 0
   IsReported = (front : List Entry) (entry : Entry) → new.entries ≡ front ++ entry ∷ [] → Puts was now (entry_text entry) × (ran_out entry.answer ≡ false)
@@ -263,44 +301,49 @@ module _ {D G V R : Type 0} (on : Devices D G V) (draws : DrawGhosts R) (old new
   abbrev pub IsStopped : Stop → Type 0
   IsStopped stop = (front : List Entry) (entry : Entry) → new.entries ≡ front ++ entry ∷ [] → EntryStops stop was now entry
 
-  module _ (line : ScriptLine) (h : AsksOnce on draws old new line) where
-    begun : Going on draws line any_run [] old old was was
-    begun = Going-none on draws line any_run old was (λ run reflects. tt)
+  module _ (line : ScriptLine) (rest : old.members.mail ≡ []) (h : AsksOnce on draws peers old new line) where
+    begun : Going on draws peers line any_run [] old old was was
+    begun = Going-none on draws peers line any_run old was (λ run reflects. tt)
 
-    Runs-once : IsReported → Runs on.disks draws (by_line on line) old new was now
+    asks_first : (run : Run D) → Reflects on.disks draws old run → AsksNext peers.block console_name run old.entries [] line (Some (h.request, old.members))
+    asks_first run reflects = (old.members, (reflects.members, rest), h.first run old.members)
+
+    Runs-once : IsReported → Runs on.disks draws peers (by_line on line) old new was now
     Runs-once reported =
-        let told = reported old.entries h.answers.entry h.answers.added in
-        Runs-all on draws line any_run (h.answers.entry ∷ []) old new was now
-        (Going-more on draws line any_run [] old old was was begun new h.request h.answers
-        (λ run reflects kept. h.asks run [] (Some h.request) refl) any_run now
+        let entry = h.answers.entry in
+        let told = reported old.entries entry h.answers.added in
+        Runs-all on draws peers line any_run (entry ∷ []) old new was now
+        (Going-more on draws peers line any_run [] old old was was begun new old.members h.request h.answers
+        (λ run reflects kept. asks_first run reflects) any_run now
         (λ by run next stands kept step. tt) told.0 told.1)
-        (λ run reflects kept. h.asks run (h.answers.entry ∷ []) None refl)
+        (λ run reflects kept. asks_later line peers.block console_name run old.entries [] entry None (h.later run (entry ∷ []) entry))
 
     pub Ends-once : (result : Result Unit Stop) → OnOk result IsReported → IfErr result IsStopped
-        → MatchResult result (λ _. Runs on.disks draws (by_line on line) old new was now) (λ stop. StopsIn on draws line stop old new was now)
+        → MatchResult result (λ _. Runs on.disks draws peers (by_line on line) old new was now) (λ stop. StopsIn on draws peers line stop old new was now)
     Ends-once (Ok u) reported stopped = Runs-once reported
     Ends-once (Err stop) reported stopped =
-        Stops-more on draws line any_run [] old old was was begun new h.request h.answers (λ run reflects kept. h.asks run [] (Some h.request) refl) now stop
+        Stops-more on draws peers line any_run [] old old was was begun new old.members h.request h.answers (λ run reflects kept. asks_first run reflects) now
+        stop
         (stopped old.entries h.answers.entry h.answers.added)
 
 -- there was no memory for the first request of a line
-pub Stops-unbegun : {D G V R : Type 0} (on : Devices D G V) (draws : DrawGhosts R) (line : ScriptLine) (old new : View D G R) (was : Shown) → new ≡ old
-    → StopsIn on draws line Memory old new was was
-Stops-unbegun on draws line old new was same =
-    Stops-unasked on draws line any_run [] old old was was (Going-none on draws line any_run old was (λ run reflects. tt)) new same
+pub Stops-unbegun : {D G V R : Type 0} (on : Devices D G V) (draws : DrawGhosts R) (peers : Drawing) (line : ScriptLine) (old new : View D G R) (was : Shown)
+    → new.server ≡ old.server → new.entries ≡ old.entries → StopsIn on draws peers line Memory old new was was
+Stops-unbegun on draws peers line old new was server entries =
+    Stops-unasked on draws peers line any_run [] old old was was (Going-none on draws peers line any_run old was (λ run reflects. tt)) new server entries
 
 -- a line of nothing
-pub Runs-nothing : {D G V R : Type 0} (on : Devices D G V) (draws : DrawGhosts R) (held : View D G R) (out : Shown)
-    → Runs on.disks draws (by_line on lines.Nothing) held held out out
-Runs-nothing on draws held out =
-    Runs-all on draws lines.Nothing any_run [] held held out out (Going-none on draws lines.Nothing any_run held out (λ run reflects. tt))
-    (λ run reflects kept. refl)
+pub Runs-nothing : {D G V R : Type 0} (on : Devices D G V) (draws : DrawGhosts R) (peers : Drawing) (held : View D G R) (out : Shown)
+    → held.members.mail ≡ [] → Runs on.disks draws peers (by_line on lines.Nothing) held held out out
+Runs-nothing on draws peers held out rest =
+    Runs-all on draws peers lines.Nothing any_run [] held held out out (Going-none on draws peers lines.Nothing any_run held out (λ run reflects. tt))
+    (λ run reflects kept. (held.members, (reflects.members, rest), refl))
 
 -- ---- texts
 
-module _ {D G V R : Type 0} (on : Devices D G V) (draws : DrawGhosts R) (text : List ℕ) (old new : View D G R) (was now : Shown) where
-  Runs-text : (line : ScriptLine) → line_of text ≡ Some line → Runs on.disks draws (by_line on line) old new was now
-      → Runs on.disks draws (by_text on text) old new was now
+module _ {D G V R : Type 0} (on : Devices D G V) (draws : DrawGhosts R) (peers : Drawing) (text : List ℕ) (old new : View D G R) (was now : Shown) where
+  Runs-text : (line : ScriptLine) → line_of text ≡ Some line → Runs on.disks draws peers (by_line on line) old new was now
+      → Runs on.disks draws peers (by_text on text) old new was now
   Runs-text line is run = record {
     more = run.more;
     grown = run.grown;
@@ -308,8 +351,8 @@ module _ {D G V R : Type 0} (on : Devices D G V) (draws : DrawGhosts R) (text : 
     puts = run.puts;
   }
 
-  Stops-text : (line : ScriptLine) → line_of text ≡ Some line → (stop : Stop) → StopsIn on draws line stop old new was now
-      → Stops on.disks draws (begun_by_text on text) stop old new was now
+  Stops-text : (line : ScriptLine) → line_of text ≡ Some line → (stop : Stop) → StopsIn on draws peers line stop old new was now
+      → Stops on.disks draws peers (begun_by_text on text) stop old new was now
   Stops-text line is stop h = record {
     more = h.stops.more;
     grown = h.stops.grown;
@@ -319,18 +362,23 @@ module _ {D G V R : Type 0} (on : Devices D G V) (draws : DrawGhosts R) (text : 
 
   -- a text is such a line
   module _ (line : ScriptLine) (is : line_of text ≡ Some line) (result : Result Unit Stop)
-      (ends : MatchResult result (λ _. Runs on.disks draws (by_line on line) old new was now) (λ stop. StopsIn on draws line stop old new was now)) where
-    pub ok_by_text : OnOk result (Runs on.disks draws (by_text on text) old new was now)
-    ok_by_text = MatchResult-weaker result ends (λ _ run. Runs-text line is run) (λ stop h. tt)
+      (ends : MatchResult result (λ _. Runs on.disks draws peers (by_line on line) old new was now) (λ stop. StopsIn on draws peers line stop old new was now))
+    where
+      pub ok_by_text : OnOk result (Runs on.disks draws peers (by_text on text) old new was now)
+      ok_by_text = MatchResult-weaker result ends (λ _ run. Runs-text line is run) (λ stop h. tt)
 
-    pub stops_by_text : IfErr result (λ stop. Stops on.disks draws (begun_by_text on text) stop old new was now)
-    stops_by_text = MatchResult-weaker result ends (λ _ run. tt) (λ stop h. Stops-text line is stop h)
+      pub stops_by_text : IfErr result (λ stop. Stops on.disks draws peers (begun_by_text on text) stop old new was now)
+      stops_by_text = MatchResult-weaker result ends (λ _ run. tt) (λ stop h. Stops-text line is stop h)
 
   -- or it is none
-  pub Stops-faulty : new ≡ old → now ≡ was → Stops on.disks draws (begun_by_text on text) Line old new was now
+  pub Stops-faulty : new ≡ old → now ≡ was → Stops on.disks draws peers (begun_by_text on text) Line old new was now
   Stops-faulty same put = record {
     more = [];
     grown = ap (λ (held : View D G R). held.entries) same ∙ sym (append-nil old.entries);
-    each = λ by run stands. (run, inl (refl, refl), subst (λ held. Stands on.disks draws by held run) (sym same) stands);
+    each = λ by run stands. (
+      run,
+      inl (refl, refl),
+      subst (λ (held : View D G R). IsServerOf on.disks draws held.server run.host) (sym same) stands.reflects.server,
+    );
     reports = (refl, subst (λ now. Puts was now []) (sym put) (Puts-none was));
   }

@@ -18,17 +18,17 @@ use Rattle.run_report.specs.declared.stops.Stop.TheVariants.{Line, Source as Sou
 use Rattle.run_report.specs.declared.endings.Ending.{Ending}
 use Rattle.run_report.specs.declared.endings.Ending.TheVariants.{Whole, BadLine, Source, Sink, Memory, NotOpened}
 use Rattle.console_run.specs.Causes.{CannotOpen, CauseOf, Given, IsInParts, SourceAt}
-use Rattle.console_run.specs.Devices.{Devices, Keying}
+use Rattle.group_steps.specs.Devices.{Devices, Keying}
 use Rattle.console_run.specs.Lines.{IsOpeningEntry}
 use Rattle.console_run.specs.Promises.{IsBroken, IsEnded, Streams, streams_of}
 use Rattle.run_report.specs.Reports.{LastLineEnds, Puts, ReportBreaksOff}
 use Rattle.console_run.specs.Private.Follows.{IsOpened, IsRunTo, IsRunUntil, RunsScript}
 use Rattle.run_report.specs.Ends.{RefusalEnds, ScriptEnds, due_after}
-use Rattle.console_run.specs.Private.Runs.{IsBrokenOff, Moment, Start}
+use Rattle.console_run.specs.Private.Runs.{Drawing, IsBrokenOff, Moment, Start}
 use Rattle.run_report.proofs.KnownLemmas.{Puts-entry, Puts-none, ReportBreaksOff-one}
 
 module _ {D G V R : Type 0} (on : Devices D G V) (draws : DrawGhosts R) (start : Start D G) (had left : Shown) (at : Moment D G R) (entries : List Entry)
-    (same : entries ≡ at.held.entries) (disk : D) (kept : disk ≡ at.held.core.disk) where
+    (same : entries ≡ at.held.entries) (disk : D) (kept : disk ≡ at.held.server.core.disk) where
   -- the ending that was due, and its last line
   ran_to : (due ending : Ending) (now : Shown) → IsRunTo on draws due start had left at → LastLineEnds due ending at.out now
       → RunsScript on start.by start.request start.run had left start.was now ending entries disk
@@ -36,7 +36,7 @@ module _ {D G V R : Type 0} (on : Devices D G V) (draws : DrawGhosts R) (start :
     given = h.given;
     came = h.came;
     after = h.reported.after;
-    left_disk = h.reported.stands.reflects.server.disk ∙ sym kept;
+    left_disk = h.reported.server.disk ∙ sym kept;
     run = inl (record {
       due = due;
       cause = subst (λ entries. CauseOf on start.by h.given start.request start.run due entries h.reported.after) (sym same) h.reported.cause;
@@ -64,7 +64,7 @@ module _ {D G V R : Type 0} (on : Devices D G V) (draws : DrawGhosts R) (start :
     given = h.given;
     came = h.came;
     after = h.stopped.after;
-    left_disk = h.stopped.stands.reflects.server.disk ∙ sym kept;
+    left_disk = h.stopped.server.disk ∙ sym kept;
     run = inr (broken Sink h.given h.stopped h.source);
   }
 
@@ -74,7 +74,7 @@ module _ {D G V R : Type 0} (on : Devices D G V) (draws : DrawGhosts R) (start :
     given = h.given;
     came = h.came;
     after = h.stopped.after;
-    left_disk = h.stopped.stands.reflects.server.disk ∙ sym kept;
+    left_disk = h.stopped.server.disk ∙ sym kept;
     run = inr (broken Memory h.given h.stopped h.source);
   }
 
@@ -92,14 +92,15 @@ module _ {D G V R : Type 0} (on : Devices D G V) (draws : DrawGhosts R) (start :
 
 -- ---- the ending of a script
 
-module _ {D G V R : Type 0} (on : Devices D G V) (draws : DrawGhosts R) (held : View D G R) (had left was : Shown) (at : Moment D G R) where
+module _ {D G V R : Type 0} (on : Devices D G V) (draws : DrawGhosts R) (peers : Drawing) (held : View D G R) (had left was : Shown) (at : Moment D G R) where
   -- what following a script from this group says of its start
   abbrev pub Follows : (Start D G → Type 0) → Type 0
-  Follows P = (start : Start D G) → start.was ≡ was → IsOpened on draws start held → P start
+  Follows P = (start : Start D G) → start.was ≡ was → IsOpened on draws peers start held → P start
 
   -- a script was followed to its end, or stopped, and then its last line came
-  module _ (start : Start D G) (same : start.was ≡ was) (opened : IsOpened on draws start held) (entries : List Entry) (kept_entries : entries ≡ at.held.entries)
-      (disk : D) (kept_disk : disk ≡ at.held.core.disk) (line : ℕ) (counted : line ≡ at.count + 1) (ending : Ending) (now : Shown) where
+  module _ (start : Start D G) (same : start.was ≡ was) (opened : IsOpened on draws peers start held) (entries : List Entry)
+      (kept_entries : entries ≡ at.held.entries)
+      (disk : D) (kept_disk : disk ≡ at.held.server.core.disk) (line : ℕ) (counted : line ≡ at.count + 1) (ending : Ending) (now : Shown) where
     unchanged : (stopped : Ending) → (ending ≡ stopped) × (now ≡ at.out)
         → RunsScript on start.by start.request start.run had left start.was at.out stopped entries disk
         → RunsScript on start.by start.request start.run had left start.was now ending entries disk

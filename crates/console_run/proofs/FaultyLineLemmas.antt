@@ -11,7 +11,7 @@ use Rattle.group_model.specs.declared.entries.Asked.{Asked}
 use Rattle.group_steps.specs.Runs.{Run}
 use Rattle.script_text.specs.Lines.{line_of, line_of_words}
 use Rattle.script_text.specs.Words.{words_of}
-use Rattle.console_run.specs.Devices.{Devices, Keying}
+use Rattle.group_steps.specs.Devices.{Devices, Keying}
 use Rattle.console_run.specs.Scripts.{ends_line, EndsLine, unfinished, script_lines, is_line, are_lines}
 use Rattle.console_run.specs.Causes.{CameFrom, EndsAtLine, Given, IsOver}
 use Rattle.console_run.specs.Promises.{ShowsScript}

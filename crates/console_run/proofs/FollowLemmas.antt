@@ -12,11 +12,11 @@ use Rattle.run_report.specs.declared.stops.Stop.{Stop}
 use Rattle.run_report.specs.declared.stops.Stop.TheVariants.{Line, Source as SourceStop, Sink as SinkStop, Memory as MemoryStop, Unreported}
 use Rattle.run_report.specs.declared.endings.Ending.TheVariants.{Whole}
 use Rattle.console_run.specs.Causes.{CameFrom}
-use Rattle.console_run.specs.Devices.{Devices}
+use Rattle.group_steps.specs.Devices.{Devices}
 use Rattle.run_report.specs.Reports.{Puts}
 use Rattle.console_run.specs.Private.Follows.{moment, IsOpened, TakesAndGoesOn, TakesAndStops, IsRunTo, IsRunUntil}
 use Rattle.console_run.specs.Private.Reports.{EntryStops}
-use Rattle.console_run.specs.Private.Runs.{Start, Moment, IsSoFar, IsStoppedAt, Ends, StopsAtEnd, SourceFails, given_of}
+use Rattle.console_run.specs.Private.Runs.{Drawing, Start, Moment, IsSoFar, IsStoppedAt, Ends, StopsAtEnd, SourceFails, given_of}
 use Rattle.console_run.proofs.SoFarLemmas.{first_so_far}
 use Rattle.console_run.proofs.StopLemmas.{stopped_at_opening, opening_reported, no_memory_after_opening}
 
@@ -34,15 +34,15 @@ nothing_came had = record { consumed = Consumes-nil had.octets; octets = refl; w
 
 -- A group that was opened, with the line and the count of a run before its script. Then its last entry was reported, or the report broke off.
 module _ {D G V R : Type 0} (on : Devices D G V) (draws : DrawGhosts R) (start : Start D G) (held : View D G R) (line : List ℕ) (count : ℕ) (was out : Shown)
-    (same : start.was ≡ was) (opened : IsOpened on draws start held) (none : line ≡ []) (zeroth : count ≡ 0) where
+    (peers : Drawing) (same : start.was ≡ was) (opened : IsOpened on draws peers start held) (none : line ≡ []) (zeroth : count ≡ 0) where
   -- a moment before the script
-  same_moment : moment held [] 0 out ≡ moment held line count out
-  same_moment = λ i. moment held (sym none i) (sym zeroth i) out
+  same_moment : moment held [] 0 out peers ≡ moment held line count out peers
+  same_moment = λ i. moment held (sym none i) (sym zeroth i) out peers
 
   -- the report of the opening broke off
   pub run_stopped_at_opening : (had : Shown) (stop : Stop)
       → ((front : List Entry) (entry : Entry) → held.entries ≡ front ++ entry ∷ [] → EntryStops stop was out entry)
-      → IsRunUntil on draws stop start had had (moment held line count out)
+      → IsRunUntil on draws stop start had had (moment held line count out peers)
   run_stopped_at_opening had stop stops =
       let first = opened.opens.first in
       let here : EntryStops stop start.was out first.entry = subst (λ was. EntryStops stop was out first.entry) (sym same) (stops [] first.entry first.alone) in
@@ -50,7 +50,7 @@ module _ {D G V R : Type 0} (on : Devices D G V) (draws : DrawGhosts R) (start :
         given = given_of [] false;
         came = nothing_came had;
         source = SourceFails-report stop start.was out first.entry had.faults here;
-        stopped = subst (IsStoppedAt on draws stop (given_of [] false) start) same_moment (stopped_at_opening on draws start held out opened stop here);
+        stopped = subst (IsStoppedAt on draws stop (given_of [] false) start) same_moment (stopped_at_opening on draws start held out peers opened stop here);
       }
 
   module _ (reported : (front : List Entry) (entry : Entry) → held.entries ≡ front ++ entry ∷ []
@@ -58,24 +58,24 @@ module _ {D G V R : Type 0} (on : Devices D G V) (draws : DrawGhosts R) (start :
     all_reported : Puts start.was out (entries_text held.entries)
     all_reported =
         let first = opened.opens.first in
-        opening_reported on draws start held out opened
+        opening_reported on draws start held out peers opened
         (subst (λ was. Puts was out (entry_text first.entry)) (sym same) (reported [] first.entry first.alone).0)
 
     -- there was no memory to go on
-    pub run_out_of_memory : (had : Shown) → IsRunUntil on draws MemoryStop start had had (moment held line count out)
+    pub run_out_of_memory : (had : Shown) → IsRunUntil on draws MemoryStop start had had (moment held line count out peers)
     run_out_of_memory had = record {
       given = given_of [] false;
       came = nothing_came had;
       source = refl;
       stopped = subst (IsStoppedAt on draws MemoryStop (given_of [] false) start) same_moment
-          (no_memory_after_opening on draws start held out opened all_reported);
+          (no_memory_after_opening on draws start held out peers opened all_reported);
     }
 
-    so_far : IsSoFar on draws start [] (moment held line count out)
-    so_far = subst (IsSoFar on draws start []) same_moment (first_so_far on draws start held out opened all_reported)
+    so_far : IsSoFar on draws start [] (moment held line count out peers)
+    so_far = subst (IsSoFar on draws start []) same_moment (first_so_far on draws start held out peers opened all_reported)
 
     -- the script was taken up to where the run stopped
-    pub run_stopped : (had left : Shown) (stop : Stop) (new : Moment D G R) → TakesAndStops on draws stop had left (moment held line count out) new
+    pub run_stopped : (had left : Shown) (stop : Stop) (new : Moment D G R) → TakesAndStops on draws stop had left (moment held line count out peers) new
         → IsRunUntil on draws stop start had left new
     run_stopped had left stop new h = record {
       given = given_of h.taken false;
@@ -84,7 +84,7 @@ module _ {D G V R : Type 0} (on : Devices D G V) (draws : DrawGhosts R) (start :
       stopped = h.stops start [] so_far;
     }
 
-    module _ (had left : Shown) (middle : Moment D G R) (taken : TakesAndGoesOn on draws had left (moment held line count out) middle) where
+    module _ (had left : Shown) (middle : Moment D G R) (taken : TakesAndGoesOn on draws had left (moment held line count out peers) middle) where
       all_so_far : IsSoFar on draws start taken.taken middle
       all_so_far = taken.goes start [] so_far
 

@@ -1,5 +1,5 @@
 -- However far a run came, its history is one of steps, from the opening on.
-use Rattle.std.proofs.Common.{◌≡◌, ◌∙◌, ℕ, true, false, List, [], ◌∷◌, ◌++◌, append_assoc, sym, refl, ap, subst, inl, inr}
+use Rattle.std.proofs.Common.{◌≡◌, ◌∙◌, ℕ, zero, true, false, List, [], ◌∷◌, ◌++◌, append_assoc, sym, refl, ap, subst, inl, inr}
 use Rattle.std.proofs.lemmas.Bool.{false≢true, or_from, or_parts}
 use Rattle.std.proofs.lemmas.List.{append-nil}
 use Rattle.std.proofs.lemmas.List.Folds.{list_any-append}
@@ -10,13 +10,14 @@ use Rattle.group_model.specs.declared.entries.Asked.{Asked}
 use Rattle.group_model.specs.declared.entries.Entry.{Entry}
 use Rattle.group_steps.specs.ChainLaws.{along_on}
 use Rattle.group_steps.specs.Runs.{Run}
-use Rattle.group_steps.specs.Steps.{EndsWithoutMemory}
+use Rattle.group_steps.specs.Steps.{AreRunSteps, EndsWithoutMemory, IsAnsweredAfter, IsHistory, IsRunStep}
 use Rattle.script_text.specs.declared.lines.Line.{Line}
 use Rattle.run_report.specs.declared.endings.Ending.{Ending}
 use Rattle.run_report.specs.declared.endings.Ending.TheVariants.{Whole, NoGroup, BadLine, Source, Sink, Memory, NotOpened}
-use Rattle.console_run.specs.Devices.{Devices, Keying, MakesHistory, Steps, StepsAlong}
+use Rattle.group_steps.specs.Devices.{Devices, Keying}
 use Rattle.console_run.specs.Lines.{GoesThrough, IsOpeningEntry, IsRunOf, LineBegins, LinesGive, Opens}
 use Rattle.console_run.specs.Causes.{CauseOf, Given, IsInParts, IsUpTo}
+use Rattle.console_run.proofs.ActLemmas.{asked_acts, opening_ready}
 
 -- ---- memory
 
@@ -40,24 +41,25 @@ module _ {D G V : Type 0} (on : Devices D G V) (by : Keying G) where
 
   -- what a line gives, after those that it gave so far
   through_steps : (line : Line) (before so_far : List Entry) (run : Run D) (more : List Entry) (after : Run D)
-      → GoesThrough on by line before so_far run more after → StepsAlong on by (before ++ so_far) run more after
+      → GoesThrough on by line before so_far run more after → AreRunSteps on by (before ++ so_far) run more after
   through_steps line before so_far run [] after h = h
-  through_steps line before so_far run (entry ∷ more) after h = (
-    h.2,
-    h.3,
-    subst (λ (before : List Entry). StepsAlong on by before h.2 more after) (sym (append_assoc before so_far (entry ∷ [])))
-        (through_steps line before (so_far ++ entry ∷ []) h.2 more after h.4),
-  )
+  through_steps line before so_far run (entry ∷ more) after h =
+      let acts = asked_acts by.members_block by.group run before so_far line entry.asked h.0 h.1 in (
+        h.3,
+        record { acted = h.0; acts = acts.0; ready = acts.1; answered = h.4 },
+        subst (λ (before : List Entry). AreRunSteps on by before h.3 more after) (sym (append_assoc before so_far (entry ∷ [])))
+            (through_steps line before (so_far ++ entry ∷ []) h.3 more after h.5),
+      )
 
   through_memory : (line : Line) (before so_far : List Entry) (run : Run D) (more : List Entry) (after : Run D)
       → GoesThrough on by line before so_far run more after → EndsWithoutMemory more
   through_memory line before so_far run [] after h = tt
-  through_memory line before so_far run (entry ∷ more) after h = (h.1, through_memory line before (so_far ++ entry ∷ []) h.2 more after h.4)
+  through_memory line before so_far run (entry ∷ more) after h = (h.2, through_memory line before (so_far ++ entry ∷ []) h.3 more after h.5)
 
   begun_steps : (line : Line) (before : List Entry) (run : Run D) (more : List Entry) (after : Run D)
-      → GoesThrough on by line before [] run more after → StepsAlong on by before run more after
+      → GoesThrough on by line before [] run more after → AreRunSteps on by before run more after
   begun_steps line before run more after h =
-      subst (λ (before : List Entry). StepsAlong on by before run more after) (append-nil before) (through_steps line before [] run more after h)
+      subst (λ (before : List Entry). AreRunSteps on by before run more after) (append-nil before) (through_steps line before [] run more after h)
 
   -- ---- histories
 
@@ -69,24 +71,24 @@ module _ {D G V : Type 0} (on : Devices D G V) (by : Keying G) where
     pub opening : opens entry.asked ≡ true
     pub is_open : is_open entry.answer ≡ true
     pub memory : any_ran_out entries ≡ false
-    pub steps : StepsAlong on by [] start entries after
+    pub steps : AreRunSteps on by [] start entries after
 
   -- more steps, and memory may run out in the last of them
   pub history_then : (start : Run D) (entries : List Entry) (middle : Run D) (more : List Entry) (after : Run D) → Begun start entries middle
-      → StepsAlong on by entries middle more after → EndsWithoutMemory more → MakesHistory on by start (entries ++ more) after
+      → AreRunSteps on by entries middle more after → EndsWithoutMemory more → IsHistory on by start (entries ++ more) after
   history_then start entries middle more after h steps memory = record {
     begins = subst (λ (entries : List Entry). BeginsWithOpening (entries ++ more)) (sym h.parts) (h.opening, inr h.is_open);
     memory = ends_after entries more h.memory memory;
-    steps = along_on (Steps on by) [] entries more start middle after h.steps steps;
+    steps = along_on (IsRunStep on by) [] entries more start middle after h.steps steps;
   }
 
-  pub history_of : (start : Run D) (entries : List Entry) (after : Run D) → Begun start entries after → MakesHistory on by start entries after
+  pub history_of : (start : Run D) (entries : List Entry) (after : Run D) → Begun start entries after → IsHistory on by start entries after
   history_of start entries after h =
-      subst (λ (entries : List Entry). MakesHistory on by start entries after) (append-nil entries)
+      subst (λ (entries : List Entry). IsHistory on by start entries after) (append-nil entries)
       (history_then start entries after [] after h refl tt)
 
   begun_then : (start : Run D) (entries : List Entry) (middle : Run D) (more : List Entry) (after : Run D) → Begun start entries middle
-      → StepsAlong on by entries middle more after → any_ran_out more ≡ false → Begun start (entries ++ more) after
+      → AreRunSteps on by entries middle more after → any_ran_out more ≡ false → Begun start (entries ++ more) after
   begun_then start entries middle more after h steps memory = record {
     entry = h.entry;
     others = h.others ++ more;
@@ -94,7 +96,7 @@ module _ {D G V : Type 0} (on : Devices D G V) (by : Keying G) where
     opening = h.opening;
     is_open = h.is_open;
     memory = any_after entries more h.memory memory;
-    steps = along_on (Steps on by) [] entries more start middle after h.steps steps;
+    steps = along_on (IsRunStep on by) [] entries more start middle after h.steps steps;
   }
 
   by_lines : (start : Run D) (before : List Entry) (run : Run D) (lines : List (List ℕ)) (entries : List Entry) (after : Run D) → Begun start before run
@@ -108,11 +110,16 @@ module _ {D G V : Type 0} (on : Devices D G V) (by : Keying G) where
 
   -- one entry, which answers an opening
   module _ (request : Asked) (opening : opens request ≡ true) (start : Run D) where
-    first_history : (entries : List Entry) (after : Run D) → IsOpeningEntry on by request start entries after → MakesHistory on by start entries after
-    first_history entries after h = subst (λ (entries : List Entry). MakesHistory on by start entries after) (sym h.alone) (record {
+    first_step : (entry : Entry) (after : Run D) → entry.asked ≡ request → IsAnsweredAfter on by start.members [] start entry after
+        → IsRunStep on by [] start entry after
+    first_step entry after asked h =
+        record { acted = start.members; acts = (zero, refl); ready = opening_ready entry.asked start.members (ap opens asked ∙ opening); answered = h }
+
+    first_history : (entries : List Entry) (after : Run D) → IsOpeningEntry on by request start entries after → IsHistory on by start entries after
+    first_history entries after h = subst (λ (entries : List Entry). IsHistory on by start entries after) (sym h.alone) (record {
       begins = (ap opens h.asked ∙ opening, inl refl);
       memory = (inl refl, tt);
-      steps = (after, h.step, refl);
+      steps = (after, first_step h.entry after h.asked h.step, refl);
     })
 
     opened : (entries : List Entry) (after : Run D) → Opens on by request start entries after → Begun start entries after
@@ -123,43 +130,44 @@ module _ {D G V : Type 0} (on : Devices D G V) (by : Keying G) where
       opening = ap opens h.first.asked ∙ opening;
       is_open = h.is_open;
       memory = subst (λ (entries : List Entry). any_ran_out entries ≡ false) (sym h.first.alone) (or_from _ _ (open_ran h.first.entry.answer h.is_open) refl);
-      steps = subst (λ (entries : List Entry). StepsAlong on by [] start entries after) (sym h.first.alone) (after, h.first.step, refl);
+      steps = subst (λ (entries : List Entry). AreRunSteps on by [] start entries after) (sym h.first.alone)
+          (after, first_step h.first.entry after h.first.asked h.first.step, refl);
     }
 
     pub run_begun : (lines : List (List ℕ)) (entries : List Entry) (after : Run D) → IsRunOf on by request start lines entries after → Begun start entries after
     run_begun lines entries after h = by_lines start h.opening h.opened lines entries after (opened h.opening h.opened h.opens) h.gives
 
-    none_history : (entries : List Entry) (after : Run D) → entries ≡ [] → after ≡ start → MakesHistory on by start entries after
-    none_history entries after none same = subst (λ (entries : List Entry). MakesHistory on by start entries after) (sym none)
+    none_history : (entries : List Entry) (after : Run D) → entries ≡ [] → after ≡ start → IsHistory on by start entries after
+    none_history entries after none same = subst (λ (entries : List Entry). IsHistory on by start entries after) (sym none)
         (record { begins = tt; memory = tt; steps = same })
 
     text_history : (given : List Entry) (middle : Run D) (text : List ℕ) (more : List Entry) (after : Run D) → Begun start given middle
-        → LineBegins on by text given middle more after → MakesHistory on by start (given ++ more) after
+        → LineBegins on by text given middle more after → IsHistory on by start (given ++ more) after
     text_history given middle text more after h (inl none) =
         history_then start given middle more after h
-        (subst (λ (more : List Entry). StepsAlong on by given middle more after) (sym none.0) none.1) (subst EndsWithoutMemory (sym none.0) tt)
+        (subst (λ (more : List Entry). AreRunSteps on by given middle more after) (sym none.0) none.1) (subst EndsWithoutMemory (sym none.0) tt)
     text_history given middle text more after h (inr line) =
         history_then start given middle more after h (begun_steps line.0 given middle more after line.2)
         (through_memory line.0 given [] middle more after line.2)
 
     module _ (given : Given) where
-      up_to : (done more : List Entry) (after : Run D) → IsUpTo on by given request start done more after → MakesHistory on by start (done ++ more) after
+      up_to : (done more : List Entry) (after : Run D) → IsUpTo on by given request start done more after → IsHistory on by start (done ++ more) after
       up_to done more after (inl h) =
-          subst (λ (done : List Entry). MakesHistory on by start (done ++ more) after) (sym h.nothing) (elim h.begins [
+          subst (λ (done : List Entry). IsHistory on by start (done ++ more) after) (sym h.nothing) (elim h.begins [
             | inl none ↦ none_history more after none.0 none.1
             | inr first ↦ first_history more after first
           ])
       up_to done more after (inr h) = text_history done h.middle h.text more after (run_begun _ done h.middle h.run) h.begins
 
-      pub parts_history : (entries : List Entry) (after : Run D) → IsInParts on by given request start entries after → MakesHistory on by start entries after
-      parts_history entries after h = subst (λ (entries : List Entry). MakesHistory on by start entries after) (sym h.parts) (up_to h.done h.more after h.up_to)
+      pub parts_history : (entries : List Entry) (after : Run D) → IsInParts on by given request start entries after → IsHistory on by start entries after
+      parts_history entries after h = subst (λ (entries : List Entry). IsHistory on by start entries after) (sym h.parts) (up_to h.done h.more after h.up_to)
 
       whole : (lines : List (List ℕ)) (entries : List Entry) (after : Run D) → IsRunOf on by request start lines entries after
-          → MakesHistory on by start entries after
+          → IsHistory on by start entries after
       whole lines entries after h = history_of start entries after (run_begun lines entries after h)
 
       pub cause_history : (due : Ending) (entries : List Entry) (after : Run D) → CauseOf on by given request start due entries after
-          → MakesHistory on by start entries after
+          → IsHistory on by start entries after
       cause_history Whole entries after h = whole _ entries after h.run
       cause_history NoGroup entries after h = absurd h
       cause_history (BadLine line) entries after h = whole _ entries after h.run

@@ -1,3 +1,4 @@
+mod ActLemmas
 mod AskLemmas
 mod CutLemmas
 mod DueLemmas
@@ -5,10 +6,11 @@ mod EndingLemmas
 mod FaultyLineLemmas
 mod FollowLemmas
 mod HistoryLemmas
+mod JoinLemmas
 mod LineLemmas
+mod MailLemmas
 mod OpenedLemmas
 mod PromiseLemmas
-mod ReplyLemmas
 mod ServeLemmas
 mod SoFarLemmas
 mod StopLemmas

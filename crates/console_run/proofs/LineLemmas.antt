@@ -4,7 +4,7 @@ use Rattle.std.proofs.lemmas.List.{length-append}
 use Rattle.group_model.specs.declared.entries.Entry.{Entry}
 use Rattle.group_model.specs.declared.entries.Asked.{Asked}
 use Rattle.group_steps.specs.Runs.{Run}
-use Rattle.console_run.specs.Devices.{Devices, Keying}
+use Rattle.group_steps.specs.Devices.{Devices, Keying}
 use Rattle.console_run.specs.Lines.{IsRunOf, LineGives, LinesGive}
 
 module _ {D G V : Type 0} (on : Devices D G V) (by : Keying G) where

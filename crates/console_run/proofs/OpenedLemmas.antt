@@ -17,13 +17,15 @@ use Rattle.group_run.specs.Openings.{FailsToOpen, Opens as OpensAs}
 use Rattle.group_run.specs.Views.{View}
 use Rattle.server_steps.specs.Hosts.{Host}
 use Rattle.group_steps.specs.Runs.{Run}
-use Rattle.group_steps.specs.Steps.{IsAnswered, IsOpening, IsStepBy}
+use Rattle.group_steps.specs.Steps.{IsAnswered, IsAnsweredAfter, IsOpening, IsStepBy}
 use Rattle.run_report.specs.declared.endings.Ending.{Ending}
 use Rattle.console_run.specs.Causes.{CannotOpen}
-use Rattle.console_run.specs.Devices.{Devices, Keying, Steps}
+use Rattle.group_steps.specs.Devices.{Devices, Keying}
 use Rattle.console_run.specs.Promises.{request_of}
 use Rattle.console_run.specs.Private.Follows.{IsOpened, RunsScript}
 use Rattle.console_run.specs.Private.Openings.{step_of}
+use Rattle.console_run.specs.Private.Runs.{Drawing}
+use Rattle.console_run.specs.Names.{console_name}
 use Rattle.run_report.specs.Ends.{UnopenedEnds}
 use Rattle.console_run.proofs.EndingLemmas.{ran_out_at_once, refused}
 
@@ -41,24 +43,25 @@ fails_for P (Err error) name limit h = h name limit
 module _ {D G V : Type 0} (on : Devices D G V) (by : Keying G) where
   -- the step of an opening, as a request
   pub opening_step : (opening : Opening) (start : Run D) (entry : Entry) (after : Run D) → entry.asked ≡ request_of opening
-      → IsStepBy on.disks (IsOpening [] (step_of on.disks on.signers by opening)) start entry after → Steps on by [] start entry after
+      → IsStepBy on.disks (IsOpening [] (step_of on.disks on.signers by.signer by.block opening)) start entry after
+      → IsAnsweredAfter on by start.members [] start entry after
   opening_step opening start entry after asked h = record {
     answered = subst
-        (λ asked. IsAnswered on.disks on.signers by.signer on.verifiers on.verifier by.block [] asked start entry.answer entry.outside after) (sym asked)
+        (λ asked. IsAnswered on by [] asked start entry.answer entry.outside after) (sym asked)
         (answered opening start entry.answer entry.outside after h.answered);
     keeps = h.keeps;
     counts = h.counts;
   }
     where
       answered : (opening : Opening) (start : Run D) (answer : Answer) (outside : Outside) (after : Run D)
-          → IsOpening [] (step_of on.disks on.signers by opening) start answer outside after
-          → IsAnswered on.disks on.signers by.signer on.verifiers on.verifier by.block [] (request_of opening) start answer outside after
+          → IsOpening [] (step_of on.disks on.signers by.signer by.block opening) start answer outside after
+          → IsAnswered on by [] (request_of opening) start answer outside after
       answered (New depth) start answer outside after h = h
       answered Open start answer outside after h = h
 
   -- why an opening is refused
   why_refused : (opening : Opening) (start : Host D) (answer : Answer) (outside : Outside) (after : Host D) (why : Refusal) → answer ≡ Refused why
-      → step_of on.disks on.signers by opening start answer outside after → (why ≡ NoMemory) ⊎ CannotOpen why
+      → step_of on.disks on.signers by.signer by.block opening start answer outside after → (why ≡ NoMemory) ⊎ CannotOpen why
   why_refused (New depth) start answer outside after why refused h = elim h.ends [
     | inl makes ↦ cc (makes.answers, refused)
     | inr fails ↦ elim fails.causes [
@@ -79,7 +82,7 @@ module _ {D G V : Type 0} (on : Devices D G V) (by : Keying G) where
 
   -- a run that opened no group
   pub unopened_runs : (opening : Opening) (start : Run D) (had was now : Shown) (ending : Ending) (history entries : List Entry) (disk left : D)
-      → FailsToOpen on.disks (step_of on.disks on.signers by opening) (request_of opening) start history disk → entries ≡ history → left ≡ disk
+      → FailsToOpen on.disks (step_of on.disks on.signers by.signer by.block opening) (request_of opening) start history disk → entries ≡ history → left ≡ disk
       → UnopenedEnds history ending was now → RunsScript on by (request_of opening) start had had was now ending entries left
   unopened_runs opening start had was now ending history entries disk left (inl h) same kept ends =
       refused on by (request_of opening) start had was now ending entries h.after left (h.left ∙ sym kept)
@@ -91,16 +94,20 @@ module _ {D G V : Type 0} (on : Devices D G V) (by : Keying G) where
       (subst (λ history. UnopenedEnds history ending was now) h.nothing ends) (same ∙ h.nothing) refl
 
 -- a group that was opened as a command asks
-module _ {D G V R : Type 0} (on : Devices D G V) (draws : DrawGhosts R) (by : Keying G) where
+module _ {D G V R : Type 0} (on : Devices D G V) (draws : DrawGhosts R) (peers : Drawing) (by : Keying G) where
   pub is_opened : (opening : Opening) (start : Run D) (was : Shown) (held : View D G R)
-      → OpensAs on.disks draws (step_of on.disks on.signers by opening) (request_of opening) start held → held.core.signer ≡ by.signer
-      → ((k : ℕ) → draws.block_at held.core.draws k ≡ by.block k)
-      → IsOpened on draws (record { request = request_of opening; run = start; by = by; was = was }) held
-  is_opened opening start was held h signer blocks = record {
+      → OpensAs on.disks draws (step_of on.disks on.signers by.signer by.block opening) (request_of opening) start held → held.server.core.signer ≡ by.signer
+      → ((k : ℕ) → draws.block_at held.server.core.draws k ≡ by.block k) → ((k : ℕ) → peers.block k ≡ by.members_block k) → by.group ≡ console_name
+      → peers.place ≡ held.members.place → held.members.mail ≡ [] → held.server.rules ≡ []
+      → IsOpened on draws peers (record { request = request_of opening; run = start; by = by; was = was }) held
+  is_opened opening start was held h signer blocks members_blocks group place rest no_rules = record {
     opened = h.after;
     opens = record {
       first = record { entry = h.entry; alone = h.alone; asked = h.asked; step = opening_step on by opening start h.entry h.after h.asked h.stepped };
       is_open = ap is_open h.is_open;
     };
-    stands = record { reflects = h.reflects; signer = signer; blocks = blocks };
+    place = place;
+    rest = rest;
+    no_rules = no_rules;
+    stands = record { reflects = h.reflects; signer = signer; blocks = blocks; members_blocks = members_blocks; group = group };
   }

@@ -23,10 +23,10 @@ use Rattle.server_steps.specs.Hosts.{Host}
 use Rattle.server_steps.specs.Openings.{IsBeginning, IsCreation}
 use Rattle.server_steps.specs.Outsides.{beside_refusal}
 use Rattle.group_steps.specs.Runs.{Run}
-use Rattle.group_steps.specs.Steps.{IsAnswered}
+use Rattle.group_steps.specs.Steps.{IsAnswered, IsHistory}
 use Rattle.run_report.specs.declared.endings.Ending.{Ending}
 use Rattle.run_report.specs.declared.endings.Ending.TheVariants.{Whole, NoGroup, BadLine, Source, Sink, Memory, NotOpened}
-use Rattle.console_run.specs.Devices.{Devices, Keying, MakesHistory}
+use Rattle.group_steps.specs.Devices.{Devices, Keying}
 use Rattle.console_run.specs.Causes.{CameFrom, CannotOpen, CauseOf, EndsUnopened, SourceAt}
 use Rattle.run_report.specs.Reports.{BreaksOff}
 use Rattle.console_run.specs.Promises.{CanOpen, CanRun, IsBroken, IsEnded, LeavesMomentsAfterOpening, Streams, request_of, start_of}
@@ -48,7 +48,7 @@ module _ {D G V : Type 0} (on : Devices D G V) (by : Keying G) where
   -- however a run ends, its history is one of steps
   pub ran_history : (request : Asked) (start : Run D) → opens request ≡ true → (streams : Streams) (ending : Ending) (entries : List Entry) (after : Run D)
       → IsEnded on by streams request start ending entries after ⊎ IsBroken on by streams request start ending entries after
-      → MakesHistory on by start entries after
+      → IsHistory on by start entries after
   ran_history request start opening streams ending entries after (inl h) = cause_history on by request opening start streams.given h.due entries after h.cause
   ran_history request start opening streams ending entries after (inr h) = parts_history on by request opening start streams.given entries after h.history
 
@@ -87,7 +87,7 @@ module _ {D G V : Type 0} (on : Devices D G V) (by : Keying G) where
   -- it was refused for a fault alone
   fails : IsOneOrOther → (opening : Opening) (start : Run D) (entry : Entry) (after : Run D) (why : Refusal) → entry.answer ≡ Refused why → CannotOpen why
       → CanOpen on by opening start.host.disk
-      → IsAnswered on.disks on.signers by.signer on.verifiers on.verifier by.block [] (request_of opening) start entry.answer entry.outside after
+      → IsAnswered on by [] (request_of opening) start entry.answer entry.outside after
       → Counts on.disks entry.outside.disk_failed start.host.disk after.host.disk
       → Rose (on.disks.faults start.host.disk) (on.disks.faults after.host.disk)
   fails other (New depth) start entry after why refused cannot can h counts =
@@ -97,7 +97,7 @@ module _ {D G V : Type 0} (on : Devices D G V) (by : Keying G) where
 
   -- ---- completeness
 
-  module _ (other : IsOneOrOther) (streams : Streams) (command : Command) (place : ℕ) (old new : D) (entries : List Entry) (after : Run D)
+  module _ (other : IsOneOrOther) (streams : Streams) (command : Command) (place members_place : ℕ) (old new : D) (entries : List Entry) (after : Run D)
       (left : after.host.disk ≡ new) (came : CameFrom streams.source_before.octets streams.source_after.octets streams.given)
       (can : CanRun on by streams command.opening old new) where
     breaks : (ending : Ending) (middle : Shown) (text : List ℕ) → middle.faults ≡ streams.sink_before.faults → BreaksOff ending middle streams.sink_after text
@@ -110,30 +110,31 @@ module _ {D G V : Type 0} (on : Devices D G V) (by : Keying G) where
     breaks Memory middle text same h = inr refl
     breaks NotOpened middle text same h = absurd h
 
-    not_opened : EndsUnopened on by streams.given (request_of command.opening) (start_of command old place) entries after → ⊥
+    not_opened : EndsUnopened on by streams.given (request_of command.opening) (start_of command old place members_place) entries after → ⊥
     not_opened h =
         can.disk (subst (λ disk. Rose (on.disks.faults old) (on.disks.faults disk)) left
-        (fails other command.opening (start_of command old place) h.first.entry after h.why
+        (fails other command.opening (start_of command old place members_place) h.first.entry after h.why
         h.refused h.cause can.group
-        (subst (λ asked. IsAnswered on.disks on.signers by.signer on.verifiers on.verifier by.block [] asked (start_of command old place) h.first.entry.answer
+        (subst (λ asked. IsAnswered on by [] asked (start_of command old place members_place) h.first.entry.answer
         h.first.entry.outside after) h.first.asked h.first.step.answered)
         h.first.step.counts))
 
-    due_whole : (due : Ending) → CauseOf on by streams.given (request_of command.opening) (start_of command old place) due entries after
+    due_whole : (due : Ending) → CauseOf on by streams.given (request_of command.opening) (start_of command old place members_place) due entries after
         → SourceAt due streams.source_before.faults streams.source_after.faults → (due ≡ Whole) ⊎ (due ≡ Memory)
     due_whole Whole cause faults = inl refl
     due_whole NoGroup cause faults = absurd cause
     due_whole (BadLine line) cause faults =
         absurd (no_faulty_line on by streams.given (request_of command.opening)
-        (start_of command old place) line entries after streams.source_before.octets streams.source_after.octets
+        (start_of command old place members_place) line entries after streams.source_before.octets streams.source_after.octets
         can.script came cause)
     due_whole Source cause faults = absurd (can.source faults)
     due_whole Sink cause faults = absurd cause
     due_whole Memory cause faults = inr refl
     due_whole NotOpened cause faults = absurd (not_opened cause)
 
-    pub ran_whole : (ending : Ending) → IsEnded on by streams (request_of command.opening) (start_of command old place) ending entries after
-        ⊎ IsBroken on by streams (request_of command.opening) (start_of command old place) ending entries after → (ending ≡ Whole) ⊎ (ending ≡ Memory)
+    pub ran_whole : (ending : Ending) → IsEnded on by streams (request_of command.opening) (start_of command old place members_place) ending entries after
+        ⊎ IsBroken on by streams (request_of command.opening) (start_of command old place members_place) ending entries after → (ending ≡ Whole)
+        ⊎ (ending ≡ Memory)
     ran_whole ending (inl h) = elim h.last [
       | inl put ↦ subst (λ (ending : Ending). (ending ≡ Whole) ⊎ (ending ≡ Memory)) put.0 (due_whole h.due h.cause h.source)
       | inr broke ↦ breaks ending h.middle _ h.report.stands broke
@@ -142,9 +143,9 @@ module _ {D G V : Type 0} (on : Devices D G V) (by : Keying G) where
 
   -- ---- crashes
 
-  module _ (journals : OpenedHaveJournals on.disks on.signers by.signer on.verifiers on.verifier by.block)
-      (crashes : CrashesLeaveMoments on.disks on.signers by.signer on.verifiers on.verifier by.block) where
-    pub leaves_moments : (start : Run D) (entries : List Entry) (after : Run D) → MakesHistory on by start entries after
+  module _ (journals : OpenedHaveJournals on by)
+      (crashes : CrashesLeaveMoments on by) where
+    pub leaves_moments : (start : Run D) (entries : List Entry) (after : Run D) → IsHistory on by start entries after
         → (entries ≡ []) ⊎ LeavesMomentsAfterOpening on by start entries after
     leaves_moments start [] after h = inl refl
     leaves_moments start (first ∷ later) after h = inr (record {

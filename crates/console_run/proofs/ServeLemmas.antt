@@ -20,11 +20,12 @@ use Rattle.server_steps.specs.Batches.{IsBatching}
 use Rattle.group_steps.specs.ChainLaws.{along_on}
 use Rattle.group_steps.specs.Questions.{IsQuestion}
 use Rattle.group_steps.specs.Laws.{IsSure, LeavesValidList}
-use Rattle.group_steps.specs.Moments.{MomentsEndHistories}
-use Rattle.group_steps.specs.Runs.{Run, no_run}
-use Rattle.group_steps.specs.TrueSteps.{SureStepsAreTrue, TrueStepsGrow, batches_in}
+use Rattle.group_steps.specs.Moments.{IsMoment, IsStretch, IsTrueMoment, MomentsEndHistories}
+use Rattle.group_steps.specs.Runs.{Outset, Run, no_run, with_members}
+use Rattle.group_steps.specs.TrueSteps.{AreTrueSteps, SureStepsAreTrue, TrueStepsGrow, batches_in}
 use Rattle.sym_closure.specs.Serving.{EarlierRunsServeNobodyElse, HistoriesServeMembers, SaysWhoDerives, ServesMembers}
-use Rattle.console_run.specs.Devices.{Devices, HasMoment, HasStretch, HasTrueMoment, Keying, MakesHistory, Steps, TrueStepsAlong}
+use Rattle.group_steps.specs.Devices.{Devices, Keying}
+use Rattle.group_steps.specs.Steps.{IsHistory, IsRunStep}
 use Rattle.console_run.specs.Serving.{ServesAlong}
 
 -- what is answered to a question
@@ -48,28 +49,28 @@ put_out (Batched output) other = output
 put_out answer other = other
 
 module _ {D G V : Type 0} (on : Devices D G V) (by : Keying G)
-    (ends : MomentsEndHistories on.disks on.signers by.signer on.verifiers on.verifier by.block)
-    (lists : LeavesValidList on.disks on.signers by.signer on.verifiers on.verifier by.block)
-    (disk : D) (name : Name) (limit place : ℕ) (entries : List Entry) (after : Run D)
-    (history : MakesHistory on by (no_run disk name limit place) entries after) where
+    (ends : MomentsEndHistories on by)
+    (lists : LeavesValidList on by)
+    (outset : Outset D) (entries : List Entry) (after : Run D)
+    (history : IsHistory on by (no_run outset) entries after) where
   abbrev Moment : List Entry → Run D → Type 0
-  Moment front mid = HasMoment on by (no_run disk name limit place) entries after front mid
+  Moment front mid = IsMoment on by (no_run outset) entries after front mid
 
   abbrev Stretch : List Entry → Entry → Run D → List Entry → Run D → Type 0
-  Stretch before opening next later mid = HasStretch on by (no_run disk name limit place) entries after before opening next later mid
+  Stretch before opening next later mid = IsStretch on by (no_run outset) entries after before opening next later mid
 
   -- ---- moments
 
-  pub history_at : (front : List Entry) (mid : Run D) → Moment front mid → MakesHistory on by (no_run disk name limit place) front mid
-  history_at front mid moment = ends (no_run disk name limit place) entries after front mid history moment
+  pub history_at : (front : List Entry) (mid : Run D) → Moment front mid → IsHistory on by (no_run outset) front mid
+  history_at front mid moment = ends (no_run outset) entries after front mid history moment
 
   pub valid_at : (front : List Entry) (mid : Run D) → Moment front mid → IsValid mid.host.server.depth (batches_in mid)
-  valid_at front mid moment = lists disk name limit place front mid (history_at front mid moment)
+  valid_at front mid moment = lists outset front mid (history_at front mid moment)
 
-  pub true_at : SureStepsAreTrue on.disks on.signers by.signer on.verifiers on.verifier by.block → (front : List Entry) (mid : Run D) → Moment front mid
-      → IsSure on.disks disk front → HasTrueMoment on by (no_run disk name limit place) entries after front mid
+  pub true_at : SureStepsAreTrue on by → (front : List Entry) (mid : Run D) → Moment front mid
+      → IsSure on.disks outset.disk front → IsTrueMoment on by (no_run outset) entries after front mid
   true_at sure front mid moment is =
-      record { moment = moment; reads = sure [] (no_run disk name limit place) front mid moment.so_far is }
+      record { moment = moment; reads = sure [] (no_run outset) front mid moment.so_far is }
 
   few_stored : WrapsAreFew → (front : List Entry) (mid : Run D) (answer : Answer) (output : Output) (outside : Outside) (next : Run D) → Moment front mid
       → answer ≡ Batched output → IsBatching on.disks on.signers by.signer by.block mid.host answer outside next.host
@@ -91,9 +92,9 @@ module _ {D G V : Type 0} (on : Devices D G V) (by : Keying G)
   few_stored few front mid answer output outside next moment says (inr (inr (inr memory))) = absurd (cc (memory.answers, says))
 
   pub few_at : WrapsAreFew → (front : List Entry) (mid : Run D) (output : Output) (outside : Outside) (next : Run D) → Moment front mid
-      → Steps on by front mid (record { asked = Batch; outside = outside; answer = Batched output }) next
+      → IsRunStep on by front mid (record { asked = Batch; outside = outside; answer = Batched output }) next
       → length output.wraps ≤ most_wraps mid.host.server.depth (length mid.host.server.queue)
-  few_at few front mid output outside next moment step = few_stored few front mid (Batched output) output outside next moment refl step.answered.served
+  few_at few front mid output outside next moment step = few_stored few front mid (Batched output) output outside next moment refl step.answered.answered.served
 
   -- ---- stretches
 
@@ -102,15 +103,15 @@ module _ {D G V : Type 0} (on : Devices D G V) (by : Keying G)
   stretch_moment before opening next later mid stretch = record {
     later = stretch.rest;
     is = stretch.parts;
-    so_far = along_on (Steps on by) [] before (opening ∷ later) (no_run disk name limit place) stretch.run mid stretch.so_far
+    so_far = along_on (IsRunStep on by) [] before (opening ∷ later) (no_run outset) stretch.run mid stretch.so_far
         (next, stretch.step, stretch.goes_on);
     goes_on = stretch.ends;
   }
 
-  module _ (grow : TrueStepsGrow on.disks on.signers by.signer on.verifiers on.verifier by.block) (serve : HistoriesServeMembers) where
+  module _ (grow : TrueStepsGrow on by) (serve : HistoriesServeMembers) where
     leaves : (before : List Entry) (opening : Entry) (next : Run D) (later : List Entry) (mid : Run D) → Stretch before opening next later mid
-        → TrueStepsAlong on by (before ++ opening ∷ []) next later mid → Leaves mid.host.server.depth (opening ∷ later) (batches_in mid)
-    leaves before opening next later mid stretch reads = grow disk name limit place opening later mid (record {
+        → AreTrueSteps on by (before ++ opening ∷ []) next later mid → Leaves mid.host.server.depth (opening ∷ later) (batches_in mid)
+    leaves before opening next later mid stretch reads = grow outset opening later mid (record {
       before = before;
       begins = (history_at (before ++ opening ∷ later) mid (stretch_moment before opening next later mid stretch)).begins;
       run = stretch.run;
@@ -122,19 +123,19 @@ module _ {D G V : Type 0} (on : Devices D G V) (by : Keying G)
     })
 
     serves_in : (before : List Entry) (opening : Entry) (next : Run D) (later : List Entry) (mid : Run D) → Stretch before opening next later mid
-        → TrueStepsAlong on by (before ++ opening ∷ []) next later mid → ServesMembers mid.host.server.depth (batches_in mid) (opening ∷ later)
+        → AreTrueSteps on by (before ++ opening ∷ []) next later mid → ServesMembers mid.host.server.depth (batches_in mid) (opening ∷ later)
     serves_in before opening next later mid stretch reads =
         serve mid.host.server.depth (batches_in mid) (opening ∷ later)
         (valid_at (before ++ opening ∷ later) mid (stretch_moment before opening next later mid stretch)) (leaves before opening next later mid stretch reads)
 
-    pub serves_along : SureStepsAreTrue on.disks on.signers by.signer on.verifiers on.verifier by.block → EarlierRunsServeNobodyElse
-        → ServesAlong on by (no_run disk name limit place) entries after
+    pub serves_along : SureStepsAreTrue on by → EarlierRunsServeNobodyElse
+        → ServesAlong on by (no_run outset) entries after
     serves_along sure earlier = record {
       sure = λ before opening next later mid stretch is. sure (before ++ opening ∷ []) next later mid stretch.goes_on is;
       serves = serves_in;
       earlier = λ before opening next later mid stretch reads.
           earlier mid.host.server.depth (batches_in mid) (opening ∷ later) (serves_in before opening next later mid stretch reads).world;
       asked = λ opening next later mid stretch reads epoch names answer outside last step.
-          says_who mid.host.server.depth (batches_in mid) (opening ∷ later) epoch names mid answer outside last
-          (serves_in [] opening next later mid stretch reads) step.answered;
+          says_who mid.host.server.depth (batches_in mid) (opening ∷ later) epoch names (with_members mid step.acted) answer outside last
+          (serves_in [] opening next later mid stretch reads) step.answered.answered;
     }

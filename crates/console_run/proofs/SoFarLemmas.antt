@@ -9,14 +9,14 @@ use Rattle.gd_edges.specs.Shown.{Shown}
 use Rattle.gd_edges.specs.declared.draws.Draws.{Ghosts as DrawGhosts}
 use Rattle.group_run.specs.Views.{View}
 use Rattle.script_text.specs.Report.{entries_text}
-use Rattle.console_run.specs.Devices.{Devices}
+use Rattle.group_steps.specs.Devices.{Devices}
 use Rattle.console_run.specs.Scripts.{are_octets, ends_line, unfinished, script_lines}
 use Rattle.console_run.specs.Lines.{IsRunOf}
 use Rattle.console_run.specs.Causes.{IsCut}
 use Rattle.run_report.specs.Reports.{Puts}
 use Rattle.console_run.specs.Private.Cuts.{Cut, cut_of}
 use Rattle.console_run.specs.Private.Follows.{moment, IsOpened}
-use Rattle.console_run.specs.Private.Runs.{Runs, by_text, Start, Moment, IsSoFar, GoesOn}
+use Rattle.console_run.specs.Private.Runs.{Drawing, Runs, by_text, Start, Moment, IsSoFar, GoesOn}
 use Rattle.run_report.proofs.KnownLemmas.{Puts-entries}
 use Rattle.console_run.proofs.CutLemmas.{cut_of-more, lines_cut, unfinished-some}
 use Rattle.console_run.proofs.LineLemmas.{IsRunOf-more}
@@ -33,10 +33,10 @@ module _ {D G V R : Type 0} (on : Devices D G V) (draws : DrawGhosts R) where
   GoesOn-then a b first second third h k start before so =
       subst (λ octets. IsSoFar on draws start octets third) (append_assoc before a b) (k start (before ++ a) (h start before so))
 
-  module _ (held : View D G R) (line : List ℕ) (count : ℕ) (out : Shown) where
+  module _ (held : View D G R) (line : List ℕ) (count : ℕ) (out : Shown) (peers : Drawing) where
     -- an octet that ends no line is kept
     pub GoesOn-octet : (octet : ℕ) → octet < 256 → (octet ≡ 10 → ⊥)
-        → GoesOn on draws (octet ∷ []) (moment held line count out) (moment held (line ++ octet ∷ []) count out)
+        → GoesOn on draws (octet ∷ []) (moment held line count out peers) (moment held (line ++ octet ∷ []) count out peers)
     GoesOn-octet octet low other start before h =
         let so_far = cut_of before in
         let ended : Cut = record { lines = so_far.lines ++ so_far.rest ∷ []; rest = [] } in
@@ -58,9 +58,10 @@ module _ {D G V R : Type 0} (on : Devices D G V) (draws : DrawGhosts R) where
         }
 
     -- octet 10 ends the line, which is run
-    pub GoesOn-line : (new : View D G R) (now : Shown) → count < 16384 → Runs on.disks draws (by_text on line) held new out now
-        → GoesOn on draws (10 ∷ []) (moment held line count out) (moment new [] (count + 1) now)
-    GoesOn-line new now room run start before h =
+    pub GoesOn-line : (new : View D G R) (now : Shown) (peers_now : Drawing) → ((k : ℕ) → peers_now.block k ≡ peers.block k) → count < 16384
+        → Runs on.disks draws peers (by_text on line) held new out now
+        → GoesOn on draws (10 ∷ []) (moment held line count out peers) (moment new [] (count + 1) now peers_now)
+    GoesOn-line new now peers_now blocks room run start before h =
         let lines = (cut_of before).lines in
         let next = run.each start.by h.now h.stands in
         let cut : cut_of (before ++ 10 ∷ []) ≡ record { lines = lines ++ line ∷ []; rest = [] } =
@@ -73,7 +74,13 @@ module _ {D G V R : Type 0} (on : Devices D G V) (draws : DrawGhosts R) where
           run = subst (λ (c : Cut). IsRunOf on start.by start.request start.run c.lines new.entries next.0) (sym cut)
               (subst (λ entries. IsRunOf on start.by start.request start.run (lines ++ line ∷ []) entries next.0) (sym run.grown)
               (IsRunOf-more on start.by start.request start.run lines line held.entries h.now run.more next.0 h.run (omega (arith, room, h.counted)) next.1));
-          stands = next.2;
+          stands = record {
+            reflects = next.2.reflects;
+            signer = next.2.signer;
+            blocks = next.2.blocks;
+            members_blocks = λ k. blocks k ∙ next.2.members_blocks k;
+            group = next.2.group;
+          };
           puts = subst (λ entries. Puts start.was now (entries_text entries)) (sym run.grown)
               (Puts-entries start.was out now held.entries run.more h.puts run.puts);
           front = before ++ 10 ∷ [];
@@ -84,24 +91,25 @@ module _ {D G V R : Type 0} (on : Devices D G V) (draws : DrawGhosts R) where
         }
 
   -- the same, as the code has it
-  pub GoesOn-ended : (held new : View D G R) (line text next : List ℕ) (count octet : ℕ) (out now : Shown) → octet ≡ 10 → text ≡ line → next ≡ []
-      → count < 16384
-      → Runs on.disks draws (by_text on text) held new out now → GoesOn on draws (octet ∷ []) (moment held line count out) (moment new next (count + 1) now)
-  GoesOn-ended held new line text next count octet out now ends same cleared room run =
-      subst (λ o. GoesOn on draws (o ∷ []) (moment held line count out) (moment new next (count + 1) now)) (sym ends)
-      (subst (λ rest. GoesOn on draws (10 ∷ []) (moment held line count out) (moment new rest (count + 1) now)) (sym cleared)
-      (GoesOn-line held line count out new now room (subst (λ t. Runs on.disks draws (by_text on t) held new out now) same run)))
+  pub GoesOn-ended : (held new : View D G R) (line text next : List ℕ) (count octet : ℕ) (out now : Shown) (peers peers_now : Drawing)
+      → ((k : ℕ) → peers_now.block k ≡ peers.block k) → octet ≡ 10 → text ≡ line → next ≡ [] → count < 16384
+      → Runs on.disks draws peers (by_text on text) held new out now
+      → GoesOn on draws (octet ∷ []) (moment held line count out peers) (moment new next (count + 1) now peers_now)
+  GoesOn-ended held new line text next count octet out now peers peers_now blocks ends same cleared room run =
+      subst (λ o. GoesOn on draws (o ∷ []) (moment held line count out peers) (moment new next (count + 1) now peers_now)) (sym ends)
+      (subst (λ rest. GoesOn on draws (10 ∷ []) (moment held line count out peers) (moment new rest (count + 1) now peers_now)) (sym cleared)
+      (GoesOn-line held line count out peers new now peers_now blocks room (subst (λ t. Runs on.disks draws peers (by_text on t) held new out now) same run)))
 
-  pub GoesOn-kept : (held : View D G R) (line next : List ℕ) (count octet : ℕ) (out : Shown) → octet < 256 → (octet ≡ 10 → ⊥) → next ≡ line ++ octet ∷ []
-      → GoesOn on draws (octet ∷ []) (moment held line count out) (moment held next count out)
-  GoesOn-kept held line next count octet out low other kept =
-      subst (λ rest. GoesOn on draws (octet ∷ []) (moment held line count out) (moment held rest count out)) (sym kept)
-      (GoesOn-octet held line count out octet low other)
+  pub GoesOn-kept : (held : View D G R) (line next : List ℕ) (count octet : ℕ) (out : Shown) (peers : Drawing) → octet < 256 → (octet ≡ 10 → ⊥)
+      → next ≡ line ++ octet ∷ [] → GoesOn on draws (octet ∷ []) (moment held line count out peers) (moment held next count out peers)
+  GoesOn-kept held line next count octet out peers low other kept =
+      subst (λ rest. GoesOn on draws (octet ∷ []) (moment held line count out peers) (moment held rest count out peers)) (sym kept)
+      (GoesOn-octet held line count out peers octet low other)
 
   -- a group that was just opened has run no line
-  pub first_so_far : (start : Start D G) (held : View D G R) (out : Shown) → IsOpened on draws start held → Puts start.was out (entries_text held.entries)
-      → IsSoFar on draws start [] (moment held [] 0 out)
-  first_so_far start held out opened puts = record {
+  pub first_so_far : (start : Start D G) (held : View D G R) (out : Shown) (peers : Drawing) → IsOpened on draws peers start held
+      → Puts start.was out (entries_text held.entries) → IsSoFar on draws start [] (moment held [] 0 out peers)
+  first_so_far start held out peers opened puts = record {
     small = refl;
     rest = refl;
     counted = refl;
@@ -148,7 +156,7 @@ module _ {D G V R : Type 0} (on : Devices D G V) (draws : DrawGhosts R) where
 
     -- and one that ends in the middle of a line, which was run
     pub whole_with_line : (new : View D G R) (out : Shown) → 0 < length now.line → now.count < 16384
-        → (run : Runs on.disks draws (by_text on now.line) now.held new now.out out)
+        → (run : Runs on.disks draws now.peers (by_text on now.line) now.held new now.out out)
         → IsRunOf on start.by start.request start.run (script_lines before) new.entries (run.each start.by so.now so.stands).0
     whole_with_line new out some room run =
         let lines = (cut_of before).lines in

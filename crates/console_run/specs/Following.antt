@@ -1,22 +1,24 @@
 -- How the stores of members follow what they are told and given (RFC 6407 section 4), at each moment of the console's history.
-use Rattle.std.specs.Prelude.{◌≡◌, ℕ, ◌+◌, ◌<◌, ◌≤◌, true, false, List, length, Some, IsSome}
+use Rattle.std.specs.Prelude.{◌≡◌, ℕ, ◌+◌, ◌<◌, ◌≤◌, true, false, List, Some, IsSome}
 use Rattle.group_terms.specs.Names.{Name}
 use Rattle.group_terms.specs.declared.pushes.PushRefusal.{PushRefusal}
 use Rattle.group_model.specs.Places.{is_member}
 use Rattle.group_model.specs.Stayed.{stayed_at}
 use Rattle.group_model.specs.declared.entries.Answer.{Answer}
-use Rattle.group_model.specs.declared.entries.Answer.TheVariants.{Kept, PushRefused, TookRoot, TookTraffic}
+use Rattle.group_model.specs.declared.entries.Answer.TheVariants.{PushRefused, TookRoot, TookTraffic}
 use Rattle.group_model.specs.declared.entries.Asked.TheVariants.{Deliver, Keep}
 use Rattle.group_model.specs.declared.entries.Entry.{Entry}
 use Rattle.group_model.specs.declared.entries.Outside.{Outside}
 use Rattle.group_peers.specs.Peers.{store_of}
+use Rattle.group_steps.specs.Devices.{Devices, Keying}
+use Rattle.group_steps.specs.Moments.{IsMoment, IsTrueMoment}
 use Rattle.group_steps.specs.Runs.{Run}
 use Rattle.server_steps.specs.Sent.{last_push}
+use Rattle.group_steps.specs.Steps.{IsRunStep}
 use Rattle.group_steps.specs.TrueSteps.{batches_in}
 use Rattle.member_store.specs.Stores.{Store, root_epoch}
-use Rattle.store_steps.specs.Follow.{HasKeysThen, HasThen, IsOurs, IsTrafficPush, IsWhy, holders_in, number_at}
+use Rattle.store_steps.specs.Follow.{HasKeysThen, HasThen, IsOurs, IsTrafficPush, IsWhy, TakesOrLoses, holders_in, number_at}
 use Rattle.store_steps.specs.Stores.{AreForOneRoot, AreStores}
-use Rattle.console_run.specs.Devices.{Devices, HasMoment, HasTrueMoment, Keying, Steps}
 
 module _ {D G V : Type 0} (on : Devices D G V) (by : Keying G) where
   -- Of no push that the group sends under the root of one epoch is a push read under that of another one: supposed of cipher and drawn keys.
@@ -24,22 +26,23 @@ module _ {D G V : Type 0} (on : Devices D G V) (by : Keying G) where
   AreKeysApart mid = AreForOneRoot on.signers by.signer (on.verifiers.kind_of on.verifier) mid.host.server.depth mid.host.head.spi mid.host.server.list
 
   module _ (start : Run D) (entries : List Entry) (after : Run D) where
-    -- A member to which a reply comes keeps its keys, if it has no store yet or one of the group, and has all keys of the present epoch then.
+    -- A datagram that a member takes went missing, or is a fourth message: then the member has its keys, unless its store has later ones. Supposed is that
+    -- it has no store yet, or one of the group.
     abbrev pub KeepsReplies : Type 0
     KeepsReplies =
-        (front : List Entry) (mid : Run D) (m : Name) (answer : Answer) (outside : Outside) (next : Run D) → HasMoment on by start entries after front mid
+        (front : List Entry) (mid : Run D) (m : Name) (answer : Answer) (outside : Outside) (next : Run D) → IsMoment on by start entries after front mid
         → ((store : Store) → store_of mid.members.all m ≡ Some store → IsOurs mid m store)
-        → Steps on by front mid (record { asked = Keep m; outside = outside; answer = answer }) next
-        → (answer ≡ Kept (length mid.host.server.list)) × HasThen next m (HasKeysThen mid (length mid.host.server.list) m)
+        → IsRunStep on by front mid (record { asked = Keep m; outside = outside; answer = answer }) next
+        → TakesOrLoses (on.signers.kind_of by.signer) mid m answer next
 
     -- at a moment a member with a store of the group is given the last push of a number, of which one at least was sent
     pub record IsGivenAt (front : List Entry) (mid : Run D) (m : Name) (store : Store) (number : ℕ) (answer : Answer) (next : Run D) : Type 0 where
-      pub moment : HasTrueMoment on by start entries after front mid
+      pub moment : IsTrueMoment on by start entries after front mid
       pub had : store_of mid.members.all m ≡ Some store
       pub ours : IsOurs mid m store
       pub sent : IsSome (last_push front number)
       pub outside : Outside
-      pub step : Steps on by front mid (record { asked = Deliver m number; outside = outside; answer = answer }) next
+      pub step : IsRunStep on by front mid (record { asked = Deliver m number; outside = outside; answer = answer }) next
 
     -- Said of moments up to which each opening again found the group that there was.
     pub record StoresFollow : Type 0 where
@@ -62,4 +65,4 @@ module _ {D G V : Type 0} (on : Devices D G V) (by : Keying G) where
           → (IsTrafficPush mid number (root_epoch store) → number ≤ store.sequence)
           → (why : PushRefusal) × (answer ≡ PushRefused why) × IsWhy mid store number why × HasThen next m (λ (now : Store). now ≡ store)
       -- where keys are apart, each store is one of the group, perhaps of an older epoch, whatever pushes came
-      pub of_group : (front : List Entry) (mid : Run D) → HasTrueMoment on by start entries after front mid → AreKeysApart mid → AreStores mid
+      pub of_group : (front : List Entry) (mid : Run D) → IsTrueMoment on by start entries after front mid → AreKeysApart mid → AreStores mid

@@ -1,7 +1,7 @@
 pub mod Causes
-pub mod Devices
 pub mod Following
 pub mod Lines
+pub mod Names
 pub mod Private
 pub mod Promises
 pub mod Scripts

@@ -1,66 +1,126 @@
 -- Which entries the lines of a script give.
-use Rattle.std.specs.Prelude.{◌≡◌, ◌⊎◌, ℕ, ◌≤◌, true, false, List, [], ◌∷◌, ◌++◌, length, slice_get, MatchBool, Option, None, Some}
-use Rattle.std.specs.Option.{option_map}
+use Rattle.std.specs.Prelude.{◌≡◌, ◌⊎◌, ℕ, ◌≤◌, true, false, List, [], ◌∷◌, ◌++◌, length, reverse, slice_get, MatchBool, Option, None, Some}
+use Rattle.group_terms.specs.Names.{Name}
+use Rattle.group_terms.specs.declared.phases.Phase1.{Phase1}
 use Rattle.group_model.specs.Answers.{any_ran_out, is_open, ran_out}
 use Rattle.group_model.specs.Servers.{members_now}
+use Rattle.group_model.specs.declared.entries.Answer.{Answer}
+use Rattle.group_model.specs.declared.entries.Answer.TheVariants.{Done}
 use Rattle.group_model.specs.declared.entries.Asked.{Asked}
 use Rattle.group_model.specs.declared.entries.Asked.TheVariants as requests
 use Rattle.group_model.specs.declared.entries.Entry.{Entry}
+use Rattle.group_peers.specs.Peers.{phase_of, sent_by, was_introduced}
 use Rattle.group_peers.specs.declared.members.Peer.{Peer}
 use Rattle.group_run.specs.Deliveries.{IsFirstDue, NoneIsDue}
+use Rattle.group_run.specs.Reads.{AreAtRest, Ask, ReadsMail}
 use Rattle.group_run.specs.declared.deliveries.Delivery.{Delivery}
-use Rattle.member_steps.specs.Members.{Mail}
+use Rattle.member_steps.specs.Acts.{BeginsPull, IsUse}
+use Rattle.member_steps.specs.Members.{Members}
+use Rattle.group_steps.specs.Devices.{Devices, Keying}
 use Rattle.group_steps.specs.Runs.{Run}
+use Rattle.group_steps.specs.Steps.{IsAnsweredAfter}
 use Rattle.script_text.specs.Lines.{line_of}
 use Rattle.script_text.specs.declared.lines.Line.{Line}
-use Rattle.script_text.specs.declared.lines.Line.TheVariants.{Nothing, Join, Leave, Batch, Deliver, DeliverAll, Key, Derive, Halt, Reopen, Show}
-use Rattle.console_run.specs.Devices.{Devices, Keying, Steps}
+use Rattle.script_text.specs.declared.lines.Line.TheVariants.{Nothing, Allow, Deny, Join, Again, Lose, Leave, Batch, Deliver, DeliverAll, Key, Derive}
+use Rattle.script_text.specs.declared.lines.Line.TheVariants.{Halt, Reopen, Show}
 use Rattle.console_run.specs.Scripts.{most_lines}
 
 -- ---- what a line asks next
-
--- one request, and nothing after it
-abbrev pub once : Asked → List Entry → Option Asked
-once request [] = Some request
-once request (entry ∷ so_far) = None
-
--- a batch of the server; then each of the replies that are on their way comes to its member, one request each
-abbrev pub batch_and_replies : List Mail → List Entry → Option Asked
-batch_and_replies mail [] = Some requests.Batch
-batch_and_replies mail (entry ∷ so_far) = option_map (λ (first : Mail). requests.Keep first.0) (slice_get mail 0)
 
 -- what was given last by a line that gave these entries so far
 abbrev pub WasGivenLast : List Peer → List Entry → Option Delivery → Type 0
 WasGivenLast peers so_far None = so_far ≡ []
 WasGivenLast peers so_far (Some last) =
     (front : List Entry) × (entry : Entry) × (so_far ≡ front ++ entry ∷ []) × (entry.asked ≡ requests.Deliver last.member last.number)
-    × (peer : Peer) × (slice_get peers last.place ≡ Some peer) × (last.member ≡ peer.name)
+    × (peer : Peer) × (slice_get peers last.place ≡ Some peer) × (last.member ≡ peer.phase.member)
 
-module _ {D : Type 0} (run : Run D) (before so_far : List Entry) where
+-- what is asked of members that have a part in it
+abbrev pub Asks : Asked → Members → Option Ask → Type 0
+Asks request members next = next ≡ Some (request, members)
+
+-- a member sends its last datagram again, if it has sent one
+abbrev pub asked_again : Name → Option (List ℕ) → Asked
+asked_again m None = requests.Again m
+asked_again m (Some datagram) = requests.Serve m datagram
+
+-- the last of some entries
+abbrev pub last_of : List Entry → Option Entry
+last_of entries = slice_get (reverse entries) 0
+
+module _ (block : ℕ → List ℕ) (group : Name) {D : Type 0} (run : Run D) (before so_far : List Entry) where
+  -- ---- a push for each member that missed one
+
   -- the first push that is due after the last one given, or nothing where none is due any more
-  abbrev pub IsNextGiven : Option Delivery → Option Asked → Type 0
-  IsNextGiven last next =
-      ((next ≡ None) × NoneIsDue (members_now run.host.server) run.members.all (before ++ so_far) last)
-      ⊎ ((delivery : Delivery) × (next ≡ Some (requests.Deliver delivery.member delivery.number))
-      × IsFirstDue (members_now run.host.server) run.members.all (before ++ so_far) last delivery)
+  abbrev pub IsNextGiven : Members → Option Delivery → Option Ask → Type 0
+  IsNextGiven members last next =
+      ((next ≡ None) × NoneIsDue (members_now run.host.server) members.all (before ++ so_far) last)
+      ⊎ ((delivery : Delivery) × Asks (requests.Deliver delivery.member delivery.number) members next
+      × IsFirstDue (members_now run.host.server) members.all (before ++ so_far) last delivery)
 
   -- the line goes on with the push that is due after the one that it gave last, and asks nothing more where none is due
-  abbrev pub GivesWhatIsDue : Option Asked → Type 0
-  GivesWhatIsDue next = (last : Option Delivery) × WasGivenLast run.members.all so_far last × IsNextGiven last next
+  abbrev pub GivesWhatIsDue : Members → Option Ask → Type 0
+  GivesWhatIsDue members next = (last : Option Delivery) × WasGivenLast members.all so_far last × IsNextGiven members last next
+
+  -- ---- a pull
+
+  -- a member begins a pull, and sends its first message
+  abbrev pub AsksToPull : Name → Members → Option Ask → Type 0
+  AsksToPull m members next =
+      (acted : Members) × BeginsPull block group m members acted
+      × (datagram : List ℕ) × (sent_by acted.all m ≡ Some datagram) × Asks (requests.Serve m datagram) acted next
+
+  -- its SA is introduced, which is drawn at its first use
+  abbrev pub AsksToIntroduce : Name → Members → Option Ask → Type 0
+  AsksToIntroduce m members next =
+      (used : Members) × IsUse block m members used × (phase : Phase1) × (phase_of used.all m ≡ Some phase)
+      × Asks (requests.Introduce phase) used next
+
+  -- a pull, once its SA was introduced
+  abbrev pub AsksToJoin : Name → Members → Option Ask → Type 0
+  AsksToJoin m members next = MatchBool (was_introduced members.all m) (AsksToPull m members next) (AsksToIntroduce m members next)
+
+  -- after an introduction that was granted a pull follows, and after one that was refused nothing; after anything else members read what is on its way
+  abbrev pub JoinsAfter : Name → Asked → Answer → Option Ask → Type 0
+  JoinsAfter m (requests.Introduce phase) Done next = AsksToPull m run.members next
+  JoinsAfter m (requests.Introduce phase) answer next = next ≡ None
+  JoinsAfter m asked answer next = ReadsMail run.members next
+
+  -- ---- all lines
+
+  -- what a line asks first, of members to whom nothing is on its way
+  abbrev pub AsksFirst : Line → Members → Option Ask → Type 0
+  AsksFirst Nothing members next = next ≡ None
+  AsksFirst (Allow pattern) members next = Asks (requests.AddRule (record { allow = true; pattern = pattern })) members next
+  AsksFirst (Deny pattern) members next = Asks (requests.AddRule (record { allow = false; pattern = pattern })) members next
+  AsksFirst (Join m) members next = AsksToJoin m members next
+  AsksFirst (Again m) members next = Asks (asked_again m (sent_by members.all m)) members next
+  AsksFirst (Lose m) members next = Asks (requests.Lose m) members next
+  AsksFirst (Leave m) members next = Asks (requests.Leave m) members next
+  AsksFirst Batch members next = Asks requests.Batch members next
+  AsksFirst (Deliver m number) members next = Asks (requests.Deliver m number) members next
+  AsksFirst DeliverAll members next = MatchBool run.host.server.need (Asks requests.DeliverAll members next) (GivesWhatIsDue members next)
+  AsksFirst (Key m) members next = Asks (requests.Key m) members next
+  AsksFirst (Derive epoch members) present next = Asks (requests.Derive epoch members) present next
+  AsksFirst Halt members next = Asks requests.Halt members next
+  AsksFirst Reopen members next = Asks requests.Reopen members next
+  AsksFirst Show members next = Asks requests.Show members next
+
+  -- what it asks after an entry that it gave: a line that sends something goes on until nothing is on its way
+  abbrev pub AsksAfter : Line → Entry → Option Ask → Type 0
+  AsksAfter (Join m) last next = JoinsAfter m last.asked last.answer next
+  AsksAfter (Again m) last next = ReadsMail run.members next
+  AsksAfter Batch last next = ReadsMail run.members next
+  AsksAfter DeliverAll last next = MatchBool run.host.server.need (next ≡ None) (GivesWhatIsDue run.members next)
+  AsksAfter line last next = next ≡ None
+
+  -- by the last entry that the line gave so far
+  abbrev pub AsksBy : Line → Option Entry → Option Ask → Type 0
+  AsksBy line None next = (rest : Members) × AreAtRest run.members rest × AsksFirst line rest next
+  AsksBy line (Some last) next = AsksAfter line last next
 
   -- what a line asks, after the entries before it and those that it gave so far, which made this run
-  abbrev pub AsksNext : Line → Option Asked → Type 0
-  AsksNext Nothing next = next ≡ None
-  AsksNext (Join m) next = next ≡ once (requests.Join m) so_far
-  AsksNext (Leave m) next = next ≡ once (requests.Leave m) so_far
-  AsksNext Batch next = next ≡ batch_and_replies run.members.mail so_far
-  AsksNext (Deliver m number) next = next ≡ once (requests.Deliver m number) so_far
-  AsksNext DeliverAll next = MatchBool run.host.server.need (next ≡ once requests.DeliverAll so_far) (GivesWhatIsDue next)
-  AsksNext (Key m) next = next ≡ once (requests.Key m) so_far
-  AsksNext (Derive epoch members) next = next ≡ once (requests.Derive epoch members) so_far
-  AsksNext Halt next = next ≡ once requests.Halt so_far
-  AsksNext Reopen next = next ≡ once requests.Reopen so_far
-  AsksNext Show next = next ≡ once requests.Show so_far
+  abbrev pub AsksNext : Line → Option Ask → Type 0
+  AsksNext line next = AsksBy line (last_of so_far) next
 
 -- ---- what a script gives
 
@@ -69,8 +129,8 @@ module _ {D G V : Type 0} (on : Devices D G V) (by : Keying G) where
   abbrev pub GoesThrough : Line → List Entry → List Entry → Run D → List Entry → Run D → Type 0
   GoesThrough line before so_far run [] after = after ≡ run
   GoesThrough line before so_far run (entry ∷ more) after =
-      AsksNext run before so_far line (Some entry.asked) × ((more ≡ []) ⊎ (ran_out entry.answer ≡ false))
-      × (next : Run D) × Steps on by (before ++ so_far) run entry next × GoesThrough line before (so_far ++ entry ∷ []) next more after
+      (acted : Members) × AsksNext by.members_block by.group run before so_far line (Some (entry.asked, acted)) × ((more ≡ []) ⊎ (ran_out entry.answer ≡ false))
+      × (next : Run D) × IsAnsweredAfter on by acted (before ++ so_far) run entry next × GoesThrough line before (so_far ++ entry ∷ []) next more after
 
   -- A line begins to give these entries: the first of those that it gives, perhaps none. The last of them may have run out of memory.
   abbrev pub BeginsToGive : Line → List Entry → Run D → List Entry → Run D → Type 0
@@ -79,7 +139,7 @@ module _ {D G V : Type 0} (on : Devices D G V) (by : Keying G) where
   -- a line gives these entries: it asks nothing more after them, and memory did not run out
   pub record Gives (line : Line) (before : List Entry) (run : Run D) (more : List Entry) (after : Run D) : Type 0 where
     pub begins : BeginsToGive line before run more after
-    pub no_more : AsksNext after before more line None
+    pub no_more : AsksNext by.members_block by.group after before more line None
     pub enough_memory : any_ran_out more ≡ false
 
   -- a text is a line of the grammar, which gives these entries
@@ -97,12 +157,12 @@ module _ {D G V : Type 0} (on : Devices D G V) (by : Keying G) where
   LinesGive before run (line ∷ lines) entries after =
       (more : List Entry) × (next : Run D) × LineGives line before run more next × LinesGive (before ++ more) next lines entries after
 
-  -- one entry answers the opening that is requested
+  -- one entry answers the opening that is requested; members do nothing before it
   pub record IsOpeningEntry (request : Asked) (start : Run D) (entries : List Entry) (after : Run D) : Type 0 where
     pub entry : Entry
     pub alone : entries ≡ entry ∷ []
     pub asked : entry.asked ≡ request
-    pub step : Steps on by [] start entry after
+    pub step : IsAnsweredAfter on by start.members [] start entry after
 
   -- the opening that is requested was answered, and the group is open
   pub record Opens (request : Asked) (start : Run D) (entries : List Entry) (after : Run D) : Type 0 where

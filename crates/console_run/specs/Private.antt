@@ -2,6 +2,7 @@
 pub mod Asks
 pub mod Cuts
 pub mod Follows
+pub mod Mail
 pub mod Openings
 pub mod Reports
 pub mod Runs

@@ -1,5 +1,5 @@
 -- What the console promises of its run.
-use Rattle.std.specs.Prelude.{◌≡◌, ◌⊎◌, ℕ, ◌≤◌, true, List, [], ◌∷◌, ◌++◌, length, Option, None, Some, codes}
+use Rattle.std.specs.Prelude.{◌≡◌, ◌⊎◌, ℕ, ◌≤◌, true, List, [], ◌∷◌, ◌++◌, length, All, Option, None, Some}
 use Rattle.command_words.specs.declared.commands.Command.{Command}
 use Rattle.command_words.specs.declared.commands.Opening.{Opening}
 use Rattle.command_words.specs.declared.commands.Opening.TheVariants.{New, Open}
@@ -11,45 +11,50 @@ use Rattle.group_values.specs.Values.{Made}
 use Rattle.group_model.specs.Answers.{is_open}
 use Rattle.group_model.specs.Places.{IsValid}
 use Rattle.group_model.specs.WrapCounts.{most_wraps}
-use Rattle.group_model.specs.declared.entries.Answer.TheVariants.{Batched}
+use Rattle.group_model.specs.declared.entries.Answer.TheVariants.{Batched, Datagram}
 use Rattle.group_model.specs.declared.entries.Asked.{Asked}
-use Rattle.group_model.specs.declared.entries.Asked.TheVariants.{Batch, Begin, Create}
+use Rattle.group_model.specs.declared.entries.Asked.TheVariants.{Batch, Begin, Create, Serve}
 use Rattle.group_model.specs.declared.entries.Entry.{Entry}
 use Rattle.group_model.specs.declared.entries.Output.{Output}
 use Rattle.group_model.specs.declared.entries.Outside.{Outside}
+use Rattle.group_model.specs.declared.entries.SentReply.{SentReply}
+use Rattle.group_model.specs.declared.entries.SymReply.{SymReply}
 use Rattle.group_records.specs.declared.heads.Head.{Head}
 use Rattle.gcks_core.specs.Stored.{stored_list}
 use Rattle.tree_store.specs.Groups.{IsGroup}
 use Rattle.group_steps.specs.Counts.{CountsFaults, faults_in}
 use Rattle.group_steps.specs.Crashes.{LeavesMoments}
+use Rattle.group_steps.specs.Devices.{Devices, Keying}
 use Rattle.group_steps.specs.Laws.{IsSure}
-use Rattle.group_steps.specs.Replies.{AreRepliesNow}
-use Rattle.group_steps.specs.Runs.{Run, no_run}
+use Rattle.group_steps.specs.Moments.{IsMoment, IsTrueMoment}
+use Rattle.group_steps.specs.Mails.{AreMessages, IsSentTo}
+use Rattle.group_steps.specs.Runs.{Run, no_run, outset_of}
+use Rattle.group_steps.specs.Steps.{AreRunSteps, IsHistory, IsRunStep}
 use Rattle.group_steps.specs.TrueSteps.{batches_in}
 use Rattle.member_roots.specs.Groups.{Checks}
 use Rattle.sym_closure.specs.Secrecy.{MembersDerive, NoOthersDerive, NobodyDerivesYet}
 use Rattle.script_text.specs.Report.{entries_text}
 use Rattle.run_report.specs.declared.endings.Ending.{Ending}
 use Rattle.run_report.specs.declared.endings.Ending.TheVariants.{Whole, NoGroup, Memory}
-use Rattle.console_run.specs.Devices.{Devices, HasMoment, HasTrueMoment, Keying, MakesHistory, Steps, StepsAlong}
 use Rattle.console_run.specs.Following.{KeepsReplies, StoresFollow}
+use Rattle.console_run.specs.Names.{console_name}
 use Rattle.console_run.specs.Serving.{ServesAlong}
 use Rattle.console_run.specs.Scripts.{are_lines, script_lines}
 use Rattle.console_run.specs.Causes.{CameFrom, CauseOf, Given, IsInParts, SourceAt}
 use Rattle.run_report.specs.Reports.{Puts, ReportBreaksOff, LastLineEnds}
-
--- the name of the console's group
-abbrev pub console_name : Name
-console_name = codes "console"
 
 -- the opening that a command asks for
 abbrev pub request_of : Opening → Asked
 request_of (New depth) = Create depth
 request_of Open = Begin
 
--- before the opening: the disk as it was, and the draws at this place
-abbrev pub start_of : {D : Type 0} → Command → D → ℕ → Run D
-start_of command disk place = no_run disk console_name command.limit place
+-- so many phase 1 SAs may be introduced
+abbrev pub most_phases : ℕ
+most_phases = 1024
+
+-- before the opening: the disk as it was, and the draws of the server and of the members at these places
+abbrev pub start_of : {D : Type 0} → Command → D → ℕ → ℕ → Run D
+start_of command disk place members_place = no_run (outset_of disk console_name command.limit place members_place most_phases)
 
 -- what the source gave, the source before and after, and the sink likewise
 pub record Streams : Type 0 where
@@ -114,61 +119,76 @@ module _ {D G V : Type 0} (on : Devices D G V) (by : Keying G) where
     pub later : List Entry
     pub parts : entries ≡ first ∷ later
     pub opened : Run D
-    pub step : Steps on by [] start first opened
-    pub steps : StepsAlong on by (first ∷ []) opened later after
+    pub step : IsRunStep on by [] start first opened
+    pub steps : AreRunSteps on by (first ∷ []) opened later after
     pub moments : is_open first.answer ≡ true → (front rest : List Entry) (middle : Run D) → later ≡ front ++ rest
-        → StepsAlong on by (first ∷ []) opened front middle → StepsAlong on by (first ∷ front) middle rest after
-        → LeavesMoments on.disks on.signers by.signer on.verifiers on.verifier by.block (first ∷ front) middle rest after
+        → AreRunSteps on by (first ∷ []) opened front middle → AreRunSteps on by (first ∷ front) middle rest after
+        → LeavesMoments on by (first ∷ front) middle rest after
 
   -- ---- all of it
 
   -- Of a run that a command asked for: what came of source and sink, how it ended, its history, the disk before it, and the disk after it.
-  pub record PromisesRun (streams : Streams) (command : Command) (place : ℕ) (ending : Ending) (entries : List Entry) (old new : D) : Type 0 where
+  pub record PromisesRun (streams : Streams) (command : Command) (place members_place : ℕ) (ending : Ending) (entries : List Entry) (old new : D) : Type 0 where
     -- the run after the history, which has the disk
     pub after : Run D
     pub disk : after.host.disk ≡ new
     -- History, report and ending belong together. That memory ran out is taken on the console's word.
-    pub run : IsEnded streams (request_of command.opening) (start_of command old place) ending entries after
-        ⊎ IsBroken streams (request_of command.opening) (start_of command old place) ending entries after
+    pub run : IsEnded streams (request_of command.opening) (start_of command old place members_place) ending entries after
+        ⊎ IsBroken streams (request_of command.opening) (start_of command old place members_place) ending entries after
     -- Where a group is made, or the disk exposes the journal of one, the source exposes a script, and nothing fails, all lines are run, or memory ran out.
     pub complete : CanRun streams command.opening old new → (ending ≡ Whole) ⊎ (ending ≡ Memory)
     -- Each entry is a step, from the opening on: of the server, its disk and its draws, of the members and their stores. So each push is the text of its batch,
     -- and each refusal but for want of memory has its cause, as far as the disk shows it.
-    pub history : MakesHistory on by (start_of command old place) entries after
+    pub history : IsHistory on by (start_of command old place members_place) entries after
     -- At each moment each batch fits the tree that those before it left, whatever openings read. One that is in doubt is not counted.
-    pub valid : (front : List Entry) (mid : Run D) → HasMoment on by (start_of command old place) entries after front mid
+    pub valid : (front : List Entry) (mid : Run D) → IsMoment on by (start_of command old place members_place) entries after front mid
         → IsValid mid.host.server.depth (batches_in mid)
     -- By key names: from all that the batches of a moment could ever send, and all that they could ever give to some names, these derive the traffic key of
     -- an epoch only if one of them is a member of it (RFC 6407 section 7.4).
-    pub secrecy : (front : List Entry) (mid : Run D) → HasMoment on by (start_of command old place) entries after front mid
+    pub secrecy : (front : List Entry) (mid : Run D) → IsMoment on by (start_of command old place members_place) entries after front mid
         → NoOthersDerive mid.host.server.depth (batches_in mid)
     -- And nobody derives that of an epoch to come. Nothing is said of guessing what is drawn.
-    pub to_come : (front : List Entry) (mid : Run D) → HasMoment on by (start_of command old place) entries after front mid
+    pub to_come : (front : List Entry) (mid : Run D) → IsMoment on by (start_of command old place members_place) entries after front mid
         → NobodyDerivesYet mid.host.server.depth (batches_in mid)
     -- A member at each epoch from one to another derives the traffic key of the second from what it may be told at the first, whether it was told or not, by
     -- the encryptions since.
-    pub members : (front : List Entry) (mid : Run D) → HasMoment on by (start_of command old place) entries after front mid → 1 ≤ mid.host.server.depth
+    pub members : (front : List Entry) (mid : Run D) → IsMoment on by (start_of command old place members_place) entries after front mid
+        → 1 ≤ mid.host.server.depth
         → MembersDerive mid.host.server.depth (batches_in mid)
     -- A batch encrypts two keys at most for the root and for each position between it and a changed leaf, and the traffic key. Replies are not counted.
     pub few_wraps : (front : List Entry) (mid : Run D) (output : Output) (outside : Outside) (next : Run D)
-        → HasMoment on by (start_of command old place) entries after front mid
-        → Steps on by front mid (record { asked = Batch; outside = outside; answer = Batched output }) next
+        → IsMoment on by (start_of command old place members_place) entries after front mid
+        → IsRunStep on by front mid (record { asked = Batch; outside = outside; answer = Batched output }) next
         → length output.wraps ≤ most_wraps mid.host.server.depth (length mid.host.server.queue)
     -- Where the disk is honest and exposes its octets, or nothing was opened again up to a moment, each opening again found the group that there was.
-    pub sure : (front : List Entry) (mid : Run D) → HasMoment on by (start_of command old place) entries after front mid → IsSure on.disks old front
-        → HasTrueMoment on by (start_of command old place) entries after front mid
+    pub sure : (front : List Entry) (mid : Run D) → IsMoment on by (start_of command old place members_place) entries after front mid
+        → IsSure on.disks old front
+        → IsTrueMoment on by (start_of command old place members_place) entries after front mid
     -- From any opening on, as long as each later one found the group that there was: what was sent since leads nobody but members to a traffic key, and
     -- leads there each who was sent a reply since and stayed.
-    pub serves : ServesAlong on by (start_of command old place) entries after
-    -- At each moment a reply that is on its way goes to a member of the present epoch, with the keys that it has now.
-    pub mail : (front : List Entry) (mid : Run D) → HasMoment on by (start_of command old place) entries after front mid → AreRepliesNow mid
-    -- And a member to which one comes keeps its keys, if it has no store yet or one of the group.
-    pub replies : KeepsReplies on by (start_of command old place) entries after
+    pub serves : ServesAlong on by (start_of command old place members_place) entries after
+    -- A datagram of a member is answered by a message to it, if by any: a second one, or a fourth one with the keys that it had at an epoch of the group.
+    pub pulls : (front : List Entry) (mid : Run D) (m : Name) (datagram octets : List ℕ) (names : Option SymReply) (outside : Outside) (next : Run D)
+        → IsMoment on by (start_of command old place members_place) entries after front mid
+        → IsRunStep on by front mid (record { asked = Serve m datagram; outside = outside; answer = Datagram octets names }) next
+        → IsSentTo (on.signers.kind_of by.signer) next.host next.members.all m octets names
+    -- Each reply of a batch is such a fourth message.
+    pub batch_replies : (front : List Entry) (mid : Run D) (output : Output) (outside : Outside) (next : Run D)
+        → IsMoment on by (start_of command old place members_place) entries after front mid
+        → IsRunStep on by front mid (record { asked = Batch; outside = outside; answer = Batched output }) next
+        → All (λ (reply : SentReply). IsSentTo (on.signers.kind_of by.signer) next.host next.members.all reply.says.member reply.datagram (Some reply.says))
+        output.replies
+    -- At each moment each datagram that is on its way is such a message to whom it goes.
+    pub mail : (front : List Entry) (mid : Run D) → IsMoment on by (start_of command old place members_place) entries after front mid
+        → AreMessages (on.signers.kind_of by.signer) mid
+    -- A datagram that a member takes went missing, or is a fourth message: then the member has its keys, unless its store has later ones. Supposed is that
+    -- it has no store yet, or one of the group.
+    pub replies : KeepsReplies on by (start_of command old place members_place) entries after
     -- As long as each opening again found the group that there was, and where the verifier accepts what the signer signs: a store of the group takes the pushes
     -- that are due to it, and, where keys are apart, refuses all others that were sent.
-    pub stores : Checks on.signers by.signer on.verifiers on.verifier → StoresFollow on by (start_of command old place) entries after
+    pub stores : Checks on.signers by.signer on.verifiers on.verifier → StoresFollow on by (start_of command old place members_place) entries after
     -- nothing was done at all, or a crash leaves the journal of some moment of the history
-    pub crash : (entries ≡ []) ⊎ LeavesMomentsAfterOpening (start_of command old place) entries after
+    pub crash : (entries ≡ []) ⊎ LeavesMomentsAfterOpening (start_of command old place members_place) entries after
     -- the disk counts at least one fault for each that is noted, as far as its count goes, and none where none is
     pub faults : CountsFaults on.disks (faults_in entries) old new
 
@@ -181,11 +201,12 @@ module _ {D G V : Type 0} (on : Devices D G V) (by : Keying G) where
     pub last : LastLineEnds NoGroup ending streams.sink_before streams.sink_after
 
   -- by what the words ask for
-  abbrev pub PromisesOf : Option Command → Streams → ℕ → Ending → List Entry → D → D → Type 0
-  PromisesOf None streams place ending entries old new = PromisesNothing streams ending entries old new
-  PromisesOf (Some command) streams place ending entries old new = PromisesRun streams command place ending entries old new
+  abbrev pub PromisesOf : Option Command → Streams → ℕ → ℕ → Ending → List Entry → D → D → Type 0
+  PromisesOf None streams place members_place ending entries old new = PromisesNothing streams ending entries old new
+  PromisesOf (Some command) streams place members_place ending entries old new = PromisesRun streams command place members_place ending entries old new
 
   -- the octets that were taken are the source's, and the rest is as promised
-  pub record Promises (asked : Option Command) (streams : Streams) (place : ℕ) (ending : Ending) (entries : List Entry) (old new : D) : Type 0 where
-    pub came : CameFrom streams.source_before.octets streams.source_after.octets streams.given
-    pub promised : PromisesOf asked streams place ending entries old new
+  pub record Promises (asked : Option Command) (streams : Streams) (place members_place : ℕ) (ending : Ending) (entries : List Entry) (old new : D) : Type 0
+    where
+      pub came : CameFrom streams.source_before.octets streams.source_after.octets streams.given
+      pub promised : PromisesOf asked streams place members_place ending entries old new

@@ -5,5 +5,5 @@ mod consoles;
 mod line_run;
 mod script_run;
 
-pub use consoles::console;
+pub use consoles::{console, seed_of};
 pub use run_report::{Ending, Finished};

@@ -3,8 +3,8 @@ ghost use Rattle.std.specs.Prelude.{◌≡◌, ◌+◌, ◌<◌, ◌≤◌, [], 
 ghost use Rattle.run_report.specs.declared.endings.Ending.TheVariants.{Whole};
 ghost use Rattle.console_run.specs.Scripts.{are_octets, longest_piece, most_lines};
 ghost use Rattle.console_run.specs.Private.Follows.{IsOpened, IsRunTo, IsRunUntil, TakesAndGoesOn, TakesAndStops, at};
-ghost use Rattle.console_run.specs.Devices.{devices};
-ghost use Rattle.console_run.specs.Private.Runs.{Ends, GoesOn, IsReady, Start, StopsAt, StopsAtEnd, StopsWithin, room_left};
+ghost use Rattle.group_steps.specs.Devices.{devices};
+ghost use Rattle.console_run.specs.Private.Runs.{Ends, GoesOn, IsReady, Start, StopsAt, StopsAtEnd, StopsWithin, drawn_by, room_left};
 
 use crate::line_run::{report_last, run_line};
 use arrayvec::ArrayVec;
@@ -52,28 +52,37 @@ impl<D: Disk, G: Signer, R: Draws> ScriptRun<D, G, R> {
     }
 
     /// Takes one octet. The line that it ends is run.
-    fn take_octet<V: Verifier, K: Sink>(
+    fn take_octet<V: Verifier, P: Draws, K: Sink>(
         &mut self,
         alloc: Global,
         octet: u8,
         verifier: &V,
+        peers: &mut P,
         out: &mut K,
     ) -> Result<(), Stop>
-        requires ready { IsReady (at self.old (K.shows out.old)) }
-        ensures ready { OnOk result (IsReady (at self.new (K.shows out.new))) }
+        requires ready { IsReady (at self.old (K.shows out.old) (drawn_by P.Draws peers.old)) }
+        ensures ready { OnOk result (IsReady (at self.new (K.shows out.new) (drawn_by P.Draws peers.new))) }
         ensures goes { OnOk result (GoesOn (devices D.Disk G.Signer V.Verifier verifier.now) R.Draws (octet ∷ [])
-            (at self.old (K.shows out.old)) (at self.new (K.shows out.new))) }
-        ensures nearer { OnOk result (room_left (at self.new (K.shows out.new)) < room_left (at self.old (K.shows out.old))) }
+            (at self.old (K.shows out.old) (drawn_by P.Draws peers.old)) (at self.new (K.shows out.new) (drawn_by P.Draws peers.new))) }
+        ensures nearer { OnOk result (room_left (at self.new (K.shows out.new) (drawn_by P.Draws peers.new)) < room_left
+            (at self.old (K.shows out.old) (drawn_by P.Draws peers.old))) }
         ensures count { self.new.count ≤ most_lines }
         ensures stops { IfErr result (λ stop. StopsAt (devices D.Disk G.Signer V.Verifier verifier.now) R.Draws octet stop
-            (at self.old (K.shows out.old)) (at self.new (K.shows out.new))) }
+            (at self.old (K.shows out.old) (drawn_by P.Draws peers.old)) (at self.new (K.shows out.new) (drawn_by P.Draws peers.new))) }
         ensures other { result ≡ Err Stop.Source → ⊥ }
     {
         if self.count == MOST_LINES {
             return Err(Stop::Line);
         }
         if octet == b'\n' {
-            run_line(alloc, self.line.as_slice(), &mut self.group, verifier, out)?;
+            run_line(
+                alloc,
+                self.line.as_slice(),
+                &mut self.group,
+                verifier,
+                peers,
+                out,
+            )?;
             self.line.clear();
             self.count += 1;
             return Ok(());
@@ -86,49 +95,54 @@ impl<D: Disk, G: Signer, R: Draws> ScriptRun<D, G, R> {
     }
 
     /// Takes a piece of the script.
-    fn take_piece<V: Verifier, K: Sink>(
+    fn take_piece<V: Verifier, P: Draws, K: Sink>(
         &mut self,
         alloc: Global,
         piece: &[u8],
         verifier: &V,
+        peers: &mut P,
         out: &mut K,
     ) -> Result<(), Stop>
         requires short { length piece.now ≤ longest_piece }
-        requires ready { IsReady (at self.old (K.shows out.old)) }
-        ensures ready { OnOk result (IsReady (at self.new (K.shows out.new))) }
+        requires ready { IsReady (at self.old (K.shows out.old) (drawn_by P.Draws peers.old)) }
+        ensures ready { OnOk result (IsReady (at self.new (K.shows out.new) (drawn_by P.Draws peers.new))) }
         ensures goes { OnOk result (GoesOn (devices D.Disk G.Signer V.Verifier verifier.now) R.Draws piece.now
-            (at self.old (K.shows out.old)) (at self.new (K.shows out.new))) }
-        ensures nearer { OnOk result (room_left (at self.new (K.shows out.new)) + length piece.now ≤ room_left (at self.old (K.shows out.old))) }
+            (at self.old (K.shows out.old) (drawn_by P.Draws peers.old)) (at self.new (K.shows out.new) (drawn_by P.Draws peers.new))) }
+        ensures nearer { OnOk result (room_left (at self.new (K.shows out.new) (drawn_by P.Draws peers.new)) + length piece.now ≤ room_left
+            (at self.old (K.shows out.old) (drawn_by P.Draws peers.old))) }
         ensures count { self.new.count ≤ most_lines }
         ensures stops { IfErr result (λ stop. StopsWithin (devices D.Disk G.Signer V.Verifier verifier.now) R.Draws piece.now stop
-            (at self.old (K.shows out.old)) (at self.new (K.shows out.new))) }
+            (at self.old (K.shows out.old) (drawn_by P.Draws peers.old)) (at self.new (K.shows out.new) (drawn_by P.Draws peers.new))) }
         ensures other { result ≡ Err Stop.Source → ⊥ }
         ensures octets { are_octets piece.now ≡ true }
     {
         for octet in piece {
-            self.take_octet(alloc, *octet, verifier, out)?;
+            self.take_octet(alloc, *octet, verifier, peers, out)?;
         }
         Ok(())
     }
 
     /// Takes all that the source has, in pieces of at most the buffer's length.
-    fn take_script<S: Source, V: Verifier, K: Sink>(
+    fn take_script<S: Source, V: Verifier, P: Draws, K: Sink>(
         &mut self,
         alloc: Global,
         script: &mut S,
         buffer: &mut [u8],
         verifier: &V,
+        peers: &mut P,
         out: &mut K,
     ) -> Result<(), Stop>
         requires buffer { 0 < length buffer.old }
         requires short { length buffer.old ≤ longest_piece }
-        requires ready { IsReady (at self.old (K.shows out.old)) }
-        ensures ready { OnOk result (IsReady (at self.new (K.shows out.new))) }
+        requires ready { IsReady (at self.old (K.shows out.old) (drawn_by P.Draws peers.old)) }
+        ensures ready { OnOk result (IsReady (at self.new (K.shows out.new) (drawn_by P.Draws peers.new))) }
         ensures goes { OnOk result (TakesAndGoesOn (devices D.Disk G.Signer V.Verifier verifier.now) R.Draws
-            (S.shows script.old) (S.shows script.new) (at self.old (K.shows out.old)) (at self.new (K.shows out.new))) }
+            (S.shows script.old) (S.shows script.new) (at self.old (K.shows out.old) (drawn_by P.Draws peers.old))
+            (at self.new (K.shows out.new) (drawn_by P.Draws peers.new))) }
         ensures count { self.new.count ≤ most_lines }
         ensures stops { IfErr result (λ stop. TakesAndStops (devices D.Disk G.Signer V.Verifier verifier.now) R.Draws stop
-            (S.shows script.old) (S.shows script.new) (at self.old (K.shows out.old)) (at self.new (K.shows out.new))) }
+            (S.shows script.old) (S.shows script.new) (at self.old (K.shows out.old) (drawn_by P.Draws peers.old))
+            (at self.new (K.shows out.new) (drawn_by P.Draws peers.new))) }
     {
         'pieces: loop {
             let n = match script.take(buffer) {
@@ -139,56 +153,68 @@ impl<D: Disk, G: Signer, R: Draws> ScriptRun<D, G, R> {
                 return Ok(());
             }
             let (piece, _) = buffer.split_at(n);
-            self.take_piece(alloc, piece, verifier, out)?;
+            self.take_piece(alloc, piece, verifier, peers, out)?;
         }
     }
 
     /// Runs the last line, where the script ends in the middle of it.
-    fn finish<V: Verifier, K: Sink>(
+    fn finish<V: Verifier, P: Draws, K: Sink>(
         &mut self,
         alloc: Global,
         verifier: &V,
+        peers: &mut P,
         out: &mut K,
     ) -> Result<(), Stop>
-        requires ready { IsReady (at self.old (K.shows out.old)) }
+        requires ready { IsReady (at self.old (K.shows out.old) (drawn_by P.Draws peers.old)) }
         ensures ends { OnOk result (Ends (devices D.Disk G.Signer V.Verifier verifier.now) R.Draws
-            (at self.old (K.shows out.old)) (at self.new (K.shows out.new))) }
+            (at self.old (K.shows out.old) (drawn_by P.Draws peers.old)) (at self.new (K.shows out.new) (drawn_by P.Draws peers.new))) }
         ensures count { self.new.count ≤ most_lines }
         ensures stops { IfErr result (λ stop. StopsAtEnd (devices D.Disk G.Signer V.Verifier verifier.now) R.Draws stop
-            (at self.old (K.shows out.old)) (at self.new (K.shows out.new))) }
+            (at self.old (K.shows out.old) (drawn_by P.Draws peers.old)) (at self.new (K.shows out.new) (drawn_by P.Draws peers.new))) }
         ensures other { result ≡ Err Stop.Source → ⊥ }
     {
         if self.line.is_empty() {
             return Ok(());
         }
-        run_line(alloc, self.line.as_slice(), &mut self.group, verifier, out)?;
+        run_line(
+            alloc,
+            self.line.as_slice(),
+            &mut self.group,
+            verifier,
+            peers,
+            out,
+        )?;
         Ok(())
     }
 
     /// Reports that the group was opened, and runs the whole script on it.
-    pub(crate) fn follow<S: Source, V: Verifier, K: Sink>(
+    pub(crate) fn follow<S: Source, V: Verifier, P: Draws, K: Sink>(
         &mut self,
         alloc: Global,
         script: &mut S,
         verifier: &V,
+        peers: &mut P,
         out: &mut K,
     ) -> Result<(), Stop>
         requires line { self.old.line.items ≡ [] }
         requires count { self.old.count ≡ 0 }
+        requires rest { self.old.group.members.mail ≡ [] }
+        requires place { P.place_of peers.old ≡ self.old.group.members.place }
+        requires rules { self.old.group.server.rules ≡ [] }
         ensures ok { OnOk result ((start : Start D G) → start.was ≡ K.shows out.old →
-            IsOpened (devices D.Disk G.Signer V.Verifier verifier.now) R.Draws start self.old.group →
+            IsOpened (devices D.Disk G.Signer V.Verifier verifier.now) R.Draws (drawn_by P.Draws peers.old) start self.old.group →
             IsRunTo (devices D.Disk G.Signer V.Verifier verifier.now) R.Draws Whole start
-            (S.shows script.old) (S.shows script.new) (at self.new (K.shows out.new))) }
+            (S.shows script.old) (S.shows script.new) (at self.new (K.shows out.new) (drawn_by P.Draws peers.new))) }
         ensures count { self.new.count ≤ most_lines }
         ensures stops { IfErr result (λ stop. (start : Start D G) → start.was ≡ K.shows out.old →
-            IsOpened (devices D.Disk G.Signer V.Verifier verifier.now) R.Draws start self.old.group →
+            IsOpened (devices D.Disk G.Signer V.Verifier verifier.now) R.Draws (drawn_by P.Draws peers.old) start self.old.group →
             IsRunUntil (devices D.Disk G.Signer V.Verifier verifier.now) R.Draws stop start
-            (S.shows script.old) (S.shows script.new) (at self.new (K.shows out.new))) }
+            (S.shows script.old) (S.shows script.new) (at self.new (K.shows out.new) (drawn_by P.Draws peers.new))) }
     {
         report_last(alloc, &self.group, out)?;
         let mut buffer = vec![in alloc; 0; PIECE].map_err(NoMemory::from)?;
-        self.take_script(alloc, script, &mut buffer, verifier, out)?;
-        self.finish(alloc, verifier, out)
+        self.take_script(alloc, script, &mut buffer, verifier, peers, out)?;
+        self.finish(alloc, verifier, peers, out)
     }
 
     /// The group.

@@ -1,9 +1,9 @@
 //! That keys are apart is supposed of the cipher and of what is drawn. Of two runs, the stored one and a longer one, it is computed here: no push that
 //! they sent is read as a push under the root key of another epoch than that under which it was sent.
-use crate::runs::words_of;
-use console_run::{Finished, console};
+use crate::runs::run_new;
+use console_run::Finished;
 use gd_disk::MemDisk;
-use gd_edges::{ChaChaDraws, TestSigner, TestVerifier, TextSink, TextSource};
+use gd_edges::{ChaChaDraws, TestVerifier};
 use group_model::{Answer, Entry, PushPair};
 use group_terms::{Drawn, List, NoMemory, NodeValue, PushRefusal};
 use push_msg::{Room, open_push};
@@ -11,11 +11,11 @@ use std::alloc::Global;
 use tree_store::{Head, Stored, TreeStore};
 
 /// The script of the stored run, up to its last batch.
-const STORED: &[u8] = b"join a\njoin b\njoin c\nbatch\nleave b\nbatch\n";
+const STORED: &[u8] = b"allow *\njoin a\njoin b\njoin c\nbatch\nleave b\nbatch\n";
 
 /// Batches by which members come, go and come back, and one that changes nothing.
 const LONGER: &[u8] =
-    b"join a\njoin b\nbatch\njoin c\nbatch\nleave a\nbatch\nbatch\njoin a\nleave b\nbatch\njoin d\njoin b\nbatch\nleave c\nbatch\n";
+    b"allow *\njoin a\njoin b\nbatch\njoin c\nbatch\nleave a\nbatch\nbatch\njoin a\nleave b\nbatch\njoin d\njoin b\nbatch\nleave c\nbatch\n";
 
 /// More epochs than either run has.
 const MOST_EPOCHS: usize = 20;
@@ -32,7 +32,7 @@ fn keys_of_a_longer_run_are_apart(rt: HostRuntime) {
 
 /// Whether a script makes so many pushes, and each is a push under its own root alone.
 fn are_apart(alloc: Global, script: &[u8], pushes: usize) -> Result<bool, NoMemory> {
-    let Finished { history, disk, .. } = run(alloc, script)?;
+    let Finished { history, disk, .. } = run_new(alloc, script, &mut ChaChaDraws::new(0, 1))?;
     let Some(group) = roots_in(alloc, disk)? else {
         return Ok(false);
     };
@@ -54,26 +54,6 @@ fn are_apart(alloc: Global, script: &[u8], pushes: usize) -> Result<bool, NoMemo
     drop(group);
     drop(history);
     Ok(holds & (count == pushes))
-}
-
-fn run(alloc: Global, script: &[u8]) -> Result<Finished<MemDisk>, NoMemory> {
-    let words = words_of(alloc, "--new 2")?;
-    let mut source = TextSource::new(List::copy_of(alloc, script)?, List::new(alloc));
-    let mut sink = TextSink::new(alloc, List::new(alloc));
-    let finished = console(
-        alloc,
-        &words,
-        &mut source,
-        &mut sink,
-        MemDisk::new(alloc),
-        TestSigner::new(),
-        &TestVerifier::new(),
-        ChaChaDraws::new(0, 0),
-    );
-    drop(source);
-    drop(sink);
-    drop(words);
-    Ok(finished)
 }
 
 /// The epoch and the two pushes of a batch over which somebody stayed.

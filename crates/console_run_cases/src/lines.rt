@@ -5,7 +5,11 @@ use script_text::{Line, read_decimal, read_line};
 #[derive(Clone, Copy)]
 enum Says {
     Nothing,
+    Allow(&'static [u8]),
+    Deny(&'static [u8]),
     Join(&'static [u8]),
+    Again(&'static [u8]),
+    Lose(&'static [u8]),
     Leave(&'static [u8]),
     Batch,
     Deliver(&'static [u8], u32),
@@ -26,7 +30,12 @@ static LINES: &[(&[u8], Says)] = &[
     (b"  #join\ta \xff\x00\r", Says::Nothing),
     (b"batch", Says::Batch),
     (b"  batch  ", Says::Batch),
+    (b"allow *", Says::Allow(b"*")),
+    (b"  allow b*", Says::Allow(b"b*")),
+    (b"deny bob", Says::Deny(b"bob")),
     (b"join a", Says::Join(b"a")),
+    (b"again a", Says::Again(b"a")),
+    (b"lose a", Says::Lose(b"a")),
     (b" leave   a ", Says::Leave(b"a")),
     (
         b"join abcdefghijklmnopqrstuvwxyz_56789",
@@ -52,6 +61,13 @@ static LINES: &[(&[u8], Says)] = &[
 /// Lines that are not of the grammar.
 static OTHERS: &[&[u8]] = &[
     b"join abcdefghijklmnopqrstuvwxyz_567890",
+    b"allow",
+    b"allow A",
+    b"allow **",
+    b"allow *b",
+    b"deny a b",
+    b"again",
+    b"lose A",
     b"join A",
     b"join #a",
     b"Join a",
@@ -116,8 +132,24 @@ fn is_read(text: &[u8], says: Says) -> bool {
 fn is_line(line: &Line, says: Says) -> bool {
     match says {
         Says::Nothing => matches!(line, Line::Nothing),
+        Says::Allow(text) => match line {
+            Line::Allow { pattern } => pattern.text() == text,
+            _ => false,
+        },
+        Says::Deny(text) => match line {
+            Line::Deny { pattern } => pattern.text() == text,
+            _ => false,
+        },
         Says::Join(name) => match line {
             Line::Join { member } => member.text() == name,
+            _ => false,
+        },
+        Says::Again(name) => match line {
+            Line::Again { member } => member.text() == name,
+            _ => false,
+        },
+        Says::Lose(name) => match line {
+            Line::Lose { member } => member.text() == name,
             _ => false,
         },
         Says::Leave(name) => match line {

@@ -107,10 +107,36 @@ fn reports_served(alloc: Global) -> Result<bool, NoMemory> {
         octets: List::copy_of(alloc, &[0, 255])?,
         names: Some(says(alloc)?),
     };
+    let full = Answer::Refused {
+        why: Refusal::TreeFull { held: 4 },
+    };
     Ok(
         is_served(alloc, second, b"second ann 3 0a0bff\n")
             & is_served(alloc, fourth, b"fourth ann 2 00ff\n")
-            & is_served(alloc, Answer::Queued, b"ann queued\n"),
+            & is_served(alloc, Answer::Queued, b"ann queued\n")
+            & is_served(alloc, full, b"ann refused tree-full 4\n")
+            & are_losses_reported(alloc),
+    )
+}
+
+/// A member that is to lose a datagram, and one that has sent none.
+fn are_losses_reported(alloc: Global) -> bool {
+    let member = named(b"ann");
+    reports(
+        alloc,
+        Asked::Lose { member },
+        Answer::Done,
+        b"ann loses next\n",
+    ) & reports(
+        alloc,
+        Asked::Lose { member },
+        Answer::Nothing,
+        b"ann nothing\n",
+    ) & reports(
+        alloc,
+        Asked::Again { member },
+        Answer::Nothing,
+        b"ann nothing\n",
     )
 }
 
@@ -118,13 +144,9 @@ fn is_served(alloc: Global, answer: Answer, line: &[u8]) -> bool {
     reports(alloc, served(alloc, named(b"ann")), answer, line)
 }
 
-/// A batch with a reply that has no datagram, and then one that has.
+/// A batch with a reply.
 fn reports_batch(alloc: Global) -> Result<bool, NoMemory> {
     let mut replies = List::new(alloc);
-    replies.push(SentReply {
-        says: says(alloc)?,
-        datagram: List::new(alloc),
-    })?;
     replies.push(SentReply {
         says: says(alloc)?,
         datagram: List::copy_of(alloc, &[0, 255])?,

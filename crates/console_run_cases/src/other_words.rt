@@ -24,6 +24,8 @@ static OTHER_WORDS: &[&str] = &[
     "--new 2 --limit 4 --limit 4",
     "--new 2 --seed",
     "--new 2 --seed 18446744073709551616",
+    "--new 2 --workers 17",
+    "--soak 7",
 ];
 
 /// They leave the source and the disk as they were.

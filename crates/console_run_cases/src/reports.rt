@@ -8,20 +8,8 @@ use script_text::end_line;
 use std::alloc::Global;
 
 #[test]
-fn changes_are_reported(rt: HostRuntime) {
-    assert!(rt; joins_are_reported(rt.alloc()) & leaves_are_reported(rt.alloc()));
-}
-
-fn joins_are_reported(alloc: Global) -> bool {
-    let why = Refusal::TreeFull { held: 4 };
-    is_join(alloc, Answer::Queued, b"b_1 queued\n")
-        & is_join(alloc, Answer::Nothing, b"b_1 nothing\n")
-        & is_join(alloc, Answer::Refused { why }, b"b_1 refused tree-full 4\n")
-}
-
-fn is_join(alloc: Global, answer: Answer, line: &[u8]) -> bool {
-    let member = b_1();
-    reports(alloc, Asked::Join { member }, answer, line)
+fn leaves_have_their_lines(rt: HostRuntime) {
+    assert!(rt; leaves_are_reported(rt.alloc()));
 }
 
 fn leaves_are_reported(alloc: Global) -> bool {
@@ -32,6 +20,11 @@ fn leaves_are_reported(alloc: Global) -> bool {
             b"b_1 refused already-pending\n",
         )
         & is_refused_leave(alloc, Refusal::NotMember, b"b_1 refused not-member\n")
+        & is_refused_leave(
+            alloc,
+            Refusal::BatchFull { pending: 32 },
+            b"b_1 refused batch-full 32\n",
+        )
 }
 
 fn is_refused_leave(alloc: Global, why: Refusal, line: &[u8]) -> bool {

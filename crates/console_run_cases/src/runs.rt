@@ -3,28 +3,26 @@ ghost use Rattle.std.specs.Prelude.{◌≤◌, length};
 
 use console_run::{Ending, Finished, console};
 use gd_disk::MemDisk;
-use gd_edges::{ChaChaDraws, Sink, Source, TestSigner, TestVerifier};
+use gd_edges::{ChaChaDraws, Draws, Sink, Source, TestSigner, TestVerifier, TextSink, TextSource};
 use group_terms::{List, NoMemory};
 use std::alloc::Global;
 
-pub(crate) const GOOD_LINES: &str = "join a\nbatch\njoin b\n";
+pub(crate) const GOOD_LINES: &str = "deny b\nbatch\nlose a\n";
 
 pub(crate) const TOLD_GOOD: &str = "\
 new depth 2
-a queued
-epoch 1 sequence 0 members 1
-a keyed 1
-b queued
+rule 1
+epoch 1 sequence 0 members 0
+a nothing
 end 0
 ";
 
-pub(crate) const BAD_THIRD: &str = "join a\nbatch\njoin A\njoin b\n";
+pub(crate) const BAD_THIRD: &str = "deny b\nbatch\njoin A\njoin b\n";
 
 pub(crate) const TOLD_BAD: &str = "\
 new depth 2
-a queued
-epoch 1 sequence 0 members 1
-a keyed 1
+rule 1
+epoch 1 sequence 0 members 0
 end 2 line 3
 ";
 
@@ -71,6 +69,7 @@ fn run_words<S: Source, K: Sink>(
         TestSigner::new(),
         &TestVerifier::new(),
         ChaChaDraws::new(0, 0),
+        &mut ChaChaDraws::new(0, 1),
     );
     let outcome = outcome_of(&finished, image);
     drop(finished);
@@ -83,6 +82,32 @@ fn outcome_of(finished: &Finished<MemDisk>, image: &[u8]) -> Outcome {
         entries: finished.history.len(),
         disk_stays: finished.disk.image() == image,
     }
+}
+
+/// What is left of a run of a script on a new group, whose tree has four leaves, with these draws of its members.
+pub(crate) fn run_new<P: Draws>(
+    alloc: Global,
+    script: &[u8],
+    peers: &mut P,
+) -> Result<Finished<MemDisk>, NoMemory> {
+    let words = words_of(alloc, "--new 2")?;
+    let mut source = TextSource::new(List::copy_of(alloc, script)?, List::new(alloc));
+    let mut sink = TextSink::new(alloc, List::new(alloc));
+    let finished = console(
+        alloc,
+        &words,
+        &mut source,
+        &mut sink,
+        MemDisk::new(alloc),
+        TestSigner::new(),
+        &TestVerifier::new(),
+        ChaChaDraws::new(0, 0),
+        peers,
+    );
+    drop(source);
+    drop(sink);
+    drop(words);
+    Ok(finished)
 }
 
 /// The words of a text, between its spaces.

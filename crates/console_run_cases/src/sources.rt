@@ -81,18 +81,18 @@ fn is_reported_one_by_one(alloc: Global, script: &str, report: &str, left: &str)
 /// The first and the last count of calls that go well, how many entries there are then, and the report.
 static CALLS: &[(usize, usize, usize, &str)] = &[
     (0, 6, 1, "new depth 2\nend 3\n"),
-    (7, 12, 2, "new depth 2\na queued\nend 3\n"),
+    (7, 12, 2, "new depth 2\nrule 1\nend 3\n"),
     (
         13,
         19,
-        4,
-        "new depth 2\na queued\nepoch 1 sequence 0 members 1\na keyed 1\nend 3\n",
+        3,
+        "new depth 2\nrule 1\nepoch 1 sequence 0 members 0\nend 3\n",
     ),
     (
         20,
         20,
-        5,
-        "new depth 2\na queued\nepoch 1 sequence 0 members 1\na keyed 1\nb queued\nend 3\n",
+        4,
+        "new depth 2\nrule 1\nepoch 1 sequence 0 members 0\na nothing\nend 3\n",
     ),
 ];
 

@@ -17,7 +17,7 @@ fn are_stores_reported(alloc: Global) -> bool {
 }
 
 const STORES: &[u8] =
-    b"b_1 keyed 3\nb_1 older 6 4\nb_1 push 5 taken root 3\nb_1 push 5 taken traffic 3\n\
+    b"b_1 keyed 3\nb_1 older 6 4\nb_1 lost\nb_1 push 5 taken root 3\nb_1 push 5 taken traffic 3\n\
     b_1 push 5 refused bad-signature\nb_1 push 5 nothing\nb_1 key 3 sequence 6 0001020a0f10abff\nb_1 nothing\n";
 
 /// Puts what is reported of stores, line after line.
@@ -38,7 +38,7 @@ fn report_kept(alloc: Global, out: &mut Octets) -> bool {
         Asked::Keep { member },
         Answer::Older { last, got },
         out,
-    )
+    ) & report(alloc, Asked::Keep { member }, Answer::Lost, out)
 }
 
 fn report_pushes(alloc: Global, out: &mut Octets) -> bool {

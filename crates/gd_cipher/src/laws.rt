@@ -1,5 +1,5 @@
-//! That decrypting undoes encrypting, that opening undoes sealing, and that a text is sealed in one way.
-ghost use Rattle.std.specs.Prelude.{◌≡◌, ℕ, List, length, All};
+//! That decrypting undoes encrypting, that opening undoes sealing, that a text is sealed in one way, and how far the IV matters.
+ghost use Rattle.std.specs.Prelude.{◌≡◌, ℕ, List, length, drop, All};
 ghost use Rattle.gd_cipher.specs.Bytes.{IsByte, AreBytes, IsKey};
 ghost use Rattle.gd_cipher.specs.Ciphers.{cipher, decipher};
 ghost use Rattle.gd_cipher.specs.Chains.{IsSealed, IsOpened};
@@ -30,4 +30,10 @@ pub fn a_text_is_opened_in_one_way()
 pub fn what_was_sealed_opens()
     ensures { (key iv text sealed : List ℕ) → IsKey key → AreBytes 16 iv → All IsByte text →
         IsSealed key iv text sealed → IsOpened key iv sealed text }
+{}
+
+/// What was sealed is opened under another IV as the text that it was, but for the first block.
+pub fn an_iv_matters_for_the_first_block_alone()
+    ensures { (key iv other_iv text sealed opened : List ℕ) → IsKey key → length iv ≡ 16 → length other_iv ≡ 16 → All IsByte text →
+        IsSealed key iv text sealed → IsOpened key other_iv sealed opened → drop 16 opened ≡ drop 16 text }
 {}

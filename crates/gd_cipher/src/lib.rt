@@ -7,8 +7,9 @@
 pub use chains::{cbc_open, cbc_seal};
 pub use keys::{Key128, Key256};
 pub use laws::{
-    a_text_is_opened_in_one_way, a_text_is_sealed_in_one_way, decrypt_undoes_encrypt,
-    open_undoes_seal, what_was_sealed_opens,
+    a_text_is_opened_in_one_way, a_text_is_sealed_in_one_way,
+    an_iv_matters_for_the_first_block_alone, decrypt_undoes_encrypt, open_undoes_seal,
+    what_was_sealed_opens,
 };
 pub use macs::{Hmac, phase2_iv};
 

@@ -2,8 +2,7 @@
 //! journal is the file `group.journal` of the working folder.
 #![tactic(auto)]
 
-use command_words::seed_of;
-use console_run::{Ending, console};
+use console_run::{Ending, console, seed_of};
 use file_disks::FileDisk;
 use gd_edges::{ChaChaDraws, StdSink, StdSource, TestSigner, TestVerifier};
 use std::alloc::AllocError;
@@ -14,8 +13,10 @@ use std::process::ExitCode;
 /// The file that has the journal.
 const JOURNAL: &str = "group.journal";
 
-/// The stream of the seed that has the server's draws.
+/// The streams of the seed that have the server's draws, and the members'.
 const SERVER_STREAM: u8 = 0;
+
+const MEMBER_STREAM: u8 = 1;
 
 fn main(rt: HostRuntime) -> ExitCode {
     match run(&rt) {
@@ -35,6 +36,7 @@ fn run(rt: &HostRuntime) -> Result<u8, AllocError> {
 fn run_words(rt: &HostRuntime, words: &Vec<String>) -> Result<u8, AllocError> {
     let disk = FileDisk::new(rt.alloc(), rt, JOURNAL).map_err(|_| AllocError)?;
     let draws = ChaChaDraws::new(seed_of(words), SERVER_STREAM);
+    let mut peers = ChaChaDraws::new(seed_of(words), MEMBER_STREAM);
     let mut script = StdSource::new(rt.stdin());
     let mut out = StdSink::new(rt.stdout());
     let finished = console(
@@ -46,6 +48,7 @@ fn run_words(rt: &HostRuntime, words: &Vec<String>) -> Result<u8, AllocError> {
         TestSigner::new(),
         &TestVerifier::new(),
         draws,
+        &mut peers,
     );
     let status = finished.ending.status();
     drop(finished);

@@ -26,12 +26,6 @@ unless_refused (Some why) answer = Refused why
 
 -- whether the group has to be opened again, how deep its tree is, who has which leaf, and the changes that wait
 module _ (need : Bool) (depth : ℕ) (holders : Holders) (queue : List Change) where
-  -- a member's join does nothing, unless the group has to be opened again; any other one waits, unless there is a reason against it
-  abbrev pub answer_to_join : Name → Answer
-  answer_to_join m =
-      if need then Refused NeedsReopen
-      else (if is_member holders m then Nothing else unless_refused (why_no_join need depth holders queue m) Queued)
-
   -- a leave is granted, unless there is a reason against it; the member goes out with the next batch
   abbrev pub answer_to_leave : Name → Answer
   answer_to_leave m = unless_refused (why_no_leave need depth holders queue m) Done

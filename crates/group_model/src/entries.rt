@@ -36,10 +36,6 @@ pub enum Asked {
         member: MemberName,
         datagram: Octets,
     },
-    /// To let a name in with the next batch.
-    Join {
-        member: MemberName,
-    },
     /// To take a member out with the next batch.
     Leave {
         member: MemberName,
@@ -52,7 +48,15 @@ pub enum Asked {
     Reopen,
     /// Who has which leaf.
     Show,
-    /// Not of the server: a member is given the keys of its reply.
+    /// Not of the server: the next datagram to a member goes missing.
+    Lose {
+        member: MemberName,
+    },
+    /// Not of the server: a member that has sent nothing is to send its last datagram again.
+    Again {
+        member: MemberName,
+    },
+    /// Not of the server: a datagram comes to a member, which takes the keys of its fourth message; or it goes missing.
     Keep {
         member: MemberName,
     },
@@ -116,6 +120,8 @@ pub enum Answer {
     Kept {
         epoch: u32,
     },
+    /// The datagram went missing.
+    Lost,
     /// The reply is older than what the member's store has.
     Older {
         last: u32,

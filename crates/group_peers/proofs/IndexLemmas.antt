@@ -24,10 +24,10 @@ same_name-self m = nat_list_eq_equiv.refl m
 -- a name is at the place where a peer has it
 first_named : (m : Name) (peers : List Peer) → position_or_len (same_name m) (names_of peers) ≡ position_or_len (is_named m) peers
 first_named m [] = refl
-first_named m (peer ∷ peers) = ap (λ n. cond (not (same_name m peer.name)) (1 + n) 0) (first_named m peers)
+first_named m (peer ∷ peers) = ap (λ n. cond (not (same_name m peer.phase.member)) (1 + n) 0) (first_named m peers)
 
 pub position_named : (m : Name) (peers : List Peer) → position (same_name m) (names_of peers) ≡ position (is_named m) peers
-position_named m peers = λ i. cond (ltb (first_named m peers i) (length-map peers (λ (peer : Peer). peer.name) i)) (Some (first_named m peers i)) None
+position_named m peers = λ i. cond (ltb (first_named m peers i) (length-map peers (λ (peer : Peer). peer.phase.member) i)) (Some (first_named m peers i)) None
 
 -- a place is found exactly where one passes
 is_some_if : (b : Bool) (n : ℕ) → is_some (cond b (Some n) None) ≡ b

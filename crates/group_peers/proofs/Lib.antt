@@ -2,3 +2,4 @@ pub mod IndexLemmas
 pub mod NotedLemmas
 pub mod PeerLemmas
 pub mod StepLemmas
+pub mod PeerFacts

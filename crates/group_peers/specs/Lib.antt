@@ -1,3 +1,4 @@
 pub mod Peers
 pub mod Private
+pub mod Pulls
 pub mod Steps

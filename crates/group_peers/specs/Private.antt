@@ -1,3 +1,4 @@
 -- Definitions that only private contracts cite.
 pub mod Indexes
 pub mod Places
+pub mod Told

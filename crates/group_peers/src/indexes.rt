@@ -44,7 +44,7 @@ impl NameIndex {
     {
         match &self.places {
             Some(places) => places.get(member).copied(),
-            None => peers.iter().position(|peer| *member == peer.name),
+            None => peers.iter().position(|peer| *member == peer.phase.member),
         }
     }
 

@@ -1,19 +1,23 @@
 //! The members of a run.
-ghost use Rattle.std.specs.Prelude.{◌≡◌, ◌+◌, ◌<◌, ◌≤◌, [], length, option_copied, slice_index_or, IsTrue, OnOk, OnErr};
+ghost use Rattle.std.specs.Prelude.{◌≡◌, ◌+◌, ◌<◌, ◌≤◌, [], false, length, option_copied, slice_index_or, IsTrue, Ok, OnOk, OnErr};
 ghost use Rattle.member_store.specs.Stores.{IsReply};
 ghost use Rattle.std.specs.List.{position};
-ghost use Rattle.group_peers.specs.Peers.{AreOnce, is_named, is_peer, names_of, store_of, with_peer};
+ghost use Rattle.group_peers.specs.Peers.{AreOnce, introduced, is_named, is_peer, loses, names_of, phase_of, sent_by, store_of, was_introduced, with_loss, with_peer};
+ghost use Rattle.group_peers.specs.Pulls.{Begins, Takes};
+ghost use Rattle.group_peers.specs.declared.pulled.Pulled.TheVariants.{Ignored};
 ghost use Rattle.group_peers.specs.Steps.{IsGiven, IsLeft, Keeps};
 
 use crate::indexes::NameIndex;
-use crate::members::{Peer, give_at, keep_at};
+use crate::members::{Peer, give_at, introduce_at, keep_at, lose_at};
+use crate::pulled::Pulled;
+use crate::pulls::{begin_at, take_at};
 use gd_edges::Verifier;
-use group_terms::{Keyed, MemberName, NoMemory, PushRefusal};
+use group_terms::{GroupName, Keyed, MemberName, NoMemory, Octets, Phase1, PushRefusal};
 use member_store::{MemberStore, Older, Room, Taken};
 use std::alloc::Global;
 use std::marker::Model;
 
-/// The members of a run by their names, in the order in which they were noted; each has a store once it was told its keys.
+/// The members of a run by their names, in the order in which they were noted.
 ///
 /// Contracts see the peers as `items`, and beside them `spare`, how many more there is room for. No two have the same name.
 #[derive(Drop)]
@@ -57,20 +61,108 @@ impl Peers {
         Ok(())
     }
 
-    /// Notes a member down, for which there must be room; nothing changes where it is there already. It takes no memory that it needs.
-    pub fn note(&mut self, member: &MemberName)
-        requires { 1 ≤ self.old.spare }
-        ensures items { self.new.items ≡ with_peer self.old.items member.now }
+    /// Notes a member down that has this SA: there must be room, and no peer of its name. It takes no memory that it needs.
+    pub fn note(&mut self, phase: Phase1)
+        requires room { 1 ≤ self.old.spare }
+        requires new { is_peer self.old.items phase.member ≡ false }
+        ensures items { self.new.items ≡ with_peer self.old.items phase }
         ensures spare { self.old.spare ≤ self.new.spare + 1 }
     {
-        if self.place(member).is_some() {
-            return;
+        self.index.follow(self.list.len(), &phase.member);
+        self.list.push_reserved(Peer::new(phase));
+    }
+
+    /// The SA of a member; `None` exactly where it is no peer.
+    pub fn phase(&self, member: &MemberName) -> Option<Phase1>
+        ensures { result ≡ phase_of self.now.items member.now }
+    {
+        let place = self.place(member)?;
+        Some(self.list[place].phase)
+    }
+
+    /// Whether the SA of a member was introduced.
+    pub fn was_introduced(&self, member: &MemberName) -> bool
+        ensures { result ≡ was_introduced self.now.items member.now }
+    {
+        match self.place(member) {
+            Some(place) => self.list[place].introduced,
+            None => false,
         }
-        self.index.follow(self.list.len(), member);
-        self.list.push_reserved(Peer {
-            name: *member,
-            store: None,
-        });
+    }
+
+    /// The datagram that a member sent last; `None` exactly where it sent nothing.
+    pub fn sent(&self, member: &MemberName) -> Option<&Octets>
+        ensures { option_copied result ≡ sent_by self.now.items member.now }
+    {
+        match self.place(member) {
+            Some(place) => self.list[place].sent.as_ref(),
+            None => None,
+        }
+    }
+
+    /// Whether the next datagram to a member goes missing.
+    pub fn loses(&self, member: &MemberName) -> bool
+        ensures { result ≡ loses self.now.items member.now }
+    {
+        match self.place(member) {
+            Some(place) => self.list[place].loses,
+            None => false,
+        }
+    }
+
+    /// From now on the SA of a member is introduced.
+    pub fn introduce(&mut self, member: &MemberName)
+        ensures items { self.new.items ≡ introduced self.old.items member.now }
+        ensures spare { self.new.spare ≡ self.old.spare }
+    {
+        if let Some(place) = self.place(member) {
+            introduce_at(&mut self.list, place);
+        }
+    }
+
+    /// Lets the next datagram to a member go missing, or come.
+    pub fn lose(&mut self, member: &MemberName, loses: bool)
+        ensures items { self.new.items ≡ with_loss self.old.items member.now loses }
+        ensures spare { self.new.spare ≡ self.old.spare }
+    {
+        if let Some(place) = self.place(member) {
+            lose_at(&mut self.list, place, loses);
+        }
+    }
+
+    /// A member begins a pull for a group, with this message id and nonce (RFC 6407 section 3.2), and sends its first message.
+    pub fn begin(
+        &mut self,
+        alloc: Global,
+        member: &MemberName,
+        message: [u8; 4],
+        ni: [u8; 16],
+        group: &GroupName,
+    ) -> Result<(), NoMemory>
+        requires peer { IsTrue (is_peer self.old.items member.now) }
+        ensures ok { OnOk result (Begins self.old.items member.now message ni group.now self.new.items) }
+        ensures err { OnErr result (self.new.items ≡ self.old.items) }
+        ensures spare { self.new.spare ≡ self.old.spare }
+    {
+        let place = self.place(member).unwrap();
+        begin_at(alloc, &mut self.list, place, message, ni, group)
+    }
+
+    /// Gives a datagram to the pull of a member.
+    pub fn take(
+        &mut self,
+        alloc: Global,
+        member: &MemberName,
+        datagram: &[u8],
+    ) -> Result<Pulled, NoMemory>
+        requires peer { IsTrue (is_peer self.old.items member.now) }
+        ensures takes { Takes self.old.items member.now datagram.now result self.new.items }
+        ensures ignored { result ≡ Ok Ignored → self.new.items ≡ self.old.items }
+        ensures err { OnErr result (self.new.items ≡ self.old.items) }
+        ensures spare { self.new.spare ≡ self.old.spare }
+    {
+        let place = self.place(member).unwrap();
+        take_at(alloc, &mut self.list, place, datagram)
     }
 
     /// How many peers there are.
@@ -86,7 +178,7 @@ impl Peers {
         requires { i < length self.now.items }
         ensures { result ≡ slice_index_or (names_of self.now.items) i [] }
     {
-        self.list[i].name
+        self.list[i].phase.member
     }
 
     /// The store of a member; `None` exactly where it is no peer, or was not told its keys.

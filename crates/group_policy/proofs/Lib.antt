@@ -1,1 +1,2 @@
 pub mod JudgementLemmas
+pub mod JudgementFacts

@@ -13,7 +13,7 @@ use Rattle.std.proofs.lemmas.Slice.Eq.{bytes_eq-Decides}
 use Rattle.group_terms.specs.Names.{Name, same_name}
 use Rattle.group_model.specs.Places.{Holders, is_member}
 use Rattle.group_model.specs.declared.entries.Entry.{Entry}
-use Rattle.group_peers.specs.Peers.{AreOnce, is_named, names_of, store_of}
+use Rattle.group_peers.specs.Peers.{AreOnce, is_named, names_of, new_peer, store_of}
 use Rattle.group_peers.specs.declared.members.Peer.{Peer}
 use Rattle.member_store.specs.Stores.{Store}
 use Rattle.server_steps.specs.Sent.{SentPush, last_push}
@@ -27,35 +27,35 @@ use Rattle.group_run.specs.declared.deliveries.Delivery.{Delivery}
 -- ---- the peer at a place
 
 -- it has this name
-pub name_there : (peers : List Peer) (place : ℕ) (peer : Peer) → slice_get peers place ≡ Some peer → get_or (names_of peers) place [] ≡ peer.name
+pub name_there : (peers : List Peer) (place : ℕ) (peer : Peer) → slice_get peers place ≡ Some peer → get_or (names_of peers) place [] ≡ peer.phase.member
 name_there peers place peer is =
-    get_or_from_slice_get (names_of peers) place peer.name []
-    (slice_get-map (λ (one : Peer). one.name) peers place ∙ ap (option_map (λ (one : Peer). one.name)) is)
+    get_or_from_slice_get (names_of peers) place peer.phase.member []
+    (slice_get-map (λ (one : Peer). one.phase.member) peers place ∙ ap (option_map (λ (one : Peer). one.phase.member)) is)
 
 -- where no name comes twice, what is found by its name is it
-pub store_there : (peers : List Peer) (place : ℕ) (peer : Peer) → AreOnce peers → slice_get peers place ≡ Some peer → store_of peers peer.name ≡ peer.store
+pub store_there : (peers : List Peer) (place : ℕ) (peer : Peer) → AreOnce peers → slice_get peers place ≡ Some peer → store_of peers peer.phase.member ≡ peer.store
 store_there [] place peer once is = absurd (none-some peer is)
 store_there (first ∷ peers) zero peer once is =
-    ap (λ b. option_and_then (λ (one : Peer). one.store) (cond b (Some first) (find (is_named peer.name) peers)))
-    ((bytes_eq-Decides peer.name first.name).1 (ap (λ (one : Peer). one.name) (sym (same_Some first peer is))))
+    ap (λ b. option_and_then (λ (one : Peer). one.store) (cond b (Some first) (find (is_named peer.phase.member) peers)))
+    ((bytes_eq-Decides peer.phase.member first.phase.member).1 (ap (λ (one : Peer). one.phase.member) (sym (same_Some first peer is))))
     ∙ ap (λ (one : Peer). one.store) (same_Some first peer is)
 store_there (first ∷ peers) (suc place) peer once is =
-    by_name (same_name peer.name first.name) refl (store_there peers place peer (IsDistinct-tail same_name first.name (names_of peers) once) is)
+    by_name (same_name peer.phase.member first.phase.member) refl (store_there peers place peer (IsDistinct-tail same_name first.phase.member (names_of peers) once) is)
   where
     within : suc place < length (names_of (first ∷ peers))
-    within = omega (arith, length-map peers (λ (one : Peer). one.name), slice_get_within peers place peer is)
+    within = omega (arith, length-map peers (λ (one : Peer). one.phase.member), slice_get_within peers place peer is)
 
-    apart : same_name first.name peer.name ≡ false
+    apart : same_name first.phase.member peer.phase.member ≡ false
     apart =
-        subst (λ name. same_name first.name name ≡ false) (name_there peers place peer is)
+        subst (λ name. same_name first.phase.member name ≡ false) (name_there peers place peer is)
         (apart_from_distinct same_name (names_of (first ∷ peers)) 0 (suc place) [] once (omega arith) within)
 
-    by_name : (b : Bool) → same_name peer.name first.name ≡ b → store_of peers peer.name ≡ peer.store
-        → option_and_then (λ (one : Peer). one.store) (cond (same_name peer.name first.name) (Some first) (find (is_named peer.name) peers)) ≡ peer.store
+    by_name : (b : Bool) → same_name peer.phase.member first.phase.member ≡ b → store_of peers peer.phase.member ≡ peer.store
+        → option_and_then (λ (one : Peer). one.store) (cond (same_name peer.phase.member first.phase.member) (Some first) (find (is_named peer.phase.member) peers)) ≡ peer.store
     by_name true same rest =
-        absurd (cc (sym apart ∙ (bytes_eq-Decides first.name peer.name).1 (sym ((bytes_eq-Decides peer.name first.name).0 same))))
+        absurd (cc (sym apart ∙ (bytes_eq-Decides first.phase.member peer.phase.member).1 (sym ((bytes_eq-Decides peer.phase.member first.phase.member).0 same))))
     by_name false other rest =
-        ap (λ b. option_and_then (λ (one : Peer). one.store) (cond b (Some first) (find (is_named peer.name) peers))) other ∙ rest
+        ap (λ b. option_and_then (λ (one : Peer). one.store) (cond b (Some first) (find (is_named peer.phase.member) peers))) other ∙ rest
 
 -- ---- who waits
 
@@ -75,9 +75,9 @@ module _ (holders : Holders) (peers : List Peer) (place : ℕ) where
   pub waits_there : (m : Name) (store : Store) (last : ℕ) → place < length peers → m ≡ get_or (names_of peers) place [] → AreOnce peers
       → is_member holders m ≡ true → store_of peers m ≡ Some store → last ≡ store.sequence → IsWaiting holders peers place m last
   waits_there m store last within is once member has accepted =
-      let peer : Peer = get_or peers place (record { name = []; store = None }) in
-      let there : slice_get peers place ≡ Some peer = slice_get-get_or peers place (record { name = []; store = None }) within in
-      let same : m ≡ peer.name = is ∙ name_there peers place peer there in
+      let peer : Peer = get_or peers place (new_peer (record { member = []; cookies = []; skeyid_a = []; key = []; last = [] })) in
+      let there : slice_get peers place ≡ Some peer = slice_get-get_or peers place (new_peer (record { member = []; cookies = []; skeyid_a = []; key = []; last = [] })) within in
+      let same : m ≡ peer.phase.member = is ∙ name_there peers place peer there in
       record {
         peer = peer;
         is_there = there;
@@ -94,7 +94,7 @@ module _ (holders : Holders) (peers : List Peer) (place : ℕ) where
 
   one_name : (m n : Name) (last more : ℕ) → IsWaiting holders peers place m last → IsWaiting holders peers place n more → m ≡ n
   one_name m n last more one two =
-      one.named ∙ ap (λ (peer : Peer). peer.name) (one_peer m n last more one two) ∙ sym two.named
+      one.named ∙ ap (λ (peer : Peer). peer.phase.member) (one_peer m n last more one two) ∙ sym two.named
 
   one_last : (m n : Name) (last more : ℕ) → IsWaiting holders peers place m last → IsWaiting holders peers place n more → last ≡ more
   one_last m n last more one two =

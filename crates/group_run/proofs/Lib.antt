@@ -1,8 +1,11 @@
 mod AddLemmas
 mod DueLemmas
-mod GrantLemmas
 mod KeptLemmas
+mod LeftLemmas
+mod MailLemmas
 mod MemberLemmas
 mod MoveLemmas
 mod OpenLemmas
+mod ReadLemmas
 mod SentLemmas
+mod ServedLemmas

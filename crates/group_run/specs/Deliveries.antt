@@ -1,5 +1,5 @@
--- Which push (RFC 6407 section 4) is given to which member next, where all members are given what they missed: the members in the order in which their joins
--- were first granted, and to each of them the pushes by rising number.
+-- Which push (RFC 6407 section 4) is given to which member next, where all members are given what they missed: the members in the order in which they
+-- were first used, and to each of them the pushes by rising number.
 use Rattle.std.specs.Prelude.{◌≡◌, ◌⊎◌, ◌<◌, true, List, Option, None, Some, slice_get}
 use Rattle.group_model.specs.Places.{Holders, is_member}
 use Rattle.group_model.specs.declared.entries.Entry.{Entry}
@@ -22,8 +22,8 @@ module _ (holders : Holders) (peers : List Peer) (before : List Entry) where
   pub record IsDue (delivery : Delivery) : Type 0 where
     pub peer : Peer
     pub is_there : slice_get peers delivery.place ≡ Some peer
-    pub named : delivery.member ≡ peer.name
-    pub member : is_member holders peer.name ≡ true
+    pub named : delivery.member ≡ peer.phase.member
+    pub member : is_member holders peer.phase.member ≡ true
     pub store : Store
     pub has : peer.store ≡ Some store
     pub push : SentPush

@@ -1,7 +1,11 @@
 pub mod Deliveries
+pub mod Mails
 pub mod Moves
 pub mod Openings
 pub mod Private
+pub mod Pulls
+pub mod Reads
 pub mod Reflects
+pub mod Stays
 pub mod Tells
 pub mod Views

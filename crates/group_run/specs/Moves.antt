@@ -7,27 +7,29 @@ use Rattle.group_model.specs.declared.entries.Answer.{Answer}
 use Rattle.group_model.specs.declared.entries.Asked.{Asked}
 use Rattle.group_model.specs.declared.entries.Entry.{Entry}
 use Rattle.group_model.specs.declared.entries.Outside.{Outside}
-use Rattle.server_steps.specs.Serves.{GoesOn}
-use Rattle.member_steps.specs.Members.{Members}
-use Rattle.group_steps.specs.Runs.{Run}
-use Rattle.group_steps.specs.Steps.{IsActing, IsServing, IsStepBy}
 use Rattle.group_run.specs.Reflects.{Reflects}
-use Rattle.group_run.specs.Views.{View, server_in}
+use Rattle.group_run.specs.Views.{View}
+use Rattle.group_steps.specs.Runs.{Run, with_members}
+use Rattle.group_steps.specs.Steps.{IsActing, IsServing, IsStepBy}
+use Rattle.member_steps.specs.Members.{Members}
+use Rattle.server_steps.specs.Serves.{GoesOn}
 
--- One entry was added, which answers a request by such a step. Whatever run was reflected before, the entry is a step from it, and the run after that step is
--- reflected then.
-pub record Moves {D G R : Type 0} (d : DiskGhosts D) (draws : DrawGhosts R) (step : Run D → Answer → Outside → Run D → Type 0) (request : Asked)
-    (old new : View D G R) : Type 0 where
+-- One entry was added, which answers a request by such a step, once the members are these. Whatever run was reflected before, the entry is a step from it with
+-- these members, and the run after that step is reflected then.
+pub record Moves {D G R : Type 0} (d : DiskGhosts D) (draws : DrawGhosts R) (step : Run D → Answer → Outside → Run D → Type 0) (acted : Members)
+    (request : Asked) (old new : View D G R) : Type 0 where
   pub entry : Entry
   pub added : new.entries ≡ old.entries ++ entry ∷ []
   pub asked : entry.asked ≡ request
-  pub goes_on : GoesOn draws (server_in old) (server_in new)
-  pub each : (run : Run D) → Reflects d draws old run → (next : Run D) × IsStepBy d step run entry next × Reflects d draws new next
+  pub goes_on : GoesOn draws old.server new.server
+  pub each : (run : Run D) → Reflects d draws old run
+      → (next : Run D) × IsStepBy d step (with_members run acted) entry next × Reflects d draws new next
 
--- the server served the request, and then the members got what it told
-abbrev pub Serves : {D G R : Type 0} → DiskGhosts D → SignerGhosts G → DrawGhosts R → Asked → View D G R → View D G R → Type 0
-Serves d g draws request old new = Moves d draws (IsServing d g old.core.signer (draws.block_at old.core.draws) request) request old new
+-- the server served the request, and what it sent is on its way to the members
+abbrev pub Serves : {D G R : Type 0} → DiskGhosts D → SignerGhosts G → DrawGhosts R → Members → Asked → View D G R → View D G R → Type 0
+Serves d g draws acted request old new =
+    Moves d draws (IsServing d g old.server.core.signer (draws.block_at old.server.core.draws) request) acted request old new
 
 -- a member acted so
-abbrev pub Acts : {D G R : Type 0} → DiskGhosts D → DrawGhosts R → (Members → Answer → Members → Type 0) → Asked → View D G R → View D G R → Type 0
-Acts d draws acts request old new = Moves d draws (IsActing acts) request old new
+abbrev pub Acts : {D G R : Type 0} → DiskGhosts D → DrawGhosts R → (Members → Answer → Members → Type 0) → Members → Asked → View D G R → View D G R → Type 0
+Acts d draws acts acted request old new = Moves d draws (IsActing acts) acted request old new

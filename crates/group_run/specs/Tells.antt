@@ -1,23 +1,34 @@
--- Who is told its keys next (RFC 6407 section 3.2).
-use Rattle.std.specs.Prelude.{◌≡◌, [], ◌∷◌}
+-- What comes of the next datagram that is on its way (RFC 6407 section 3.2).
+use Rattle.std.specs.Prelude.{◌≡◌, ℕ, List, Some}
 use Rattle.gd_disk.specs.declared.disks.Disk.{Ghosts as DiskGhosts}
 use Rattle.gd_edges.specs.declared.draws.Draws.{Ghosts as DrawGhosts}
+use Rattle.gd_edges.specs.declared.signers.Signer.{Ghosts as SignerGhosts}
 use Rattle.group_terms.specs.Names.{Name}
-use Rattle.group_terms.specs.declared.paths.Keyed.{Keyed}
-use Rattle.group_model.specs.declared.entries.Asked.TheVariants.{Keep}
-use Rattle.member_steps.specs.Steps.{IsKeeping}
-use Rattle.group_run.specs.Moves.{Acts}
+use Rattle.group_model.specs.declared.entries.Asked.TheVariants.{Keep, Serve}
+use Rattle.group_run.specs.Moves.{Acts, Serves}
+use Rattle.group_run.specs.Reads.{AreAtRest, ReadsMail}
 use Rattle.group_run.specs.Views.{View}
+use Rattle.member_steps.specs.Members.{Members}
+use Rattle.member_steps.specs.Steps.{IsKeeping}
 
-module _ {D G R : Type 0} (d : DiskGhosts D) (draws : DrawGhosts R) where
-  -- the first of the replies that are on their way came to its member, and is not on its way any more
-  pub record TellsNext (old new : View D G R) : Type 0 where
-    pub member : Name
-    pub keyed : Keyed
-    pub is_first : old.members.mail ≡ (member, keyed) ∷ new.members.mail
-    pub acts : Acts d draws (IsKeeping member) (Keep member) old new
+module _ {D G R : Type 0} (d : DiskGhosts D) (g : SignerGhosts G) (draws : DrawGhosts R) where
+  -- a member answered a second message by the third one, which was served
+  pub record SendsNext (old new : View D G R) : Type 0 where
+    pub m : Name
+    pub third : List ℕ
+    pub acted : Members
+    pub asks : ReadsMail old.members (Some (Serve m third, acted))
+    pub serves : Serves d g draws acted (Serve m third) old new
 
-  -- none is
-  pub record AllWereTold (old new : View D G R) : Type 0 where
-    pub all : old.members.mail ≡ []
-    pub stays : new ≡ old
+  -- a datagram went missing, or a member took the keys of its fourth message
+  pub record KeepsNext (old new : View D G R) : Type 0 where
+    pub m : Name
+    pub acted : Members
+    pub asks : ReadsMail old.members (Some (Keep m, acted))
+    pub acts : Acts d draws (IsKeeping m) acted (Keep m) old new
+
+  -- nothing was left but what members ignore, and no entry was added
+  pub record AllIsRead (old new : View D G R) : Type 0 where
+    pub rest : Members
+    pub at_rest : AreAtRest old.members rest
+    pub now : new ≡ record old { members = rest }

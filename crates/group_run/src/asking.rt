@@ -2,6 +2,7 @@
 ghost use Rattle.std.specs.Prelude.{◌≡◌, OnOk, OnErr};
 ghost use Rattle.group_model.specs.declared.entries.Asked.TheVariants as requests;
 ghost use Rattle.group_steps.specs.Questions.{IsQuestion};
+ghost use Rattle.group_run.specs.Stays.{MailStays, RulesStay};
 ghost use Rattle.group_run.specs.Moves.{Moves, Serves};
 
 use crate::GroupRun;
@@ -15,13 +16,14 @@ use sym_closure::what_is_known_stays_known;
 impl<D: Disk, G: Signer, R: Draws> GroupRun<D, G, R> {
     /// Asks who has which leaf.
     pub fn show(&mut self, alloc: Global) -> Result<(), NoMemory>
-        ensures ok { OnOk result (Serves D.Disk G.Signer R.Draws requests.Show self.old self.new) }
+        ensures ok { OnOk result (Serves D.Disk G.Signer R.Draws self.old.members requests.Show self.old self.new) }
+        ensures stays { OnOk result (MailStays self.old self.new) }
         ensures err { OnErr result (self.new ≡ self.old) }
     {
         what_is_known_stays_known();
         self.entries.reserve(1)?;
-        let place = self.core.draws_at();
-        let answer = server_steps::show(alloc, &self.core)?;
+        let place = self.server.draws_at();
+        let answer = self.server.show(alloc)?;
         self.entries.add(entry(Asked::Show, answer, place));
         Ok(())
     }
@@ -34,14 +36,15 @@ impl<D: Disk, G: Signer, R: Draws> GroupRun<D, G, R> {
         epoch: u32,
         members: MemberNames,
     ) -> Result<(), NoMemory>
-        ensures ok { OnOk result (Moves D.Disk R.Draws (IsQuestion self.old.entries epoch members) (requests.Derive epoch members) self.old self.new) }
+        ensures ok { OnOk result (Moves D.Disk R.Draws (IsQuestion self.old.entries epoch members) self.old.members (requests.Derive epoch members) self.old self.new) }
+        ensures stays { OnOk result (MailStays self.old self.new) }
         ensures err { OnErr result (self.new ≡ self.old) }
     {
         what_is_known_stays_known();
         self.entries.reserve(1)?;
         self.sent.follow(alloc, self.entries.items())?;
         let yes = self.sent.derives(alloc, members.names(), epoch)?;
-        let place = self.core.draws_at();
+        let place = self.server.draws_at();
         let asked = Asked::Derive { epoch, members };
         self.entries
             .add(entry(asked, Answer::Derived { yes }, place));

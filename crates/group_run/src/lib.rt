@@ -2,7 +2,7 @@
 #![tactic(auto)]
 
 pub use deliveries::Delivery;
-pub use gcks_core::{NewGroup, Parts};
+pub use group_server::{NewGroup, Parts};
 pub use runs::GroupRun;
 pub use unopened::Unopened;
 
@@ -11,8 +11,11 @@ mod batching;
 mod changing;
 mod deliveries;
 mod delivering;
+mod keys;
 mod opening;
+mod pulling;
+mod reading;
 mod runs;
 mod sending;
-mod telling;
 mod unopened;
+mod unread;

@@ -6,23 +6,28 @@ ghost use Rattle.group_model.specs.declared.entries.Asked.TheVariants as request
 ghost use Rattle.gcks_core.specs.Stands.{Stands};
 ghost use Rattle.group_model.specs.Servers.{Server};
 ghost use Rattle.server_steps.specs.Entries.{noted};
+ghost use Rattle.server_steps.specs.Hosts.{Host};
 ghost use Rattle.server_steps.specs.Openings.{IsBeginning, IsCreation};
+ghost use Rattle.server_steps.specs.Reflects.{IsServerOf};
 ghost use Rattle.server_steps.specs.Sent.{pair_by};
 ghost use Rattle.server_steps.specs.Serves.{answer_reopened};
 ghost use Rattle.member_steps.specs.Members.{nobody};
-ghost use Rattle.group_steps.specs.Runs.{no_run};
+ghost use Rattle.group_steps.specs.Runs.{no_run, outset_of};
+ghost use Rattle.group_run.specs.Stays.{MailStays, RulesStay};
 ghost use Rattle.group_run.specs.Moves.{Serves};
+ghost use Rattle.group_run.specs.Mails.{mail_of_answer};
 ghost use Rattle.group_run.specs.Openings.{FailsToOpen, Opens};
 
 use crate::sending::note_pushes;
+use crate::unread::Unread;
 use crate::{GroupRun, Unopened};
-use gcks_core::{Core, CoreOpened, NewGroup, Opening, Parts, PushPair, Refusal};
 use gd_disk::Disk;
 use gd_edges::{Draws, Signer};
-use group_model::{Answer, Asked, Entry, List, Log, NoMemory};
+use group_model::{Answer, Asked, Entry, List, Log, NoMemory, PushPair, Refusal};
+use group_server::{GroupServer, NewGroup, Opening, Parts, ServerOpened};
 use member_steps::Members;
 use sent_pushes::SentPushes;
-use server_steps::{ShowRoom, a_reopening_is_served, entry, show_opened};
+use server_steps::{ShowRoom, a_reopening_is_served, entry};
 use std::alloc::Global;
 use sym_closure::{Sent, what_is_known_stays_known};
 
@@ -32,7 +37,7 @@ struct Ready {
     members: Members,
     pushes: SentPushes,
     entries: Log<Entry>,
-    ghost nobody: { members.members ≡ nobody },
+    ghost nobody: { members.all ≡ [] },
     ghost no_pushes: { pushes.items ≡ [] },
     ghost room_for_pushes: { 2 ≤ pushes.spare },
     ghost no_entries: { entries.items ≡ [] },
@@ -46,27 +51,32 @@ impl<D: Disk, G: Signer, R: Draws> GroupRun<D, G, R> {
         alloc: Global,
         parts: Parts<D, G, R>,
         group: &NewGroup,
+        phases: u32,
+        members_place: u64,
     ) -> Result<Self, Unopened<D, G, R>>
+        requires some { 1 ≤ phases }
+        requires few { phases ≤ 65536 }
         requires shallow { 1 ≤ group.now.depth }
         requires not_deep { group.now.depth ≤ 9 }
         requires limited { 1 ≤ group.now.limit }
         ensures ok { IfOk result (Opens D.Disk R.Draws (IsCreation D.Disk (R.block_at parts.draws) group.now.depth) (requests.Create group.now.depth)
-            (no_run parts.disk group.now.name group.now.limit (R.place_of parts.draws))) }
-        ensures goes_on { IfOk result (λ run. (run.core.signer ≡ parts.signer) × ((k : ℕ) → R.block_at run.core.draws k ≡ R.block_at parts.draws k)) }
+            (no_run (outset_of parts.disk group.now.name group.now.limit (R.place_of parts.draws) members_place phases))) }
+        ensures begins { IfOk result (λ run. (run.server.rules ≡ []) × (run.members.mail ≡ []) × (run.members.place ≡ members_place)) }
+        ensures goes_on { IfOk result (λ run. (run.server.core.signer ≡ parts.signer) × ((k : ℕ) → R.block_at run.server.core.draws k ≡ R.block_at parts.draws k)) }
         ensures err { IfErr result (λ unopened. FailsToOpen D.Disk (IsCreation D.Disk (R.block_at parts.draws) group.now.depth)
-            (requests.Create group.now.depth) (no_run parts.disk group.now.name group.now.limit (R.place_of parts.draws))
+            (requests.Create group.now.depth) (no_run (outset_of parts.disk group.now.name group.now.limit (R.place_of parts.draws) members_place phases))
             unopened.history unopened.parts.disk) }
     {
-        let Ok((ready, room)) = make_ready(alloc) else {
+        let Ok((ready, room)) = make_ready(alloc, members_place) else {
             let history = List::new(alloc);
             return Err(Unopened { history, parts });
         };
         let asked = Asked::Create { depth: group.depth };
         let place = parts.draws.place();
-        match server_steps::create(alloc, parts, group) {
-            Ok(core) => {
-                let answer = show_opened(&core, None, room);
-                Ok(opened(alloc, core, answer, asked, place, ready))
+        match GroupServer::create(alloc, parts, group, phases) {
+            Ok(server) => {
+                let answer = server.show_opened(None, room);
+                Ok(opened(alloc, server, answer, asked, place, ready))
             }
             Err(opening) => Err(refused(opening, asked, place, ready)),
         }
@@ -74,22 +84,30 @@ impl<D: Disk, G: Signer, R: Draws> GroupRun<D, G, R> {
 
     /// Opens the group on the disk of these parts. Where that is refused (`DiskFault`, `NotAJournal` with its place, `NoMemory`), the parts come back as where
     /// none is made.
-    pub fn open(alloc: Global, parts: Parts<D, G, R>) -> Result<Self, Unopened<D, G, R>>
+    pub fn open(
+        alloc: Global,
+        parts: Parts<D, G, R>,
+        phases: u32,
+        members_place: u64,
+    ) -> Result<Self, Unopened<D, G, R>>
+        requires some { 1 ≤ phases }
+        requires few { phases ≤ 65536 }
         ensures ok { IfOk result (λ run. (name : Name) (limit : ℕ) → Opens D.Disk R.Draws (IsBeginning D.Disk G.Signer parts.signer) requests.Begin
-            (no_run parts.disk name limit (R.place_of parts.draws)) run) }
-        ensures goes_on { IfOk result (λ run. (run.core.signer ≡ parts.signer) × ((k : ℕ) → R.block_at run.core.draws k ≡ R.block_at parts.draws k)) }
+            (no_run (outset_of parts.disk name limit (R.place_of parts.draws) members_place phases)) run) }
+        ensures begins { IfOk result (λ run. (run.server.rules ≡ []) × (run.members.mail ≡ []) × (run.members.place ≡ members_place)) }
+        ensures goes_on { IfOk result (λ run. (run.server.core.signer ≡ parts.signer) × ((k : ℕ) → R.block_at run.server.core.draws k ≡ R.block_at parts.draws k)) }
         ensures err { IfErr result (λ unopened. (name : Name) (limit : ℕ) → FailsToOpen D.Disk (IsBeginning D.Disk G.Signer parts.signer) requests.Begin
-            (no_run parts.disk name limit (R.place_of parts.draws)) unopened.history unopened.parts.disk) }
+            (no_run (outset_of parts.disk name limit (R.place_of parts.draws) members_place phases)) unopened.history unopened.parts.disk) }
     {
-        let Ok((ready, room)) = make_ready(alloc) else {
+        let Ok((ready, room)) = make_ready(alloc, members_place) else {
             let history = List::new(alloc);
             return Err(Unopened { history, parts });
         };
         let place = parts.draws.place();
-        match server_steps::open(alloc, parts) {
-            Ok(CoreOpened { core, resent }) => {
-                let answer = show_opened(&core, resent, room);
-                Ok(opened(alloc, core, answer, Asked::Begin, place, ready))
+        match GroupServer::open(alloc, parts, phases) {
+            Ok(ServerOpened { server, resent }) => {
+                let answer = server.show_opened(resent, room);
+                Ok(opened(alloc, server, answer, Asked::Begin, place, ready))
             }
             Err(opening) => Err(refused(opening, Asked::Begin, place, ready)),
         }
@@ -97,28 +115,35 @@ impl<D: Disk, G: Signer, R: Draws> GroupRun<D, G, R> {
 
     /// Opens the group again, from its journal. Where memory runs out, the history may have it as refused for that.
     pub fn reopen(&mut self, alloc: Global) -> Result<(), NoMemory>
-        ensures ok { OnOk result (Serves D.Disk G.Signer R.Draws requests.Reopen self.old self.new) }
+        ensures ok { OnOk result (Serves D.Disk G.Signer R.Draws self.old.members requests.Reopen self.old self.new) }
+        ensures stays { OnOk result (RulesStay self.old self.new) }
+        ensures rest { OnOk result (self.new.members.mail ≡ []) }
         ensures err { OnErr result (self.new ≡ self.old) }
     {
         what_is_known_stays_known();
         a_reopening_is_served::<D, G, R>();
         self.entries.reserve(1)?;
         self.pushes.reserve(2)?;
-        let place = self.core.draws_at();
+        let place = self.server.draws_at();
         let room = ShowRoom::new(alloc)?;
-        let reopened = server_steps::reopen(alloc, &mut self.core);
-        let answer = answer_reopened(&self.core, reopened, room);
-        self.members.lose_mail();
+        let reopened = self.server.reopen(alloc);
+        let answer = answer_reopened(&self.server, reopened, room);
         note_pushes(&mut self.pushes, &answer, self.entries.items().len());
         self.entries.add(entry(Asked::Reopen, answer, place));
+        self.unread = Unread {
+            place: self.entries.items().len(),
+            taken: 0,
+        };
         Ok(())
     }
 }
 
-fn make_ready(alloc: Global) -> Result<(Ready, ShowRoom), NoMemory> {
+fn make_ready(alloc: Global, members_place: u64) -> Result<(Ready, ShowRoom), NoMemory>
+    ensures { IfOk result (λ made. made.0.members.place ≡ members_place) }
+{
     let mut pushes = SentPushes::new(alloc);
     pushes.reserve(2)?;
-    let members = Members::new(alloc)?;
+    let members = Members::new(alloc, members_place)?;
     let mut entries = Log::of(List::new(alloc));
     entries.reserve(1)?;
     let ready = Ready {
@@ -129,34 +154,34 @@ fn make_ready(alloc: Global) -> Result<(Ready, ShowRoom), NoMemory> {
     Ok((ready, ShowRoom::new(alloc)?))
 }
 
-/// The answer of a core that was opened again, or not.
+/// The answer of a server that was opened again, or not.
 fn answer_reopened<D: Disk, G: Signer, R: Draws>(
-    core: &Core<D, G, R>,
+    server: &GroupServer<D, G, R>,
     reopened: Result<Option<PushPair>, Refusal>,
     room: ShowRoom,
 ) -> Answer
-    requires fits { IfOk reopened (λ resent. IfSome resent (λ pair. pair.first + 1 < 2 ^ 32)) }
-    ensures shows { (server : Server) → Stands R.Draws core.now server → result ≡ answer_reopened server reopened }
-    ensures fits { IfSome (pair_by result) (λ pair. pair.first + 1 < 2 ^ 32) }
+    ensures { (one : Server) → Stands R.Draws server.now.core one → result ≡ answer_reopened one reopened }
 {
     match reopened {
-        Ok(resent) => show_opened(core, resent, room),
+        Ok(resent) => server.show_opened(resent, room),
         Err(why) => Answer::Refused { why },
     }
 }
 
-/// The run of a core that was just made or opened, with this answer.
+/// The run of a server that was just made or opened, with this answer.
 fn opened<D: Disk, G: Signer, R: Draws>(
     alloc: Global,
-    core: Core<D, G, R>,
+    server: GroupServer<D, G, R>,
     answer: Answer,
     asked: Asked,
     place: u64,
     ready: Ready,
 ) -> GroupRun<D, G, R>
-    requires nothing_waits { core.queue ≡ [] }
+    requires host { (host : Host D) × IsServerOf D.Disk R.Draws server host }
+    requires nobody { server.sessions.sas ≡ [] }
+    requires silent { mail_of_answer asked answer ≡ [] }
     requires fits { IfSome (pair_by answer) (λ pair. pair.first + 1 < 2 ^ 32) }
-    ensures { result ≡ record { core = core; members = nobody; entries = noted asked answer place ∷ [] } }
+    ensures { result ≡ record { server = server; members = nobody ready.members.place; entries = noted asked answer place ∷ [] } }
 {
     let Ready {
         members,
@@ -167,8 +192,9 @@ fn opened<D: Disk, G: Signer, R: Draws>(
     entries.add(entry(asked, answer, place));
     let sent = Sent::new(alloc);
     GroupRun {
-        core,
+        server,
         members,
+        unread: Unread { place: 0, taken: 0 },
         sent,
         pushes,
         entries,

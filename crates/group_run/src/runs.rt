@@ -2,10 +2,11 @@
 ghost use Rattle.std.specs.Prelude.{◌≡◌, List, [], ◌++◌, ◌∷◌, MatchOption};
 ghost use Rattle.group_model.specs.declared.entries.Entry.{Entry};
 
-use gcks_core::{Core, Parts};
+use crate::unread::Unread;
 use gd_disk::Disk;
 use gd_edges::{Draws, Signer};
 use group_model::{Entry, List, Log};
+use group_server::{GroupServer, Parts};
 use member_steps::Members;
 use sent_pushes::SentPushes;
 use std::marker::Model;
@@ -16,8 +17,10 @@ use sym_closure::Sent;
 /// Each request adds one entry. It may run out of memory before it does anything; then the history is as it was.
 #[derive(Drop)]
 pub struct GroupRun<D: Disk, G: Signer, R: Draws> {
-    pub(crate) core: Core<D, G, R>,
+    pub(crate) server: GroupServer<D, G, R>,
     pub(crate) members: Members,
+    /// What is on its way to the members.
+    pub(crate) unread: Unread,
     /// What was sent so far, by key names.
     pub(crate) sent: Sent,
     /// Which entry sent the last push of each number.
@@ -26,14 +29,18 @@ pub struct GroupRun<D: Disk, G: Signer, R: Draws> {
 }
 
 impl<D: Disk, G: Signer, R: Draws> Model for GroupRun<D, G, R> {
-    ghost use Rattle.group_run.specs.Private.Kept.{IsKept};
+    ghost use Rattle.group_run.specs.Private.Kept.{IsKept, members_at};
     ghost use Rattle.group_run.specs.Views.{View};
 
     ghost Value = { View D G R };
 
-    ghost view = { λ run. record { core = run.core; members = run.members.members; entries = run.entries.items } };
+    ghost view = { λ run. record {
+      server = run.server;
+      members = members_at run.members run.entries.items run.unread;
+      entries = run.entries.items;
+    } };
 
-    ghost invariant = { λ run. IsKept run.core.queue run.members.members.all run.sent run.pushes.items run.entries.items };
+    ghost invariant = { λ run. IsKept D.Disk R.Draws run.server run.members.all run.unread run.sent run.pushes.items run.entries.items };
 }
 
 impl<D: Disk, G: Signer, R: Draws> GroupRun<D, G, R> {
@@ -46,24 +53,25 @@ impl<D: Disk, G: Signer, R: Draws> GroupRun<D, G, R> {
 
     /// Whether the server has to be opened again.
     pub fn needs_reopen(&self) -> bool
-        ensures { result ≡ self.now.core.need }
+        ensures { result ≡ self.now.server.core.need }
     {
-        self.core.needs_reopen()
+        self.server.needs_reopen()
     }
 
     /// The history, and what the group stood on.
     pub fn into_parts(self) -> (List<Entry>, Parts<D, G, R>)
         ensures history { result.0 ≡ self.entries }
-        ensures disk { result.1.disk ≡ self.core.disk }
-        ensures others { (result.1.signer ≡ self.core.signer) × (result.1.draws ≡ self.core.draws) }
+        ensures disk { result.1.disk ≡ self.server.core.disk }
+        ensures others { (result.1.signer ≡ self.server.core.signer) × (result.1.draws ≡ self.server.core.draws) }
     {
         let GroupRun {
-            core,
+            server,
             members: _,
+            unread: _,
             sent: _,
             pushes: _,
             entries,
         } = self;
-        (entries.into_list(), core.into_parts())
+        (entries.into_list(), server.close())
     }
 }

@@ -35,6 +35,7 @@ fn sent_by(answer: &Answer) -> Option<&PushPair>
         | Answer::Queued
         | Answer::Shown { .. }
         | Answer::Kept { .. }
+        | Answer::Lost
         | Answer::Older { .. }
         | Answer::TookRoot { .. }
         | Answer::TookTraffic { .. }

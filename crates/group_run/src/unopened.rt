@@ -1,6 +1,6 @@
 //! What is left where no group was opened.
-use gcks_core::Parts;
 use group_model::{Entry, List};
+use group_server::Parts;
 
 /// What is left where no group was made or opened: the history, which has the refusal, or nothing where memory ran out before anything was done; and what the
 /// group would stand on.

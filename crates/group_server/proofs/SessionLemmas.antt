@@ -1,25 +1,22 @@
 -- Whose session awaits the batch, after each change of sessions and of the changes that wait.
 use Rattle.std.proofs.Common.{◌≡◌, ◌∙◌, ◌||◌, Bool, true, false, List, [], ◌∷◌, ◌++◌, Option, None, Some, Result, Ok, Err, map, refl, sym, ap, subst, inl, inr}
 use Rattle.std.specs.Prelude.{option_and_then}
-use Rattle.std.specs.List.{list_any}
 use Rattle.std.specs.Option.{option_map}
 use Rattle.std.specs.Cmp.Lexicographic.{nat_list_eq_equiv}
 use Rattle.std.proofs.lemmas.Bool.{cases_Bool, cond-true, cond-false}
 use Rattle.std.proofs.lemmas.Slice.Eq.{bytes_eq-Decides}
-use Rattle.group_terms.specs.Changes.{is_pending, joiners}
+use Rattle.group_terms.specs.Changes.{is_pending}
 use Rattle.group_terms.specs.Names.{Name, same_name}
 use Rattle.group_terms.specs.declared.changes.Change.{Change}
 use Rattle.group_terms.specs.declared.changes.Change.TheVariants.{In, Out}
 use Rattle.group_terms.specs.declared.phases.Phase1.{Phase1}
 use Rattle.group_model.specs.declared.entries.Refusal.{Refusal}
-use Rattle.group_model.specs.declared.entries.SentReply.{SentReply}
 use Rattle.pull_sessions.specs.Sessions.{has_queued, is_of, is_queued, is_queued_of, new_sa, put_session, put_sessions, sa_of, sessions_ended}
 use Rattle.pull_sessions.specs.declared.sas.Sa.{Sa}
 use Rattle.pull_sessions.specs.declared.sas.Session.{Session}
-use Rattle.server_steps.specs.Fourths.{reply_to, settle, settled_by, settled_in}
 use Rattle.server_steps.specs.Serves.{answer_done}
 use Rattle.server_steps.specs.Waiting.{queue_after_leave}
-use Rattle.group_server.specs.Invariants.{JoinsHaveSessions, is_joining}
+use Rattle.server_steps.specs.Joining.{JoinsHaveSessions, is_joining}
 
 -- ---- names
 
@@ -159,55 +156,6 @@ waits_introduced phase sas n = queued_found (sas ++ new_sa phase ∷ []) n ∙ (
       | inr other ↦ ap queued_in (cond-false (is_of n sa) (Some sa) (sa_of (sas ++ new_sa phase ∷ []) n) other)
           ∙ (by sas ∙ ap queued_in (sym (cond-false (is_of n sa) (Some sa) (sa_of sas n) other)))
     ]
-
--- ---- a batch
-
--- a name among those that replies go to has one of them
-has_reply : (replies : List SentReply) (n : Name) → list_any (same_name n) (map (λ (reply : SentReply). reply.says.member) replies) ≡ true
-    → (reply : SentReply) × (reply_to replies n ≡ Some reply)
-has_reply [] n is = absurd (cc)
-has_reply (reply ∷ replies) n is = elim (cases_Bool (same_name reply.says.member n)) [
-  | inl its ↦ (reply, cond-true (same_name reply.says.member n) (Some reply) (reply_to replies n) its)
-  | inr other ↦
-      let not_it : same_name n reply.says.member ≡ false = differs (same_name n reply.says.member) refl other in
-      let later = has_reply replies n
-      (sym (ap (λ (b : Bool). b || list_any (same_name n) (map (λ (reply : SentReply). reply.says.member) replies)) not_it) ∙ is) in
-      (later.0, cond-false (same_name reply.says.member n) (Some reply) (reply_to replies n) other ∙ later.1)
-]
-  where
-    differs : (b : Bool) → same_name n reply.says.member ≡ b → same_name reply.says.member n ≡ false → same_name n reply.says.member ≡ false
-    differs false is other = is
-    differs true is other =
-        let own : n ≡ reply.says.member = is_same n reply.says.member is in
-        let there : same_name reply.says.member n ≡ true = subst (λ (name : Name). same_name name n ≡ true) own (same_self n) in
-        absurd (cc)
-
-module _ (replies : List SentReply) (queue : List Change) (to : map (λ (reply : SentReply). reply.says.member) replies ≡ joiners queue) where
-  -- a session that awaits the batch is settled
-  settled_waits : (n : Name) (session : Session) → (is_queued session.step ≡ true → is_joining queue n ≡ true)
-      → is_queued (settled_in replies n session).step ≡ false
-  settled_waits n session joins = elim (cases_Bool (is_queued session.step)) [
-    | inl waits ↦
-        let has = has_reply replies n (ap (list_any (same_name n)) to ∙ joins waits) in
-        ap (λ (session : Session). is_queued session.step) (cond-true (is_queued session.step) (settled_by session (reply_to replies n)) session waits
-        ∙ ap (settled_by session) has.1)
-    | inr rests ↦
-        ap (λ (session : Session). is_queued session.step) (cond-false (is_queued session.step) (settled_by session (reply_to replies n)) session rests) ∙ rests
-  ]
-
-  pub none_waits_settled : (sas : List Sa) → JoinsHaveSessions queue sas → (n : Name) → is_queued_of (map (settle replies) sas) n ≡ false
-  none_waits_settled sas sound n = queued_changed (settle replies) (λ sa. refl) n sas ∙ by (sa_of sas n) refl
-    where
-      by_session : (sa : Sa) (session : Option Session) → sa.session ≡ session → sa_of sas n ≡ Some sa
-          → has_queued (option_map (settled_in replies sa.phase.member) session) ≡ false
-      by_session sa None is there = refl
-      by_session sa (Some session) is there =
-          settled_waits sa.phase.member session (λ waits.
-          ap (is_joining queue) (sym (its_name sas n sa there)) ∙ (sym (sound n) ∙ (queued_found sas n ∙ (ap queued_in there ∙ (ap has_queued is ∙ waits)))))
-
-      by : (found : Option Sa) → sa_of sas n ≡ found → queued_in (option_map (settle replies) found) ≡ false
-      by None is = refl
-      by (Some sa) is = by_session sa sa.session refl is
 
 -- ---- changes that wait
 

@@ -1,23 +1,18 @@
 -- What a server keeps true between two requests, where a message is accepted; and what a call answers that ran out of memory.
-use Rattle.std.proofs.Common.{◌≡◌, ◌∙◌, ◌||◌, ℕ, false, List, [], ◌∷◌, ◌++◌, map, None, Some, Result, Ok, Err, refl, sym, ap, subst}
+use Rattle.std.proofs.Common.{◌≡◌, ◌∙◌, ◌||◌, ℕ, false, List, [], ◌∷◌, ◌++◌, None, Some, Result, Ok, Err, refl, sym, ap, subst}
 use Rattle.std.specs.Prelude.{IfErr, IsErrAnd, IsSome, is_some, option_and_then}
-use Rattle.gd_disk.specs.declared.disks.Disk.{Ghosts as DiskGhosts}
 use Rattle.gd_edges.specs.declared.draws.Draws.{Ghosts as DrawGhosts}
-use Rattle.gd_edges.specs.declared.signers.Signer.{Ghosts as SignerGhosts}
-use Rattle.group_terms.specs.Changes.{is_pending, joiners}
+use Rattle.group_terms.specs.Changes.{is_pending}
 use Rattle.group_terms.specs.Names.{Name, same_name}
 use Rattle.group_terms.specs.declared.changes.Change.{Change}
 use Rattle.group_terms.specs.declared.changes.Change.TheVariants.{In}
-use Rattle.group_terms.specs.declared.paths.Keyed.{Keyed}
 use Rattle.group_terms.specs.declared.phases.Phase1.{Phase1}
 use Rattle.group_model.specs.Refusals.{why_no_join}
 use Rattle.group_model.specs.Servers.{IsJoin, Server}
 use Rattle.group_model.specs.declared.entries.Answer.{Answer}
 use Rattle.group_model.specs.declared.entries.Answer.TheVariants.{Refused}
-use Rattle.group_model.specs.declared.entries.Asked.TheVariants.{Batch}
 use Rattle.group_model.specs.declared.entries.Refusal.{Refusal}
 use Rattle.group_model.specs.declared.entries.Refusal.TheVariants.{NoMemory}
-use Rattle.group_model.specs.declared.entries.SentReply.{SentReply}
 use Rattle.gcks_core.specs.Stands.{Stands}
 use Rattle.gcks_core.specs.Views.{View as CoreView}
 use Rattle.pull_msgs.specs.declared.messages.Third.{Third}
@@ -29,14 +24,11 @@ use Rattle.pull_sessions.specs.declared.answers.Step.TheVariants.{AwaitsThird}
 use Rattle.pull_sessions.specs.declared.refusals.SessionRefusal.{SessionRefusal}
 use Rattle.pull_sessions.specs.declared.sas.Sa.{Sa}
 use Rattle.pull_sessions.specs.declared.sas.Session.{Session}
-use Rattle.server_steps.specs.Fourths.{settled}
-use Rattle.server_steps.specs.Serves.{Serves, ServesBatch}
-use Rattle.server_steps.specs.Views.{View}
 use Rattle.group_server.specs.Answers.{answer_rule, answer_served}
-use Rattle.group_server.specs.Invariants.{JoinsHaveSessions, is_joining}
+use Rattle.server_steps.specs.Joining.{JoinsHaveSessions, is_joining}
 use Rattle.group_server.specs.declared.replies.Reply.{Reply}
 use Rattle.group_server.proofs.JudgeLemmas.{same_no_join}
-use Rattle.group_server.proofs.SessionLemmas.{joins_more, no_join, none_waits_ended, none_waits_settled, put_alike, put_waiting, waits_introduced}
+use Rattle.group_server.proofs.SessionLemmas.{joins_more, no_join, none_waits_ended, put_alike, put_waiting, waits_introduced}
 
 -- ---- errors
 
@@ -107,27 +99,10 @@ introduced_sound queue old phase (Ok done) new is sound = λ n.
     ap (λ (sessions : Sessions). is_queued_of sessions.sas n) is.1 ∙ (waits_introduced phase old.sas n ∙ sound n)
 introduced_sound queue old phase (Err why) new is sound = λ n. ap (λ (sessions : Sessions). is_queued_of sessions.sas n) is.1 ∙ sound n
 
--- after a batch no session awaits one
-pub batch_sound : (replies : List SentReply) (old new : List Change) (sessions after : Sessions)
-    → map (λ (reply : SentReply). reply.says.member) replies ≡ joiners old → new ≡ [] → after ≡ settled sessions replies → JoinsHaveSessions old sessions.sas
-    → JoinsHaveSessions new after.sas
-batch_sound replies old new sessions after to none is sound = λ n.
-    ap (λ (sessions : Sessions). is_queued_of sessions.sas n) is
-    ∙ (none_waits_settled replies old to sessions.sas sound n ∙ ap (λ queue. is_joining queue n) (sym none))
-
 -- after an opening none does
 pub reopened_sound : (new : List Change) (sessions after : Sessions) → new ≡ [] → after ≡ without_sessions sessions → JoinsHaveSessions new after.sas
 reopened_sound new sessions after none is = λ n.
     ap (λ (sessions : Sessions). is_queued_of sessions.sas n) is ∙ (none_waits_ended sessions.sas n ∙ ap (λ queue. is_joining queue n) (sym none))
-
--- a batch that was closed was served
-module _ {D G R : Type 0} (d : DiskGhosts D) (g : SignerGhosts G) (draws : DrawGhosts R) where
-  pub batch_served : {answer : Answer} {told : List (Name × Keyed)} {old new : View D G R} → ServesBatch d g draws answer told old new
-      → Serves d g draws Batch answer old new
-  batch_served serves = record {
-    goes_on = serves.goes_on;
-    each = λ host server. let did = serves.each host server in (did.0, did.1, did.2);
-  }
 
 -- ---- joins
 

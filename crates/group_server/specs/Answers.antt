@@ -1,8 +1,7 @@
 -- What calls of the server answer, as answers of a history.
 use Rattle.std.specs.Prelude.{ℕ, Result, Ok, Err}
 use Rattle.group_model.specs.declared.entries.Answer.{Answer}
-use Rattle.group_model.specs.declared.entries.Answer.TheVariants.{Batched, Datagram, Queued, Refused, RuleNumber}
-use Rattle.group_model.specs.declared.entries.Output.{Output}
+use Rattle.group_model.specs.declared.entries.Answer.TheVariants.{Datagram, Queued, Refused, RuleNumber}
 use Rattle.group_model.specs.declared.entries.Refusal.{Refusal}
 use Rattle.group_server.specs.declared.replies.Reply.{Reply}
 use Rattle.group_server.specs.declared.replies.Reply.TheVariants as replies
@@ -20,8 +19,3 @@ answer_reply replies.Queued = Queued
 abbrev pub answer_served : Result Reply Refusal → Answer
 answer_served (Ok reply) = answer_reply reply
 answer_served (Err why) = Refused why
-
--- what a batch puts out
-abbrev pub answer_batch : Result Output Refusal → Answer
-answer_batch (Ok output) = Batched output
-answer_batch (Err why) = Refused why

@@ -1,5 +1,5 @@
 -- What a key server may not refuse. It follows from its steps.
-use Rattle.std.specs.Prelude.{◌≡◌, ◌⊎◌, ◌<◌, ◌^◌, ◌-◌, ℕ, true, false, List, Option, None, Some, IsSome, Result, Ok, Err}
+use Rattle.std.specs.Prelude.{◌≡◌, ◌⊎◌, ◌<◌, ◌^◌, ◌-◌, ℕ, true, false, List, Option, None, Some, IsSome, Result, Ok}
 use Rattle.std.specs.Str.{bytes_eq}
 use Rattle.gd_disk.specs.Moments.{shown}
 use Rattle.gd_disk.specs.declared.disks.Disk.{Ghosts as DiskGhosts}

@@ -1,4 +1,3 @@
 pub mod Answers
 pub mod Complete
-pub mod Invariants
 pub mod Private

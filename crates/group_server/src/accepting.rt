@@ -6,7 +6,7 @@ ghost use Rattle.group_terms.specs.declared.patterns.Rule.{Rule};
 ghost use Rattle.group_model.specs.Places.{is_member};
 ghost use Rattle.group_model.specs.Refusals.{why_no_join};
 ghost use Rattle.group_server.specs.Answers.{answer_served};
-ghost use Rattle.group_server.specs.Invariants.{JoinsHaveSessions};
+ghost use Rattle.server_steps.specs.Joining.{JoinsHaveSessions};
 ghost use Rattle.group_server.specs.Private.Accepted.{AcceptsFirst, AcceptsJoin, AcceptsMember, IsFourthNow, IsSecondNow};
 ghost use Rattle.pull_sessions.specs.Builds.{IsFirstFrom, IsThirdFrom};
 ghost use Rattle.pull_sessions.specs.Sessions.{is_queued_of, sa_of, session_of};

@@ -3,7 +3,7 @@ ghost use Rattle.std.specs.Prelude.{◌≡◌};
 ghost use Rattle.group_terms.specs.Names.{Name};
 ghost use Rattle.group_model.specs.declared.entries.Asked.TheVariants as requests;
 ghost use Rattle.group_server.specs.Answers.{answer_served};
-ghost use Rattle.group_server.specs.Invariants.{JoinsHaveSessions};
+ghost use Rattle.server_steps.specs.Joining.{JoinsHaveSessions};
 ghost use Rattle.server_steps.specs.Serves.{Serves};
 ghost use Rattle.server_steps.specs.Views.{server_of};
 

@@ -1,12 +1,18 @@
 //! What a server shows of its group.
-ghost use Rattle.std.specs.Prelude.{◌≡◌, ◌≤◌, length};
-ghost use Rattle.group_model.specs.Places.{member_at, member_count, place_in};
+ghost use Rattle.std.specs.Prelude.{◌≡◌, ◌≤◌, length, true, IfOk};
+ghost use Rattle.gcks_core.specs.Stands.{Stands};
+ghost use Rattle.group_model.specs.Places.{is_member, member_at, member_count, place_in};
+ghost use Rattle.group_model.specs.Servers.{Server};
+ghost use Rattle.group_model.specs.declared.entries.Asked.TheVariants as requests;
+ghost use Rattle.server_steps.specs.Serves.{Serves, answer_opened};
 
 use crate::GroupServer;
 use gd_disk::Disk;
 use gd_edges::{Draws, Signer};
-use group_model::{LkhId, MemberName};
+use group_model::{Answer, LkhId, MemberName, NoMemory, PushPair};
 use group_terms::TrafficValue;
+use server_steps::ShowRoom;
+use std::alloc::Global;
 
 impl<D: Disk, G: Signer, R: Draws> GroupServer<D, G, R> {
     /// How deep its tree is.
@@ -79,5 +85,34 @@ impl<D: Disk, G: Signer, R: Draws> GroupServer<D, G, R> {
         ensures { result ≡ self.now.core.need }
     {
         self.core.needs_reopen()
+    }
+
+    /// Who has which leaf; `NeedsReopen` where that is so. Without memory nothing is answered.
+    pub fn show(&self, alloc: Global) -> Result<Answer, NoMemory>
+        ensures { IfOk result (λ answer. Serves D.Disk G.Signer R.Draws requests.Show answer self.now self.now) }
+    {
+        server_steps::show(alloc, &self.core)
+    }
+
+    /// The group of a server that was just opened, with the pair that was sent again. It takes no memory.
+    pub fn show_opened(&self, resent: Option<PushPair>, room: ShowRoom) -> Answer
+        ensures { (server : Server) → Stands R.Draws self.now.core server → result ≡ answer_opened server resent }
+    {
+        server_steps::show_opened(&self.core, resent, room)
+    }
+
+    /// That no push is given to any member, since the server has to be opened again.
+    pub fn refuse_deliveries(&self) -> Answer
+        requires { self.now.core.need ≡ true }
+        ensures { Serves D.Disk G.Signer R.Draws requests.DeliverAll result self.now self.now }
+    {
+        server_steps::refuse_deliveries(&self.core)
+    }
+
+    /// Whether somebody of this name is a member.
+    pub fn is_member(&self, member: &MemberName) -> bool
+        ensures { result ≡ is_member self.now.core.tree.holders member.now }
+    {
+        self.core.is_member(member)
     }
 }

@@ -1,16 +1,16 @@
 //! The server: how it is made and opened, and the calls that change it, except the one for datagrams.
-ghost use Rattle.std.specs.Prelude.{◌≡◌, ◌≤◌, ◌<◌, ℕ, length, IfOk, IfErr, None};
+ghost use Rattle.std.specs.Prelude.{◌≡◌, ◌+◌, ◌≤◌, ◌<◌, ◌^◌, ℕ, length, IfOk, IfErr, IfSome, None};
 ghost use Rattle.group_terms.specs.Names.{Name};
 ghost use Rattle.group_model.specs.declared.entries.Answer.TheVariants as answers;
 ghost use Rattle.group_model.specs.declared.entries.Asked.TheVariants as requests;
-ghost use Rattle.group_server.specs.Answers.{answer_batch, answer_rule};
-ghost use Rattle.group_server.specs.Invariants.{JoinsHaveSessions};
+ghost use Rattle.group_server.specs.Answers.{answer_rule};
+ghost use Rattle.server_steps.specs.Joining.{JoinsHaveSessions};
 ghost use Rattle.server_steps.specs.Hosts.{no_host};
 ghost use Rattle.pull_sessions.specs.Fits.{AllFit};
 ghost use Rattle.pull_sessions.specs.Sessions.{AreApart};
 ghost use Rattle.server_steps.specs.Openings.{IsBeginning, IsCreation, IsHead};
 ghost use Rattle.server_steps.specs.Opens.{FailsToOpen, Opens};
-ghost use Rattle.server_steps.specs.Serves.{Serves, ServesReopening, answer_done};
+ghost use Rattle.server_steps.specs.Serves.{Serves, ServesReopening, answer_batch, answer_done};
 
 use crate::ServerOpened;
 use crate::refusals::introduced;
@@ -34,7 +34,7 @@ pub struct GroupServer<D: Disk, G: Signer, R: Draws> {
 }
 
 impl<D: Disk, G: Signer, R: Draws> Model for GroupServer<D, G, R> {
-    ghost use Rattle.group_server.specs.Invariants.{JoinsHaveSessions};
+    ghost use Rattle.server_steps.specs.Joining.{JoinsHaveSessions};
     ghost use Rattle.server_steps.specs.Views.{View};
 
     ghost Value = { View D G R };
@@ -83,6 +83,7 @@ impl<D: Disk, G: Signer, R: Draws> GroupServer<D, G, R> {
         requires few { phases ≤ 65536 }
         ensures ok { IfOk result (λ opened. (name : Name) (limit : ℕ) → Opens D.Disk R.Draws (IsBeginning D.Disk G.Signer parts.signer) requests.Begin
             (no_host parts.disk name limit (R.place_of parts.draws) phases) parts opened.server opened.resent) }
+        ensures fits { IfOk result (λ opened. IfSome opened.resent (λ pair. pair.first + 1 < 2 ^ 32)) }
         ensures err { IfErr result (λ opening. (name : Name) (limit : ℕ) → FailsToOpen D.Disk R.Draws (IsBeginning D.Disk G.Signer parts.signer)
             requests.Begin (no_host parts.disk name limit (R.place_of parts.draws) phases) parts opening.refusal opening.parts) }
     {
@@ -129,10 +130,10 @@ impl<D: Disk, G: Signer, R: Draws> GroupServer<D, G, R> {
     ///
     /// `NeedsReopen`, `Spent`, `NoMemory`, `DiskFault`. All memory is taken before the disk is called. After `DiskFault` the server has to be opened again.
     pub fn batch(&mut self, alloc: Global) -> Result<Output, Refusal>
-        ensures { Serves D.Disk G.Signer R.Draws requests.Batch (answer_batch result) self.old self.new }
+        ensures serves { Serves D.Disk G.Signer R.Draws requests.Batch (answer_batch result) self.old self.new }
+        ensures fits { IfOk result (λ output. IfSome output.pushes (λ pair. pair.first + 1 < 2 ^ 32)) }
     {
-        let closed = close_batch(alloc, &mut self.core, &mut self.sessions)?;
-        Ok(closed.output)
+        close_batch(alloc, &mut self.core, &mut self.sessions)
     }
 
     /// From now on the server answers that it has to be opened again.
@@ -145,7 +146,8 @@ impl<D: Disk, G: Signer, R: Draws> GroupServer<D, G, R> {
     /// Opens the group again, from its journal, and gives the pair of its last batch, where that one sent a pair. Then no change waits, and all sessions have
     /// ended. `DiskFault`, `NotAJournal`, `NoMemory`: then it still has to be opened again.
     pub fn reopen(&mut self, alloc: Global) -> Result<Option<PushPair>, Refusal>
-        ensures { ServesReopening D.Disk G.Signer R.Draws result self.old self.new }
+        ensures serves { ServesReopening D.Disk G.Signer R.Draws result self.old self.new }
+        ensures fits { IfOk result (λ resent. IfSome resent (λ pair. pair.first + 1 < 2 ^ 32)) }
     {
         let resent = server_steps::reopen(alloc, &mut self.core)?;
         self.sessions.forget_sessions();

@@ -6,12 +6,12 @@ use Rattle.gd_disk.specs.MomentLaws.{keeps-joined}
 use Rattle.gd_disk.specs.Moments.{Keeps}
 use Rattle.gd_disk.specs.declared.disks.Disk.{Ghosts as DiskGhosts}
 use Rattle.gd_edges.specs.declared.signers.Signer.{Ghosts as SignerGhosts}
-use Rattle.gd_edges.specs.declared.verifiers.Verifier.{Ghosts as VerifierGhosts}
 use Rattle.group_model.specs.declared.entries.Entry.{Entry}
 use Rattle.server_steps.specs.Disks.{Counts}
 use Rattle.server_steps.specs.Hosts.{Host}
 use Rattle.server_steps.specs.Steps.{AreServed}
 use Rattle.group_steps.specs.Counts.{CountsFaults, DisksStayHonest, FaultsAreCounted, faults_in}
+use Rattle.group_steps.specs.Devices.{Devices, Keying}
 use Rattle.group_steps.specs.Runs.{Run}
 use Rattle.group_steps.specs.Served.{ServedCountFaults}
 use Rattle.group_steps.specs.Steps.{AreRunSteps}
@@ -72,16 +72,16 @@ module _ {D G : Type 0} (d : DiskGhosts D) (g : SignerGhosts G) (signer : G) (bl
       let disks = disks_served host entries after steps in
       (counted d host.disk entries after.disk disks, stay d host.disk entries after.disk disks)
 
-  module _ {V : Type 0} (v : VerifierGhosts V) (verifier : V) where
-    disks_run : (before : List Entry) (run : Run D) (entries : List Entry) (after : Run D)
-        → AreRunSteps d g signer v verifier block before run entries after → AreCounted d run.host.disk entries after.host.disk
-    disks_run before run [] after same = ap (λ (given : Run D). given.host.disk) same
-    disks_run before run (entry ∷ entries) after steps =
-        let next = steps.0 in
-        (next.host.disk, steps.1.keeps, steps.1.counts, disks_run (before ++ entry ∷ []) next entries after steps.2)
+module _ {D G V : Type 0} (on : Devices D G V) (by : Keying G) where
+  disks_run : (before : List Entry) (run : Run D) (entries : List Entry) (after : Run D)
+      → AreRunSteps on by before run entries after → AreCounted on.disks run.host.disk entries after.host.disk
+  disks_run before run [] after same = ap (λ (given : Run D). given.host.disk) same
+  disks_run before run (entry ∷ entries) after steps =
+      let next = steps.0 in
+      (next.host.disk, steps.1.answered.keeps, steps.1.answered.counts, disks_run (before ++ entry ∷ []) next entries after steps.2)
 
-    pub disks_stay : DisksStayHonest d g signer v verifier block
-    disks_stay before run entries after steps = stay d run.host.disk entries after.host.disk (disks_run before run entries after steps)
+  pub disks_stay : DisksStayHonest on by
+  disks_stay before run entries after steps = stay on.disks run.host.disk entries after.host.disk (disks_run before run entries after steps)
 
-    pub all_counted : FaultsAreCounted d g signer v verifier block
-    all_counted before run entries after steps = counted d run.host.disk entries after.host.disk (disks_run before run entries after steps)
+  pub all_counted : FaultsAreCounted on by
+  all_counted before run entries after steps = counted on.disks run.host.disk entries after.host.disk (disks_run before run entries after steps)

@@ -3,9 +3,6 @@ use Rattle.std.proofs.Common.{◌≡◌, ◌∙◌, ◌⊎◌, ℕ, List, Some, 
 use Rattle.std.proofs.lemmas.List.{append_assoc, append-nil}
 use Rattle.gd_disk.specs.MomentLaws.{joined, started, weaker}
 use Rattle.gd_disk.specs.Moments.{shown}
-use Rattle.gd_disk.specs.declared.disks.Disk.{Ghosts as DiskGhosts}
-use Rattle.gd_edges.specs.declared.signers.Signer.{Ghosts as SignerGhosts}
-use Rattle.gd_edges.specs.declared.verifiers.Verifier.{Ghosts as VerifierGhosts}
 use Rattle.group_values.specs.Values.{Made}
 use Rattle.group_model.specs.Servers.{Server, in_doubt}
 use Rattle.group_model.specs.declared.entries.Entry.{Entry}
@@ -15,6 +12,7 @@ use Rattle.gcks_core.specs.Stored.{IsFileOf, stored_list}
 use Rattle.server_steps.specs.Batches.{made_next}
 use Rattle.group_steps.specs.Crashes.{CrashesLeaveMoments, HasAtLeast, IsOfMoment, IsToWrite, LeavesMoments}
 use Rattle.server_steps.specs.Disks.{HasJournal}
+use Rattle.group_steps.specs.Devices.{Devices, Keying}
 use Rattle.group_steps.specs.Runs.{Run}
 use Rattle.group_steps.specs.Steps.{AreRunSteps, IsRunStep}
 use Rattle.group_steps.proofs.JournalLemmas.{IsMeanwhile, StepLeaves, list_begins, leaves_answered}
@@ -30,23 +28,23 @@ has_front head server list later c is file =
           (begins.1 ∙ ap (λ given. given ++ begins.0) is ∙ append_assoc list later begins.0) file.2,
     )
 
-module _ {D G V : Type 0} (d : DiskGhosts D) (g : SignerGhosts G) (signer : G) (v : VerifierGhosts V) (verifier : V)
-    (block : ℕ → List ℕ) (only_now : (disk : D) (c : List ℕ) → d.left_since disk (d.moment disk) c → d.may_leave disk c) where
+module _ {D G V : Type 0} (on : Devices D G V) (by : Keying G)
+    (only_now : (disk : D) (c : List ℕ) → on.disks.left_since disk (on.disks.moment disk) c → on.disks.may_leave disk c) where
   abbrev Steps : List Entry → Run D → List Entry → Run D → Type 0
-  Steps = AreRunSteps d g signer v verifier block
+  Steps = AreRunSteps on by
 
   abbrev Leaves : List Entry → Run D → List Entry → Run D → Type 0
-  Leaves = LeavesMoments d g signer v verifier block
+  Leaves = LeavesMoments on by
 
   abbrev Moment : List Entry → Run D → List Entry → Run D → List ℕ → Type 0
-  Moment = IsOfMoment d g signer v verifier block
+  Moment = IsOfMoment on by
 
   -- no entry
-  leaves_none : (before : List Entry) (run : Run D) → HasJournal d run.host → Leaves before run [] run
+  leaves_none : (before : List Entry) (run : Run D) → HasJournal on.disks run.host → Leaves before run [] run
   leaves_none before run had = record {
     journal = had;
     head = λ file shows. refl;
-    moments = λ file shows. started d run.host.disk (Moment before run [] run) (only_now run.host.disk) (λ c now. record {
+    moments = λ file shows. started on.disks run.host.disk (Moment before run [] run) (only_now run.host.disk) (λ c now. record {
       front = [];
       later = [];
       is = refl;
@@ -56,14 +54,14 @@ module _ {D G V : Type 0} (d : DiskGhosts D) (g : SignerGhosts G) (signer : G) (
       image = inl (had.crash file shows c now);
     });
     kept = λ file shows.
-        started d run.host.disk (HasAtLeast run) (only_now run.host.disk)
+        started on.disks run.host.disk (HasAtLeast run) (only_now run.host.disk)
         (λ c now. has_front run.host.head run.host.server run.host.server.list [] c (sym (append-nil run.host.server.list)) (had.crash file shows c now));
   }
 
   module _ (before : List Entry) (run : Run D) (entry : Entry) (entries : List Entry) (after next : Run D)
-      (step : IsRunStep d g signer v verifier block before run entry next) (rest : Steps (before ++ entry ∷ []) next entries after) where
+      (step : IsRunStep on by before run entry next) (rest : Steps (before ++ entry ∷ []) next entries after) where
     -- what is left during the first entry
-    at_first : (c : List ℕ) → IsMeanwhile d g signer block run.host entry.asked c → Moment before run (entry ∷ entries) after c
+    at_first : (c : List ℕ) → IsMeanwhile on.disks on.signers by.signer by.block run.host entry.asked c → Moment before run (entry ∷ entries) after c
     at_first c meanwhile = record {
       front = [];
       later = entry ∷ entries;
@@ -86,14 +84,14 @@ module _ {D G V : Type 0} (d : DiskGhosts D) (g : SignerGhosts G) (signer : G) (
       goes_on = subst (λ given. Steps given moment.mid moment.later after) (append_assoc before (entry ∷ []) moment.front) moment.goes_on;
       image = subst (λ (head : Head). IsFileOf head moment.mid.host.server c
           ⊎ (IsToWrite moment.mid moment.later
-          × IsFileOf head (in_doubt moment.mid.host.server (made_next d g signer block moment.mid.host)) c)) same moment.image;
+          × IsFileOf head (in_doubt moment.mid.host.server (made_next on.disks on.signers by.signer by.block moment.mid.host)) c)) same moment.image;
     }
 
     -- the batches of the run are in both
-    has_first : (c : List ℕ) → IsMeanwhile d g signer block run.host entry.asked c → HasAtLeast run c
+    has_first : (c : List ℕ) → IsMeanwhile on.disks on.signers by.signer by.block run.host entry.asked c → HasAtLeast run c
     has_first c (inl file) = has_front run.host.head run.host.server run.host.server.list [] c (sym (append-nil run.host.server.list)) file
     has_first c (inr file) =
-        has_front run.host.head (in_doubt run.host.server (made_next d g signer block run.host)) run.host.server.list [] c
+        has_front run.host.head (in_doubt run.host.server (made_next on.disks on.signers by.signer by.block run.host)) run.host.server.list [] c
         (sym (append-nil run.host.server.list)) file.1
 
     has_later : (c : List ℕ) → next.host.head ≡ run.host.head → (later : List Made) × (next.host.server.list ≡ run.host.server.list ++ later)
@@ -106,32 +104,31 @@ module _ {D G V : Type 0} (d : DiskGhosts D) (g : SignerGhosts G) (signer : G) (
     )
 
     -- the first entry, and then the others
-    leaves_more : StepLeaves d g signer block run.host entry.asked next.host → Leaves (before ++ entry ∷ []) next entries after
+    leaves_more : StepLeaves on.disks on.signers by.signer by.block run.host entry.asked next.host → Leaves (before ++ entry ∷ []) next entries after
         → Leaves before run (entry ∷ entries) after
     leaves_more first later =
-        let still : (file : List ℕ) → shown d run.host.disk ≡ Some file → (now : List ℕ) × (shown d next.host.disk ≡ Some now)
-        = λ file shows. some_file (shown d next.host.disk) (shown_still d run.host.disk next.host.disk step.keeps (ap is_some shows)) in
+        let still : (file : List ℕ) → shown on.disks run.host.disk ≡ Some file → (now : List ℕ) × (shown on.disks next.host.disk ≡ Some now)
+        = λ file shows. some_file (shown on.disks next.host.disk) (shown_still on.disks run.host.disk next.host.disk step.answered.keeps (ap is_some shows)) in
         record {
           journal = later.journal;
           head = λ file shows. let now = still file shows in later.head now.0 now.1 ∙ first.head file shows;
           moments = λ file shows.
               let now = still file shows in
-              joined d run.host.disk next.host.disk after.host.disk (Moment before run (entry ∷ entries) after)
-              (weaker d run.host.disk next.host.disk _ _ at_first (first.moments file shows))
-              (weaker d next.host.disk after.host.disk _ _ (λ c. at_later c (first.head file shows)) (later.moments now.0 now.1));
+              joined on.disks run.host.disk next.host.disk after.host.disk (Moment before run (entry ∷ entries) after)
+              (weaker on.disks run.host.disk next.host.disk _ _ at_first (first.moments file shows))
+              (weaker on.disks next.host.disk after.host.disk _ _ (λ c. at_later c (first.head file shows)) (later.moments now.0 now.1));
           kept = λ file shows.
               let now = still file shows in
-              joined d run.host.disk next.host.disk after.host.disk (HasAtLeast run)
-              (weaker d run.host.disk next.host.disk _ _ has_first (first.moments file shows))
-              (weaker d next.host.disk after.host.disk _ _ (λ c. has_later c (first.head file shows) (first.list file shows)) (later.kept now.0 now.1));
+              joined on.disks run.host.disk next.host.disk after.host.disk (HasAtLeast run)
+              (weaker on.disks run.host.disk next.host.disk _ _ has_first (first.moments file shows))
+              (weaker on.disks next.host.disk after.host.disk _ _ (λ c. has_later c (first.head file shows) (first.list file shows)) (later.kept now.0 now.1));
         }
 
-  pub crashes_leave : CrashesLeaveMoments d g signer v verifier block
+  pub crashes_leave : CrashesLeaveMoments on by
   crashes_leave first before run [] after steps had =
       subst (λ (given : Run D). Leaves (first ∷ before) run [] given) (sym steps) (leaves_none (first ∷ before) run had)
   crashes_leave first before run (entry ∷ entries) after steps had =
       let next = steps.0 in
-      let leaves = leaves_answered d g signer v verifier block run had (only_now run.host.disk) first before entry.asked entry.answer
-      entry.outside next steps.1.answered in
+      let leaves = leaves_answered on by run had (only_now run.host.disk) first before entry next steps.1 in
       leaves_more (first ∷ before) run entry entries after next steps.1 steps.2 leaves
       (crashes_leave first (before ++ entry ∷ []) next entries after steps.2 leaves.journal)

@@ -1,36 +1,50 @@
 -- What each step of a run does to the journal of its group.
-use Rattle.std.proofs.Common.{◌≡◌, ◌∙◌, ◌⊎◌, ℕ, true, false, Bool, List, [], ◌∷◌, ◌++◌, None, refl, sym, ap, subst, inl, inr}
-use Rattle.std.proofs.lemmas.Bool.{false≢true}
+use Rattle.std.proofs.Common.{◌≡◌, ◌∙◌, ◌⊎◌, ℕ, true, false, Bool, List, [], ◌∷◌, ◌++◌, Option, None, Some, Result, Ok, Err, refl, sym, ap, subst, inl, inr}
+use Rattle.std.specs.Prelude.{MatchBool}
 use Rattle.std.proofs.lemmas.List.{append-nil}
 use Rattle.gd_disk.specs.Disks.{Knows}
 use Rattle.gd_disk.specs.MomentLaws.{started, weaker}
 use Rattle.gd_disk.specs.Moments.{LeavesOnly, shown}
 use Rattle.gd_disk.specs.declared.disks.Disk.{Ghosts as DiskGhosts}
 use Rattle.gd_edges.specs.declared.signers.Signer.{Ghosts as SignerGhosts}
-use Rattle.gd_edges.specs.declared.verifiers.Verifier.{Ghosts as VerifierGhosts}
 use Rattle.group_terms.specs.Names.{Name}
 use Rattle.group_terms.specs.declared.changes.Change.{Change}
 use Rattle.group_terms.specs.declared.changes.Change.TheVariants.{In, Out}
+use Rattle.group_terms.specs.declared.patterns.Rule.{Rule}
 use Rattle.group_values.specs.Drawing.{place_after}
 use Rattle.group_values.specs.Values.{Made}
-use Rattle.group_model.specs.Servers.{MayHave, Server, in_doubt, refusal_to_batch}
+use Rattle.group_model.specs.Places.{is_member}
+use Rattle.group_model.specs.Servers.{MayHave, Server, in_doubt, members_now, refusal_to_batch}
 use Rattle.group_model.specs.declared.entries.Answer.{Answer}
-use Rattle.group_model.specs.declared.entries.Answer.TheVariants.{Done, Queued}
+use Rattle.group_model.specs.declared.entries.Answer.TheVariants.{Done, Refused}
 use Rattle.group_model.specs.declared.entries.Asked.{Asked}
-use Rattle.group_model.specs.declared.entries.Asked.TheVariants.{AddRule, Batch, DeliverAll, Halt, Introduce, Join, Leave, Reopen, Serve, Show}
+use Rattle.group_model.specs.declared.entries.Asked.TheVariants.{AddRule, Batch, DeliverAll, Halt, Introduce, Leave, Reopen, Serve, Show}
 use Rattle.group_model.specs.declared.entries.Entry.{Entry}
 use Rattle.group_model.specs.declared.entries.Outside.{Outside}
+use Rattle.group_model.specs.declared.entries.Refusal.{Refusal}
+use Rattle.group_model.specs.declared.entries.Refusal.TheVariants.{NeedsReopen}
 use Rattle.gcks_core.specs.Stored.{IsFileOf}
+use Rattle.pull_msgs.specs.declared.messages.First.{First}
+use Rattle.pull_msgs.specs.declared.messages.Third.{Third}
+use Rattle.pull_sessions.specs.Looks.{IsLook}
+use Rattle.pull_sessions.specs.Sessions.{Sessions}
+use Rattle.pull_sessions.specs.declared.answers.Looked.{Looked}
+use Rattle.pull_sessions.specs.declared.answers.LookedAt.{LookedAt}
+use Rattle.pull_sessions.specs.declared.answers.LookedAt.TheVariants.{NewFirst, NextThird, Repeat}
+use Rattle.pull_sessions.specs.declared.refusals.SessionRefusal.{SessionRefusal}
 use Rattle.server_steps.specs.Batches.{IsBatching, IsInDoubt, IsStored, made_next}
-use Rattle.server_steps.specs.Changes.{after_join, after_leave}
+use Rattle.server_steps.specs.Changes.{after_leave}
 use Rattle.server_steps.specs.Disks.{HasJournal}
 use Rattle.server_steps.specs.Hosts.{Host}
 use Rattle.server_steps.specs.Openings.{FailsToReopen, IsOpeningAgain, Reopens}
+use Rattle.server_steps.specs.Outsides.{Says}
+use Rattle.server_steps.specs.Pulls.{AnswersFirst, AnswersFound, AnswersLook, AnswersThird, IsAnswering, Queues, Replies}
+use Rattle.server_steps.specs.Refusals.{refusal_to_first, refusal_to_third}
 use Rattle.server_steps.specs.Steps.{IsServed}
+use Rattle.group_steps.specs.Devices.{Devices, Keying}
 use Rattle.group_steps.specs.Runs.{Run}
-use Rattle.group_steps.specs.Served.{is_of_pulls}
-use Rattle.group_steps.specs.Steps.{IsAnswered}
-use Rattle.group_steps.proofs.HostLemmas.{host_step}
+use Rattle.group_steps.specs.Steps.{IsRunStep}
+use Rattle.group_steps.proofs.HostLemmas.{host_by}
 
 -- batches that a journal may have begin with those of the server
 pub list_begins : (server : Server) (list : List Made) → MayHave server list → (later : List Made) × (list ≡ server.list ++ later)
@@ -53,23 +67,24 @@ module _ {D G : Type 0} (d : DiskGhosts D) (g : SignerGhosts G) (signer : G) (bl
     pub list : Knows (shown d host.disk) (λ file. (later : List Made) × (next.server.list ≡ host.server.list ++ later))
 
   module _ (had : HasJournal d host) (only_now : (c : List ℕ) → d.left_since host.disk (d.moment host.disk) c → d.may_leave host.disk c) where
-    -- a request that touches no more of the server than this
-    untouched : (asked : Asked) (need : Bool) (queue : List Change) (place : ℕ) (next : Host D)
-        → next ≡ record host { server = record host.server { need = need; queue = queue; place = place } } → StepLeaves asked next
-    untouched asked need queue place next is = subst (StepLeaves asked) (sym is) (record {
+    -- a request that touches no more than this
+    touches_beside : (asked : Asked) (need : Bool) (queue : List Change) (place : ℕ) (rules : List Rule) (sessions : Sessions) (next : Host D)
+        → next ≡ record host { server = record host.server { need = need; queue = queue; place = place }; rules = rules; sessions = sessions }
+        → StepLeaves asked next
+    touches_beside asked need queue place rules sessions next is = subst (StepLeaves asked) (sym is) (record {
       journal = record { file = had.file; crash = had.crash };
       head = λ file shows. refl;
       moments = λ file shows. started d host.disk (IsMeanwhile asked) only_now (λ c now. inl (had.crash file shows c now));
       list = λ file shows. ([], sym (append-nil host.server.list));
     })
 
+    untouched : (asked : Asked) (need : Bool) (queue : List Change) (place : ℕ) (next : Host D)
+        → next ≡ record host { server = record host.server { need = need; queue = queue; place = place } } → StepLeaves asked next
+    untouched asked need queue place next is = touches_beside asked need queue place host.rules host.sessions next is
+
     -- or nothing
     pub unchanged : (asked : Asked) (next : Host D) → next ≡ host → StepLeaves asked next
     unchanged asked next is = untouched asked host.server.need host.server.queue host.server.place next is
-
-    leaves_join : (m : Name) (answer : Answer) (next : Host D) → next ≡ after_join host m answer → StepLeaves (Join m) next
-    leaves_join m Queued next is = untouched (Join m) host.server.need (host.server.queue ++ In m ∷ []) host.server.place next is
-    leaves_join m answer next is = unchanged (Join m) next is
 
     leaves_leave : (m : Name) (answer : Answer) (next : Host D) → next ≡ after_leave host m answer → StepLeaves (Leave m) next
     leaves_leave m Done next is = untouched (Leave m) host.server.need (host.server.queue ++ Out m ∷ []) host.server.place next is
@@ -129,30 +144,82 @@ module _ {D G : Type 0} (d : DiskGhosts D) (g : SignerGhosts G) (signer : G) (bl
       | inr fails ↦ leaves_shut answer outside next fails again.moments
     ]
 
-    -- ---- all that a server does, but for pulls
+    -- ---- datagrams of pulls
 
-    pub leaves_served : (asked : Asked) (answer : Answer) (outside : Outside) (next : Host D) → is_of_pulls asked ≡ false
-        → IsServed d g signer block asked host answer outside next → StepLeaves asked next
-    leaves_served (AddRule rule) answer outside next other step = absurd (false≢true (sym other))
-    leaves_served (Introduce phase) answer outside next other step = absurd (false≢true (sym other))
-    leaves_served (Serve m datagram) answer outside next other step = absurd (false≢true (sym other))
-    leaves_served (Join m) answer outside next other step = leaves_join m answer next step.now
-    leaves_served (Leave m) answer outside next other step = leaves_leave m answer next step.now
-    leaves_served Batch answer outside next other step = leaves_batch answer outside next step
-    leaves_served Halt answer outside next other step = untouched Halt true host.server.queue host.server.place next step.now
-    leaves_served Reopen answer outside next other step = leaves_reopen answer outside next step
-    leaves_served Show answer outside next other step = unchanged Show next step.stays
-    leaves_served DeliverAll answer outside next other step = unchanged DeliverAll next step.says.stays
-    leaves_served asked answer outside next other step = absurd step
+    leaves_first : (asked : Asked) (why : Option Refusal) (m : Name) (first : First) (datagram : List ℕ) (answer : Answer) (outside : Outside) (next : Host D)
+        → AnswersFirst g signer block host why m first datagram answer outside next → StepLeaves asked next
+    leaves_first asked (Some why) m first datagram answer outside next says = unchanged asked next says.stays
+    leaves_first asked None m first datagram answer outside next (inl begins) =
+        touches_beside asked host.server.need host.server.queue (place_after 1 host.server.place) host.rules _ next begins.becomes.now
+    leaves_first asked None m first datagram answer outside next (inr short) =
+        untouched asked host.server.need host.server.queue (place_after short.n host.server.place) next short.becomes.now
 
-module _ {D G V : Type 0} (d : DiskGhosts D) (g : SignerGhosts G) (signer : G) (v : VerifierGhosts V) (verifier : V) (block : ℕ → List ℕ) where
-  -- each request after the first
-  pub leaves_answered : (run : Run D) → HasJournal d run.host
-      → ((c : List ℕ) → d.left_since run.host.disk (d.moment run.host.disk) c → d.may_leave run.host.disk c)
-      → (first : Entry) (before : List Entry) (asked : Asked) (answer : Answer) (outside : Outside) (next : Run D)
-      → IsAnswered d g signer v verifier block (first ∷ before) asked run answer outside next → StepLeaves d g signer block run.host asked next.host
-  leaves_answered run had only_now first before asked answer outside next step =
-      elim (host_step d g signer v verifier block first before asked run answer outside next step) [
-        | inl served ↦ leaves_served d g signer block run.host had only_now asked answer outside next.host served.0 served.1
-        | inr stays ↦ unchanged d g signer block run.host had only_now asked next.host stays.0
+    leaves_third : (asked : Asked) (why : Option Refusal) (m : Name) (third : Third) (datagram : List ℕ) (answer : Answer) (outside : Outside) (next : Host D)
+        → AnswersThird g signer block host why m third datagram answer outside next → StepLeaves asked next
+    leaves_third asked (Some why) m third datagram answer outside next says = unchanged asked next says.stays
+    leaves_third asked None m third datagram answer outside next (inr short) = unchanged asked next short.stays
+    leaves_third asked None m third datagram answer outside next (inl takes) = by_member (is_member (members_now host.server) m) takes
+      where
+        by_member : (member : Bool)
+            → MatchBool member (Replies g signer block host m third datagram answer outside next)
+            (Queues g signer block host m third datagram answer outside next)
+            → StepLeaves asked next
+        by_member true replies = touches_beside asked host.server.need host.server.queue host.server.place host.rules _ next replies.becomes.now
+        by_member false queues =
+            touches_beside asked host.server.need (host.server.queue ++ In m ∷ []) host.server.place host.rules _ next queues.becomes.now
+
+    leaves_found : (asked : Asked) (what : LookedAt) (m : Name) (datagram : List ℕ) (answer : Answer) (outside : Outside) (next : Host D)
+        → AnswersFound g signer block host what m datagram answer outside next → StepLeaves asked next
+    leaves_found asked (Repeat kept) m datagram answer outside next says = unchanged asked next says.stays
+    leaves_found asked (NewFirst first) m datagram answer outside next answers =
+        leaves_first asked (refusal_to_first host.head.name host.rules host.server m first) m first datagram answer outside next answers
+    leaves_found asked (NextThird third) m datagram answer outside next answers =
+        leaves_third asked (refusal_to_third host.rules host.server m) m third datagram answer outside next answers
+
+    leaves_looked : (asked : Asked) (datagram : List ℕ) (looked : Result Looked SessionRefusal) (answer : Answer) (outside : Outside) (next : Host D)
+        → AnswersLook g signer block host datagram looked answer outside next → StepLeaves asked next
+    leaves_looked asked datagram (Ok looked) answer outside next answers = leaves_found asked looked.what looked.member datagram answer outside next answers
+    leaves_looked asked datagram (Err why) answer outside next says = unchanged asked next says.stays
+
+    leaves_answering : (asked : Asked) (datagram : List ℕ) (answer : Answer) (outside : Outside) (next : Host D)
+        → IsAnswering g signer block host datagram answer outside next → StepLeaves asked next
+    leaves_answering asked datagram answer outside next = by_need host.server.need
+      where
+        by_need : (need : Bool)
+            → MatchBool need (Says (Refused NeedsReopen) host answer outside next)
+            ((looked : Result Looked SessionRefusal) × IsLook host.sessions.sas datagram looked
+            × AnswersLook g signer block host datagram looked answer outside next)
+            → StepLeaves asked next
+        by_need true says = unchanged asked next says.stays
+        by_need false looks = leaves_looked asked datagram looks.0 answer outside next looks.2
+
+    -- ---- all that a server does
+
+    pub leaves_served : (asked : Asked) (answer : Answer) (outside : Outside) (next : Host D) → IsServed d g signer block asked host answer outside next
+        → StepLeaves asked next
+    leaves_served (AddRule rule) answer outside next (inl more) =
+        touches_beside (AddRule rule) host.server.need host.server.queue host.server.place _ host.sessions next more.now
+    leaves_served (AddRule rule) answer outside next (inr short) = unchanged (AddRule rule) next short.stays
+    leaves_served (Introduce phase) answer outside next step =
+        touches_beside (Introduce phase) host.server.need host.server.queue host.server.place host.rules step.sessions next step.now
+    leaves_served (Serve m datagram) answer outside next step = leaves_answering (Serve m datagram) datagram answer outside next step
+    leaves_served (Leave m) answer outside next step = leaves_leave m answer next step.now
+    leaves_served Batch answer outside next step = leaves_batch answer outside next step
+    leaves_served Halt answer outside next step = untouched Halt true host.server.queue host.server.place next step.now
+    leaves_served Reopen answer outside next step = leaves_reopen answer outside next step
+    leaves_served Show answer outside next step = unchanged Show next step.stays
+    leaves_served DeliverAll answer outside next step = unchanged DeliverAll next step.says.stays
+    leaves_served asked answer outside next step = absurd step
+
+module _ {D G V : Type 0} (on : Devices D G V) (by : Keying G) where
+  -- each entry after the first
+  pub leaves_answered : (run : Run D) → HasJournal on.disks run.host
+      → ((c : List ℕ) → on.disks.left_since run.host.disk (on.disks.moment run.host.disk) c → on.disks.may_leave run.host.disk c)
+      → (first : Entry) (before : List Entry) (entry : Entry) (next : Run D)
+      → IsRunStep on by (first ∷ before) run entry next → StepLeaves on.disks on.signers by.signer by.block run.host entry.asked next.host
+  leaves_answered run had only_now first before entry next step =
+      elim (host_by on by first before run entry next step) [
+        | inl served ↦
+            leaves_served on.disks on.signers by.signer by.block run.host had only_now entry.asked entry.answer entry.outside next.host served.answered
+        | inr stays ↦ unchanged on.disks on.signers by.signer by.block run.host had only_now entry.asked next.host stays.0
       ]

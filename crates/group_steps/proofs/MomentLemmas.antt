@@ -1,10 +1,8 @@
 -- Each moment of a history is the end of one.
-use Rattle.std.proofs.Common.{◌≡◌, ◌⊎◌, ℕ, List, [], ◌∷◌, ◌++◌, refl, subst, inl, inr}
-use Rattle.gd_disk.specs.declared.disks.Disk.{Ghosts as DiskGhosts}
-use Rattle.gd_edges.specs.declared.signers.Signer.{Ghosts as SignerGhosts}
-use Rattle.gd_edges.specs.declared.verifiers.Verifier.{Ghosts as VerifierGhosts}
+use Rattle.std.proofs.Common.{◌≡◌, ◌⊎◌, List, [], ◌∷◌, ◌++◌, refl, subst, inl, inr}
 use Rattle.group_model.specs.Answers.{BeginsWithOpening}
 use Rattle.group_model.specs.declared.entries.Entry.{Entry}
+use Rattle.group_steps.specs.Devices.{Devices, Keying}
 use Rattle.group_steps.specs.Moments.{MomentsEndHistories}
 use Rattle.group_steps.specs.Steps.{EndsWithoutMemory}
 
@@ -24,8 +22,8 @@ memory_front : (front later : List Entry) → EndsWithoutMemory (front ++ later)
 memory_front [] later is = tt
 memory_front (entry ∷ front) later is = (nothing_or _ front later is.0, memory_front front later is.1)
 
-module _ {D G V : Type 0} (d : DiskGhosts D) (g : SignerGhosts G) (signer : G) (v : VerifierGhosts V) (verifier : V) (block : ℕ → List ℕ) where
-  pub moments_end : MomentsEndHistories d g signer v verifier block
+module _ {D G V : Type 0} (on : Devices D G V) (by : Keying G) where
+  pub moments_end : MomentsEndHistories on by
   moments_end start entries after front mid history moment = record {
     begins = begins_front front moment.later (subst BeginsWithOpening moment.is history.begins);
     memory = memory_front front moment.later (subst EndsWithoutMemory moment.is history.memory);

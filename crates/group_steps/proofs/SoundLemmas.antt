@@ -1,15 +1,16 @@
--- The batches of a host are a valid list, and what waits behind them fits: each kind of step keeps that, and a first request begins with it.
-use Rattle.std.proofs.Common.{◌≡◌, ◌∙◌, ℕ, true, List, [], ◌∷◌, ◌++◌, length, sym, refl, ap, subst, inl, inr}
+-- A server that is sound and keeps messages of its group goes on so, and the first opening begins with one. So its batches are a valid list, whatever openings
+-- found.
+use Rattle.std.proofs.Common.{◌≡◌, ◌∙◌, ℕ, ◌≤◌, true, List, [], ◌∷◌, ◌++◌, length, sym, refl, ap, subst, arith, inl, inr}
+use Rattle.std.specs.List.{IsDistinct}
+use Rattle.std.specs.Prelude.{All, IfSome}
 use Rattle.std.proofs.lemmas.Bool.{false≢true}
 use Rattle.std.proofs.lemmas.List.{length-map, map-append}
+use Rattle.std.proofs.lemmas.List.Elements.{All-nil}
 use Rattle.std.proofs.lemmas.List.Sums.{fold-append}
-use Rattle.gd_disk.specs.declared.disks.Disk.{Ghosts as DiskGhosts}
-use Rattle.gd_edges.specs.declared.signers.Signer.{Ghosts as SignerGhosts}
-use Rattle.gd_edges.specs.declared.verifiers.Verifier.{Ghosts as VerifierGhosts}
-use Rattle.group_terms.specs.Names.{Name}
 use Rattle.group_terms.specs.declared.changes.Change.{Change}
+use Rattle.group_terms.specs.declared.signatures.SignKind.{SignKind}
 use Rattle.group_values.specs.Values.{Made, batches_made}
-use Rattle.group_model.specs.Answers.{opens}
+use Rattle.group_model.specs.Answers.{is_open, opens}
 use Rattle.group_model.specs.Laws.{Laws}
 use Rattle.group_model.specs.Places.{FitInTurn, Fits, IsValid, holders_after, holders_of, no_holders}
 use Rattle.group_model.specs.Servers.{members_now}
@@ -19,26 +20,20 @@ use Rattle.group_model.specs.declared.entries.Asked.TheVariants.{Create, Begin}
 use Rattle.group_model.specs.declared.entries.Entry.{Entry}
 use Rattle.group_model.specs.declared.entries.Outside.{Outside}
 use Rattle.gcks_core.specs.Stored.{AreDueFrom}
-use Rattle.server_steps.specs.Batches.{IsStored, list_next, made_next}
-use Rattle.server_steps.specs.Hosts.{Host, no_host}
+use Rattle.pull_sessions.specs.Sessions.{AreApart, sessions_ended}
+use Rattle.pull_sessions.specs.declared.sas.Sa.{Sa}
+use Rattle.server_steps.specs.Hosts.{Host}
+use Rattle.server_steps.specs.Messages.{HasSizes, IsSound, KeepsMessage, KeptAreMessages, MessagesAreOfTheGroup}
 use Rattle.server_steps.specs.Openings.{FindsGroup, Found}
-use Rattle.group_steps.specs.Kinds.{IsQuiet}
+use Rattle.group_steps.specs.Devices.{Devices, Keying}
 use Rattle.group_steps.specs.Laws.{LeavesValidList}
-use Rattle.group_steps.specs.Runs.{Run, no_run}
+use Rattle.group_steps.specs.Runs.{Run, no_run, with_members}
 use Rattle.group_steps.specs.Steps.{AreRunSteps, IsAnswered, IsRunStep}
-use Rattle.group_steps.specs.TrueSteps.{batches_in}
-use Rattle.group_steps.proofs.FitLemmas.{fit_more}
-use Rattle.group_steps.proofs.KindLemmas.{each_kind}
+use Rattle.group_steps.proofs.HostLemmas.{host_by}
 
 -- the batches that made the epochs of a host
 abbrev pub batches_of : {D : Type 0} → Host D → List (List Change)
 batches_of host = batches_made host.server.list
-
--- The batches of a host are a valid list, what waits fits behind them, and the tree is as deep as the head of the journal says.
-pub record IsSound {D : Type 0} (host : Host D) : Type 0 where
-  pub at : host.head.depth ≡ host.server.depth
-  pub valid : IsValid host.server.depth (batches_of host)
-  pub fits : Fits (members_now host.server) host.server.queue
 
 pub length_made : (list : List Made) → length (batches_made list) ≡ length list
 length_made list = length-map list (λ (made : Made). made.changes)
@@ -56,75 +51,117 @@ valid_from depth limit before (made ∷ list) due = (
       (valid_from depth limit (before ++ made.changes ∷ []) list due.1),
 )
 
-module _ {D G V : Type 0} (laws : Laws) (d : DiskGhosts D) (g : SignerGhosts G) (signer : G) (v : VerifierGhosts V) (verifier : V)
-    (block : ℕ → List ℕ) where
-  -- ---- each kind of step
+-- A server is sound, and its sessions keep messages of its group since an epoch of it.
+pub record IsInOrder {D : Type 0} (kind : SignKind) (first : ℕ) (host : Host D) : Type 0 where
+  pub sound : IsSound host
+  pub late : first ≤ length host.server.list
+  pub kept : KeptAreMessages kind first host
 
-  pub sound_quiet : (host : Host D) (answer : Answer) (next : Host D) → IsSound host → IsQuiet host answer next → IsSound next
-  sound_quiet host answer next sound quiet = record {
-    at = ap (λ head. head.depth) quiet.head ∙ sound.at ∙ sym quiet.depth;
-    valid = subst (λ depth. IsValid depth (batches_of next)) (sym quiet.depth)
-        (subst (λ list. IsValid host.server.depth (batches_made list)) (sym quiet.list) sound.valid);
-    fits = subst (λ depth. Fits (holders_of depth (batches_of next)) next.server.queue) (sym quiet.depth)
-        (subst (λ list. Fits (holders_of host.server.depth (batches_made list)) next.server.queue) (sym quiet.list) (quiet.fits sound.fits));
+-- A server is sound, and no SA was introduced yet.
+pub record IsNew {D : Type 0} (host : Host D) : Type 0 where
+  pub sound : IsSound host
+  pub none : host.sessions.sas ≡ []
+
+apart_none : AreApart []
+unfolding IsDistinct
+apart_none = record { cookies = tt; members = tt }
+
+module _ {D : Type 0} where
+  new_sound : (host : Host D) → 1 ≤ host.server.depth → IsValid host.server.depth (batches_of host) → Fits (members_now host.server) host.server.queue
+      → host.sessions.sas ≡ [] → IsNew host
+  new_sound host deep valid fits none = record {
+    sound = record {
+      deep = deep;
+      valid = valid;
+      fits = fits;
+      apart = subst AreApart (sym none) apart_none;
+      written = subst (λ sas. All (λ (sa : Sa). IfSome sa.session HasSizes) sas) (sym none) (All-nil (λ (sa : Sa). IfSome sa.session HasSizes));
+    };
+    none = none;
   }
 
-  pub longer_valid : (host : Host D) → IsSound host → IsValid host.server.depth (batches_of host ++ host.server.queue ∷ [])
-  longer_valid host sound = fit_more (no_holders host.server.depth) (batches_of host) host.server.queue sound.valid sound.fits
+  pub new_order : (kind : SignKind) (first : ℕ) (host : Host D) → IsNew host → first ≤ length host.server.list → IsInOrder kind first host
+  new_order kind first host new late = record {
+    sound = new.sound;
+    late = late;
+    kept = subst (λ sas. All (KeepsMessage kind first host.server.depth host.head.spi host.server.list) sas) (sym new.none)
+        (All-nil (KeepsMessage kind first host.server.depth host.head.spi host.server.list));
+  }
 
-  pub sound_stored : (host : Host D) (answer : Answer) (outside : Outside) (next : Host D) → IsSound host
-      → IsStored d g signer block host answer outside next → IsSound next
-  sound_stored host answer outside next sound stored =
-      subst IsSound (sym stored.now) (record {
-        at = sound.at;
-        valid = subst (IsValid host.server.depth) (sym (batches_more host.server.list (made_next d g signer block host))) (longer_valid host sound);
-        fits = laws.no_change_fits (holders_of host.server.depth (batches_made (list_next d g signer block host)));
-      })
+module _ {D G V : Type 0} (laws : Laws) (on : Devices D G V) (by : Keying G) where
+  abbrev pub kind_by : SignKind
+  kind_by = on.signers.kind_of by.signer
 
-  pub sound_found : (host : Host D) (found : Found) (answer : Answer) (outside : Outside) (next : Host D)
-      → FindsGroup d g signer host found answer outside next → IsSound next
-  sound_found host found answer outside next finds =
-      subst IsSound (sym finds.now) (record {
-        at = refl;
-        valid = valid_from found.head.depth found.head.limit [] found.list finds.group.due;
-        fits = laws.no_change_fits (holders_of found.head.depth (batches_made found.list));
-      })
+  -- ---- the first step
 
-  -- ---- a history, whatever its openings found
+  found_new : (start : Host D) (found : Found) (answer : Answer) (outside : Outside) (next : Host D) → start.sessions.sas ≡ []
+      → FindsGroup on.disks on.signers by.signer start found answer outside next → IsNew next
+  found_new start found answer outside next none finds =
+      subst IsNew (sym finds.now) (new_sound _ finds.group.head.fits.shallow (valid_from found.head.depth found.head.limit [] found.list finds.group.due)
+      (laws.no_change_fits (holders_of found.head.depth (batches_made found.list))) (ap sessions_ended none))
 
-  pub sound_none : (disk : D) (name : Name) (limit place : ℕ) → IsSound (no_host disk name limit place 0)
-  sound_none disk name limit place = record { at = refl; valid = tt; fits = laws.no_change_fits (holders_of 0 []) }
-
-  pub sound_opened : (start : Run D) (asked : Asked) (answer : Answer) (outside : Outside) (next : Run D) → IsSound start.host → opens asked ≡ true
-      → IsAnswered d g signer v verifier block [] asked start answer outside next → IsSound next.host
-  sound_opened start (Create depth) answer outside next sound first step = elim step.opens.ends [
-    | inl makes ↦ subst IsSound (sym makes.now) (record { at = refl; valid = tt; fits = laws.no_change_fits (holders_of depth []) })
-    | inr fails ↦ subst IsSound (sym fails.now) (record { at = sound.at; valid = sound.valid; fits = sound.fits })
+  pub new_opened : (start : Run D) (asked : Asked) (answer : Answer) (outside : Outside) (next : Run D) → start.host.sessions.sas ≡ [] → opens asked ≡ true
+      → is_open answer ≡ true → IsAnswered on by [] asked start answer outside next → IsNew next.host
+  new_opened start (Create depth) answer outside next none first opened step = elim step.opens.ends [
+    | inl makes ↦ subst IsNew (sym makes.now) (new_sound _ step.opens.shallow tt (laws.no_change_fits (holders_of depth [])) none)
+    | inr fails ↦ absurd (false≢true (sym (ap is_open fails.answers) ∙ opened))
   ]
-  sound_opened start Begin answer outside next sound first step = elim step.opens.ends [
-    | inl begins ↦ sound_found start.host begins.found answer outside next.host begins.finds
-    | inr fails ↦ subst IsSound (sym fails.now) (record { at = sound.at; valid = sound.valid; fits = sound.fits })
+  new_opened start Begin answer outside next none first opened step = elim step.opens.ends [
+    | inl begins ↦ found_new start.host begins.found answer outside next.host none begins.finds
+    | inr fails ↦ absurd (false≢true (sym (ap is_open fails.answers) ∙ opened))
   ]
-  sound_opened start asked answer outside next sound first step = absurd (false≢true first)
+  new_opened start asked answer outside next none first opened step = absurd (false≢true first)
 
-  sound_step : (first : Entry) (before : List Entry) (run : Run D) (entry : Entry) (next : Run D) → IsSound run.host
-      → IsRunStep d g signer v verifier block (first ∷ before) run entry next → IsSound next.host
-  sound_step first before run entry next sound step = elim (each_kind laws d g signer v verifier block first before run entry next step) [
-    | inl quiet ↦ sound_quiet run.host entry.answer next.host sound quiet
-    | inr (inl stored) ↦ sound_stored run.host entry.answer entry.outside next.host sound stored
-    | inr (inr found) ↦ sound_found run.host found.0 entry.answer entry.outside next.host found.2
+  -- where a first opening fails, there is no batch
+  abbrev HasValidList : Host D → Type 0
+  HasValidList host = IsValid host.server.depth (batches_of host)
+
+  valid_opened : (start : Run D) (asked : Asked) (answer : Answer) (outside : Outside) (next : Run D) → start.host.server.list ≡ [] → opens asked ≡ true
+      → IsAnswered on by [] asked start answer outside next → HasValidList next.host
+  valid_opened start (Create depth) answer outside next none first step = elim step.opens.ends [
+    | inl makes ↦ subst HasValidList (sym makes.now) tt
+    | inr fails ↦ subst HasValidList (sym fails.now) (subst (λ list. IsValid start.host.server.depth (batches_made list)) (sym none) tt)
   ]
+  valid_opened start Begin answer outside next none first step = elim step.opens.ends [
+    | inl begins ↦
+        subst HasValidList (sym begins.finds.now) (valid_from begins.found.head.depth begins.found.head.limit [] begins.found.list begins.finds.group.due)
+    | inr fails ↦ subst HasValidList (sym fails.now) (subst (λ list. IsValid start.host.server.depth (batches_made list)) (sym none) tt)
+  ]
+  valid_opened start asked answer outside next none first step = absurd (false≢true first)
 
-  pub sound_all : (first : Entry) (before : List Entry) (run : Run D) (entries : List Entry) (after : Run D) → IsSound run.host
-      → AreRunSteps d g signer v verifier block (first ∷ before) run entries after → IsSound after.host
-  sound_all first before run [] after sound steps = subst (λ (given : Run D). IsSound given.host) (sym steps) sound
-  sound_all first before run (entry ∷ entries) after sound steps =
-      sound_all first (before ++ entry ∷ []) steps.0 entries after (sound_step first before run entry steps.0 sound steps.1) steps.2
+  -- ---- each step after it
 
-  pub valid_list : LeavesValidList d g signer v verifier block
-  valid_list disk name limit place [] after history = subst (λ (given : Run D). IsValid given.host.server.depth (batches_in given)) (sym history.steps) tt
-  valid_list disk name limit place (entry ∷ entries) after history =
-      let next = history.steps.0 in
-      let sound = sound_opened (no_run disk name limit place) entry.asked entry.answer entry.outside next (sound_none disk name limit place)
-      history.begins.0 history.steps.1.answered in
-      (sound_all entry [] next entries after sound history.steps.2).valid
+  module _ (messages : MessagesAreOfTheGroup on.disks on.signers by.signer by.block) where
+    pub order_step : (first : Entry) (before : List Entry) (run : Run D) (entry : Entry) (next : Run D) → IsInOrder kind_by 0 run.host
+        → IsRunStep on by (first ∷ before) run entry next → IsInOrder kind_by 0 next.host
+    order_step first before run entry next order step = elim (host_by on by first before run entry next step) [
+      | inl served ↦ (
+          let goes = messages 0 run.host entry next.host order.sound order.late order.kept served in
+          record { sound = goes.0; late = omega arith; kept = goes.1 }
+          )
+      | inr stays ↦ subst (IsInOrder kind_by 0) (sym stays.0) order
+    ]
+
+    pub order_all : (first : Entry) (before : List Entry) (run : Run D) (entries : List Entry) (after : Run D) → IsInOrder kind_by 0 run.host
+        → AreRunSteps on by (first ∷ before) run entries after → IsInOrder kind_by 0 after.host
+    order_all first before run [] after order steps = subst (λ (given : Run D). IsInOrder kind_by 0 given.host) (sym steps) order
+    order_all first before run (entry ∷ entries) after order steps =
+        order_all first (before ++ entry ∷ []) steps.0 entries after (order_step first before run entry steps.0 order steps.1) steps.2
+
+    pub valid_list : LeavesValidList on by
+    valid_list outset [] after history = subst (λ (given : Run D). HasValidList given.host) (sym history.steps) tt
+    valid_list outset (entry ∷ entries) after history =
+        let next = history.steps.0 in
+        let start = with_members (no_run outset) history.steps.1.acted in
+        let step = history.steps.1.answered.answered in
+        elim history.begins.1 [
+          | inl none ↦ (
+              let ends = subst (λ entries. AreRunSteps on by (entry ∷ []) next entries after) none history.steps.2 in
+              subst (λ (given : Run D). HasValidList given.host) (sym ends)
+              (valid_opened start entry.asked entry.answer entry.outside next refl history.begins.0 step)
+              )
+          | inr opened ↦ (
+              let new = new_opened start entry.asked entry.answer entry.outside next refl history.begins.0 opened step in
+              (order_all entry [] next entries after (new_order kind_by 0 next.host new (omega arith)) history.steps.2).sound.valid
+              )
+        ]

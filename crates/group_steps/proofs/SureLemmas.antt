@@ -5,8 +5,6 @@ use Rattle.std.specs.List.{list_any}
 use Rattle.std.proofs.lemmas.Bool.{false≢true, or_parts, and_parts}
 use Rattle.gd_disk.specs.Moments.{Keeps, shown}
 use Rattle.gd_disk.specs.declared.disks.Disk.{Ghosts as DiskGhosts}
-use Rattle.gd_edges.specs.declared.signers.Signer.{Ghosts as SignerGhosts}
-use Rattle.gd_edges.specs.declared.verifiers.Verifier.{Ghosts as VerifierGhosts}
 use Rattle.group_model.specs.Answers.{is_open}
 use Rattle.group_model.specs.declared.entries.Answer.{Answer}
 use Rattle.group_model.specs.declared.entries.Asked.{Asked}
@@ -15,8 +13,9 @@ use Rattle.group_model.specs.declared.entries.Entry.{Entry}
 use Rattle.group_model.specs.declared.entries.Outside.{Outside}
 use Rattle.server_steps.specs.Hosts.{Host}
 use Rattle.server_steps.specs.Openings.{IsOpeningAgain, IsSame}
+use Rattle.group_steps.specs.Devices.{Devices, Keying}
 use Rattle.group_steps.specs.Laws.{IsSure, asks_again, is_opened_again}
-use Rattle.group_steps.specs.Runs.{Run}
+use Rattle.group_steps.specs.Runs.{Run, with_members}
 use Rattle.group_steps.specs.Steps.{IsAnswered}
 use Rattle.group_steps.specs.TrueSteps.{SureStepsAreTrue}
 
@@ -45,24 +44,24 @@ module _ {D : Type 0} (d : DiskGhosts D) where
   sure_later old new entry entries keeps (inl some) = inl (shown_still old new keeps some)
   sure_later old new entry entries keeps (inr none) = inr (or_parts (is_opened_again entry) (list_any is_opened_again entries) none).1
 
-module _ {D G V : Type 0} (d : DiskGhosts D) (g : SignerGhosts G) (signer : G) (v : VerifierGhosts V) (verifier : V) (block : ℕ → List ℕ) where
-  true_again : (host : Host D) (answer : Answer) (outside : Outside) (next : Host D) → IsSome (shown d host.disk) → is_open answer ≡ true
-      → IsOpeningAgain d g signer host answer outside next → IsSame host (record { head = next.head; list = next.server.list })
+module _ {D G V : Type 0} (on : Devices D G V) (by : Keying G) where
+  true_again : (host : Host D) (answer : Answer) (outside : Outside) (next : Host D) → IsSome (shown on.disks host.disk) → is_open answer ≡ true
+      → IsOpeningAgain on.disks on.signers by.signer host answer outside next → IsSame host (record { head = next.head; list = next.server.list })
   true_again host answer outside next some opened again = elim again.ends [
     | inl reopens ↦ (
-        let file = some_file (shown d host.disk) some in
+        let file = some_file (shown on.disks host.disk) some in
         subst (λ (given : Host D). IsSame host (record { head = given.head; list = given.server.list })) (sym reopens.finds.now) (reopens.same file.0 file.1)
         )
     | inr fails ↦ absurd (false≢true (sym (ap is_open fails.answers) ∙ opened))
   ]
 
-  true_answered : (before : List Entry) (run : Run D) (asked : Asked) (answer : Answer) (outside : Outside) (next : Run D) → IsSome (shown d run.host.disk)
-      → asks_again asked ≡ true → is_open answer ≡ true → IsAnswered d g signer v verifier block before asked run answer outside next
+  true_answered : (before : List Entry) (run : Run D) (asked : Asked) (answer : Answer) (outside : Outside) (next : Run D)
+      → IsSome (shown on.disks run.host.disk) → asks_again asked ≡ true → is_open answer ≡ true → IsAnswered on by before asked run answer outside next
       → IsSame run.host (record { head = next.host.head; list = next.host.server.list })
   true_answered before run Reopen answer outside next some again opened step = true_again run.host answer outside next.host some opened step.served
   true_answered before run asked answer outside next some again opened step = absurd (false≢true again)
 
-  pub sure_true : SureStepsAreTrue d g signer v verifier block
+  pub sure_true : SureStepsAreTrue on by
   sure_true before run [] after steps sure = steps
   sure_true before run (entry ∷ entries) after steps sure =
       let next = steps.0 in (
@@ -71,9 +70,10 @@ module _ {D G V : Type 0} (d : DiskGhosts D) (g : SignerGhosts G) (signer : G) (
           steps.1,
           λ again. (
               let both = and_parts (asks_again entry.asked) (is_open entry.answer) again in
-              true_answered before run entry.asked entry.answer entry.outside next
-              (sure_first d run.host.disk entry entries sure again) both.0 both.1 steps.1.answered
+              true_answered before (with_members run steps.1.acted) entry.asked entry.answer entry.outside next
+              (sure_first on.disks run.host.disk entry entries sure again) both.0 both.1 steps.1.answered.answered
               ),
         ),
-        sure_true (before ++ entry ∷ []) next entries after steps.2 (sure_later d run.host.disk next.host.disk entry entries steps.1.keeps sure),
+        sure_true (before ++ entry ∷ []) next entries after steps.2
+            (sure_later on.disks run.host.disk next.host.disk entry entries steps.1.answered.keeps sure),
       )

@@ -2,9 +2,8 @@
 use Rattle.std.specs.Prelude.{◌≡◌, ◌⊎◌, ℕ, ◌+◌, ◌-◌, ◌^◌, ◌≤◌, List, count_by}
 use Rattle.gd_disk.specs.Moments.{Keeps}
 use Rattle.gd_disk.specs.declared.disks.Disk.{Ghosts as DiskGhosts}
-use Rattle.gd_edges.specs.declared.signers.Signer.{Ghosts as SignerGhosts}
-use Rattle.gd_edges.specs.declared.verifiers.Verifier.{Ghosts as VerifierGhosts}
 use Rattle.group_model.specs.declared.entries.Entry.{Entry}
+use Rattle.group_steps.specs.Devices.{Devices, Keying}
 use Rattle.group_steps.specs.Runs.{Run}
 use Rattle.group_steps.specs.Steps.{AreRunSteps}
 
@@ -17,16 +16,15 @@ pub record CountsFaults {D : Type 0} (d : DiskGhosts D) (n : ℕ) (old new : D) 
   pub counted : (d.faults old + n ≤ d.faults new) ⊎ (2 ^ 64 - 1 ≤ d.faults new)
   pub none : n ≡ 0 → d.faults new ≡ d.faults old
 
-module _ {D G V : Type 0} (d : DiskGhosts D) (g : SignerGhosts G) (signer : G) (v : VerifierGhosts V) (verifier : V)
-    (block : ℕ → List ℕ) where
+module _ {D G V : Type 0} (on : Devices D G V) (by : Keying G) where
   -- The disk counts at least one fault for each entry that notes one, and none where no entry does.
   abbrev pub FaultsAreCounted : Type 0
   FaultsAreCounted =
       (before : List Entry) (run : Run D) (entries : List Entry) (after : Run D)
-      → AreRunSteps d g signer v verifier block before run entries after → CountsFaults d (faults_in entries) run.host.disk after.host.disk
+      → AreRunSteps on by before run entries after → CountsFaults on.disks (faults_in entries) run.host.disk after.host.disk
 
   -- The disk is as honest as it was, and exposes its octets as before.
   abbrev pub DisksStayHonest : Type 0
   DisksStayHonest =
       (before : List Entry) (run : Run D) (entries : List Entry) (after : Run D)
-      → AreRunSteps d g signer v verifier block before run entries after → Keeps d run.host.disk after.host.disk
+      → AreRunSteps on by before run entries after → Keeps on.disks run.host.disk after.host.disk

@@ -1,18 +1,16 @@
 -- What follows of the steps of a run, said of every history.
-use Rattle.std.specs.Prelude.{◌≡◌, ◌⊎◌, ◌&&◌, ℕ, Bool, true, false, List, IsSome}
+use Rattle.std.specs.Prelude.{◌≡◌, ◌⊎◌, ◌&&◌, Bool, true, false, List, IsSome}
 use Rattle.std.specs.List.{list_any}
 use Rattle.gd_disk.specs.Moments.{shown}
 use Rattle.gd_disk.specs.declared.disks.Disk.{Ghosts as DiskGhosts}
-use Rattle.gd_edges.specs.declared.signers.Signer.{Ghosts as SignerGhosts}
-use Rattle.gd_edges.specs.declared.verifiers.Verifier.{Ghosts as VerifierGhosts}
-use Rattle.group_terms.specs.Names.{Name}
 use Rattle.group_values.specs.Values.{batches_made}
 use Rattle.group_model.specs.Answers.{is_open}
 use Rattle.group_model.specs.Places.{IsValid}
 use Rattle.group_model.specs.declared.entries.Asked.{Asked}
 use Rattle.group_model.specs.declared.entries.Asked.TheVariants.{Reopen}
 use Rattle.group_model.specs.declared.entries.Entry.{Entry}
-use Rattle.group_steps.specs.Runs.{Run, no_run}
+use Rattle.group_steps.specs.Devices.{Devices, Keying}
+use Rattle.group_steps.specs.Runs.{Outset, Run, no_run}
 use Rattle.group_steps.specs.Steps.{IsHistory}
 
 -- whether a request is that to open again
@@ -28,10 +26,10 @@ is_opened_again entry = asks_again entry.asked && is_open entry.answer
 abbrev pub IsSure : {D : Type 0} → DiskGhosts D → D → List Entry → Type 0
 IsSure d disk entries = IsSome (shown d disk) ⊎ (list_any is_opened_again entries ≡ false)
 
-module _ {D G V : Type 0} (d : DiskGhosts D) (g : SignerGhosts G) (signer : G) (v : VerifierGhosts V) (verifier : V) (block : ℕ → List ℕ) where
+module _ {D G V : Type 0} (on : Devices D G V) (by : Keying G) where
   -- The batches that a history leaves are a valid list.
   abbrev pub LeavesValidList : Type 0
   LeavesValidList =
-      (disk : D) (name : Name) (limit place : ℕ) (entries : List Entry) (after : Run D)
-      → IsHistory d g signer v verifier block (no_run disk name limit place) entries after
+      (outset : Outset D) (entries : List Entry) (after : Run D)
+      → IsHistory on by (no_run outset) entries after
       → IsValid after.host.server.depth (batches_made after.host.server.list)

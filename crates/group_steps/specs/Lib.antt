@@ -2,12 +2,13 @@ pub mod ChainLaws
 pub mod Chains
 pub mod Counts
 pub mod Crashes
+pub mod Devices
 pub mod Gets
 pub mod Kinds
 pub mod Laws
+pub mod Mails
 pub mod Moments
 pub mod Questions
-pub mod Replies
 pub mod Runs
 pub mod Served
 pub mod Steps

@@ -63,12 +63,12 @@ fn draw_traffic<R: Draws>(draws: &mut R) -> TrafficValue
     TrafficValue {
         cipher_key,
         integrity_key: joined(&first, &second),
-        spi: spi_of(&spi),
+        spi: number_of(&spi),
     }
 }
 
 /// Two blocks, one after the other.
-fn joined(first: &[u8; 16], second: &[u8; 16]) -> [u8; 32]
+pub fn joined(first: &[u8; 16], second: &[u8; 16]) -> [u8; 32]
     ensures { result ≡ first.now ++ second.now }
 {
     let mut octets = [0; 32];
@@ -78,8 +78,8 @@ fn joined(first: &[u8; 16], second: &[u8; 16]) -> [u8; 32]
     octets
 }
 
-/// The SPI of a block.
-fn spi_of(block: &[u8; 16]) -> [u8; 4]
+/// The first four octets of a block, with the highest bit set: a number that is not zero.
+pub fn number_of(block: &[u8; 16]) -> [u8; 4]
     ensures { result ≡ with_high_bit (take 4 block.now) }
 {
     let [first, second, third, fourth, ..] = *block;

@@ -2,7 +2,10 @@
 #![tactic(auto)]
 
 pub use group_terms::{GroupName, Keyed, NoMemory, Octets, Phase1};
-pub use laws::a_pull_gives_the_keys;
+pub use laws::{
+    a_pull_always_fits, a_pull_gives_the_keys, a_pull_takes_messages_as_they_were_written,
+    what_a_pull_takes_makes_a_store,
+};
 pub use pulls::{Begun, MemberPull, Step};
 pub use refusals::PullRefusal;
 

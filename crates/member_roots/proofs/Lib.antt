@@ -16,3 +16,4 @@ pub mod SentReadLemmas
 pub mod TakenLemmas
 pub mod ToldLemmas
 pub mod WayLemmas
+pub mod WrittenLemmas

@@ -9,6 +9,7 @@ ghost use Rattle.group_keys.specs.Replies.{IsKeyedOf};
 ghost use Rattle.group_model.specs.Places.{holders_at, holders_of, is_member};
 ghost use Rattle.group_model.specs.Wraps.{node_wraps};
 ghost use Rattle.group_model.specs.declared.entries.PushPair.{PushPair};
+ghost use Rattle.kd_wire.specs.Texts.{KeyedFits};
 ghost use Rattle.member_store.specs.declared.answers.Taken.{Taken};
 ghost use Rattle.member_store.specs.declared.answers.Taken.TheVariants.{Root, Traffic};
 ghost use Rattle.member_store.specs.Steps.{AreDueAcceptances, IsAcceptance, IsRefused};
@@ -38,6 +39,17 @@ pub fn a_reply_is_at_its_root()
 {
     first_epochs_stay();
     each_law_holds();
+}
+
+/// What a member is told at an epoch can be written.
+pub fn a_reply_can_be_written()
+    ensures { (depth epoch : ℕ) (spi : List ℕ) (list : List Made) (m : Name) (keyed : Keyed) →
+        IsKeyedGroup depth spi list → epoch ≤ length list →
+        is_member (holders_at depth (batches_made list) epoch) m ≡ true →
+        IsKeyedOf depth spi (take epoch list) m keyed → KeyedFits keyed × (keyed.sequence < 4294967296) }
+{
+    first_epochs_stay();
+    a_reply_is_at_its_root();
 }
 
 /// What a member is told at the last epoch is a reply of which a store can be made.

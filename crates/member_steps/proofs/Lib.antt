@@ -1,1 +1,4 @@
-mod MailLemmas
+pub mod FitLemmas
+pub mod PeerLemmas
+pub mod TakeLemmas
+pub mod DrawnFacts

@@ -1,3 +1,5 @@
+pub mod Acts
+pub mod Drawn
 pub mod Keys
 pub mod Mails
 pub mod Members

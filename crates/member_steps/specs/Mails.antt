@@ -1,15 +1,17 @@
--- Replies that can be on their way.
-use Rattle.std.specs.Prelude.{◌≡◌, true, List, All}
-use Rattle.member_store.specs.Stores.{IsReply}
-use Rattle.group_peers.specs.Peers.{is_peer}
-use Rattle.group_peers.specs.declared.members.Peer.{Peer}
+-- What comes of a datagram that is on its way to a member.
+use Rattle.std.specs.Prelude.{◌≡◌, ℕ, List, ◌∷◌, Result, Ok, Err}
+use Rattle.group_terms.specs.Names.{Name}
+use Rattle.group_terms.specs.declared.memory.NoMemory.{NoMemory}
+use Rattle.member_steps.specs.Acts.{Agrees, IsIgnoring}
 use Rattle.member_steps.specs.Members.{Mail}
+use Rattle.member_steps.specs.Steps.{IsKeeping}
+use Rattle.member_steps.specs.Views.{View, members_with}
+use Rattle.member_steps.specs.declared.came.Came.{Came}
+use Rattle.member_steps.specs.declared.came.Came.TheVariants.{Ended, Ignored, Sends}
 
--- it goes to somebody who was granted a join, and a store can be made of its keys
-pub record IsMailTo (all : List Peer) (mail : Mail) : Type 0 where
-  pub granted : is_peer all mail.0 ≡ true
-  pub reply : IsReply mail.1
-
--- each of these replies can be on its way to one of these peers
-abbrev pub AreMailTo : List Peer → List Mail → Type 0
-AreMailTo all mail = All (IsMailTo all) mail
+-- it is the first one, and is to this member; where memory is short, nothing changes
+abbrev pub TakesMail : Name → List ℕ → List Mail → View → Result Came NoMemory → View → Type 0
+TakesMail m datagram later old (Ok Ignored) new = IsIgnoring (members_with old ((m, datagram) ∷ later)) (members_with new later)
+TakesMail m datagram later old (Ok Sends) new = (third : List ℕ) × Agrees m third (members_with old ((m, datagram) ∷ later)) (members_with new later)
+TakesMail m datagram later old (Ok (Ended answer)) new = IsKeeping m (members_with old ((m, datagram) ∷ later)) answer (members_with new later)
+TakesMail m datagram later old (Err short) new = new ≡ old

@@ -9,3 +9,4 @@ pub mod OpeningLemmas
 pub mod PathLemmas
 pub mod StepLemmas
 pub mod TakingLemmas
+pub mod StoreFacts

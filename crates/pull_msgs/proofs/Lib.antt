@@ -1,8 +1,13 @@
 pub mod CauseLemmas
 pub mod DraftLemmas
+pub mod FrontLemmas
 pub mod HashLemmas
+pub mod KindLemmas
 pub mod MessageLemmas
 pub mod OpeningLemmas
 pub mod PartLemmas
+pub mod PathLemmas
 pub mod ReaderLemmas
+pub mod SentLemmas
+pub mod SizeLemmas
 pub mod WrittenLemmas

@@ -2,16 +2,17 @@
 use Rattle.std.proofs.Common.{◌≡◌, ◌≤◌, ◌<◌, ◌+◌, ◌-◌, ◌∙◌, ℕ, List, [], ◌++◌, length, take, drop, replicate, Option, Some, None, Result, Ok, Err, refl, ap, sym, subst, arith, append_assoc, length-append}
 use Rattle.std.proofs.lemmas.List.{take_at, drop_at, drop-drop}
 use Rattle.std.proofs.lemmas.Slice.Eq.{bytes_eq-Decides}
-use Rattle.std.specs.Prelude.{true, IsSome}
+use Rattle.std.specs.Prelude.{Bool, true, false, IsSome}
 use Rattle.std.specs.Str.{bytes_eq}
 use Rattle.gd_wire.specs.declared.chains.Named.{Named}
 use Rattle.gd_wire.specs.declared.chains.Part.{Part}
 use Rattle.gd_wire.specs.Bodies as bodies
 use Rattle.gd_wire.specs.Bodies.{sequence_text, identification_text}
 use Rattle.gd_wire.specs.Chains.{payload, payload_text, chain_end, body_of, named_first}
-use Rattle.gd_wire.specs.Readings.{Cursor, from_start, value_of, mapped}
+use Rattle.gd_wire.specs.Readings.{Cursor, Reading, ◌>>◌, check, give, from_start, value_of, mapped}
 use Rattle.group_terms.specs.declared.paths.Keyed.{Keyed}
 use Rattle.group_terms.specs.declared.wires.WireFault.{WireFault}
+use Rattle.group_terms.specs.declared.wires.WireWhat.TheVariants.{Value}
 use Rattle.kd_wire.specs.Bodies.{kd_view}
 use Rattle.kd_wire.specs.Texts.{reply_kd}
 use Rattle.kd_wire.specs.declared.spis.SpiPlaces.{SpiPlaces}
@@ -20,7 +21,8 @@ use Rattle.sa_wire.specs.declared.places.PlacedKek.{PlacedKek}
 use Rattle.sa_wire.specs.declared.places.PlacedSa.{PlacedSa}
 use Rattle.sa_wire.specs.declared.places.PlacedTek.{PlacedTek}
 use Rattle.sa_wire.specs.declared.policies.SaPolicy.{SaPolicy}
-use Rattle.pull_msgs.specs.Readings.{hash_payload, nonce_payload, covered, both_policies, policies, maybe_gap, first, second, third, fourth}
+use Rattle.pull_msgs.specs.Readings.{FourthSaid, PullRead, hash_payload, nonce_payload, covered, both_policies, policies, maybe_gap}
+use Rattle.pull_msgs.specs.Readings.{first, second, third, fourth}
 
 -- what the framing promises of payloads that are written
 pub record Laws : Type 0 where
@@ -100,12 +102,12 @@ module _ (laws : Laws) (kind next : ℕ) (digest one two : List ℕ) (zeros : �
       sym (drop-drop (4 + length one) one_at text ∙ ap (λ place. drop place text) (omega arith))
       ∙ ap (drop (4 + length one)) rest_one ∙ drop_at (payload_text next one) from_two (4 + length one) (omega arith)
 
-  digest_read : value_of (bodies.hash 30 (from_start 32 (body_of text (part 8 0 (length digest))))) ≡ Ok digest
+  pub digest_read : value_of (bodies.hash 30 (from_start 32 (body_of text (part 8 0 (length digest))))) ≡ Ok digest
   digest_read =
       ap (λ octets. value_of (bodies.hash 30 (from_start 32 octets))) (laws.body_is text 8 kind 28 0 digest from_one refl)
       ∙ laws.hash_is 32 30 digest long
 
-  body_one : (kind : ℕ) → body_of text (part kind one_at (length one)) ≡ one
+  pub body_one : (kind : ℕ) → body_of text (part kind one_at (length one)) ≡ one
   body_one named = laws.body_is text named next 28 one_at one from_two rest_one
 
   body_two : (kind : ℕ) → body_of text (part kind two_at (length two)) ≡ two
@@ -205,6 +207,20 @@ module _ (laws : Laws) (digest nr body : List ℕ) (policy : SaPolicy) (zeros : 
         covered_is laws 10 1 digest nr body zeros long few one_fits two_fits,
       ) refl
 
+-- ---- the keys
+
+-- a value that is given after a test
+abbrev checked : {A : Type 0} → Bool → ℕ → A → Reading A
+checked holds at value = check holds Value at >> give value
+
+checked_true : {A : Type 0} (holds : Bool) (at : ℕ) (value : A) (cursor : Cursor) → holds ≡ true → value_of (checked holds at value cursor) ≡ Ok value
+checked_true true at value cursor holds = refl
+checked_true false at value cursor holds = absurd (cc)
+
+checked_same : {A : Type 0} (holds : Bool) (at : ℕ) (value read : A) (cursor : Cursor) → value_of (checked holds at value cursor) ≡ Ok read → read ≡ value
+checked_same true at value read cursor is = cc
+checked_same false at value read cursor is = absurd (cc)
+
 module _ (laws : Laws) (digest : List ℕ) (keyed : Keyed) (zeros : ℕ) (long : length digest ≡ 32) (few : zeros < 16)
     (small : keyed.sequence < 4294967296) (keys_fit : length (reply_kd keyed) ≤ 65000) (places : ℕ → SpiPlaces) (spi_at : ℕ → ℕ)
     (placed : (base : ℕ) → (places base).lkh ≡ Some (spi_at base))
@@ -221,14 +237,19 @@ module _ (laws : Laws) (digest : List ℕ) (keyed : Keyed) (zeros : ℕ) (long :
   abbrev fourth_text : List ℕ
   fourth_text = text laws 18 17 digest number (reply_kd keyed) zeros long few (omega arith) (omega (arith, keys_fit))
 
-  pub fourth_is_read : value_of (fourth keyed.spi fourth_text 8 (from_start 28 fourth_text))
-      ≡ Ok (record {
-        hash = digest;
-        covered = payload_text 17 number ++ payload_text 0 (reply_kd keyed);
-        said = record { sequence = keyed.sequence; traffic = keyed.traffic; spi = keyed.spi; path = keyed.path };
-      })
+  abbrev pub fourth_said : PullRead FourthSaid
+  fourth_said = record {
+    hash = digest;
+    covered = payload_text 17 number ++ payload_text 0 (reply_kd keyed);
+    said = record { sequence = keyed.sequence; traffic = keyed.traffic; spi = keyed.spi; path = keyed.path };
+  }
+
+  -- with any SPI, which is compared after all else
+  fourth_checked : (spi : List ℕ) → value_of (fourth spi fourth_text 8 (from_start 28 fourth_text))
+      ≡ value_of (checked (bytes_eq keyed.spi spi) (spi_at (28 + (0 + 4 + length digest + 4 + 4) + 4)) fourth_said
+      (record { base = 28; at = 0 + 4 + length digest + 4 + 4 + 4 + length (reply_kd keyed); left = replicate zeros 0 }))
   unfolding fourth hash_payload covered
-  fourth_is_read =
+  fourth_checked spi =
       let one_fits : length number ≤ 65531 = omega arith in
       let two_fits : length (reply_kd keyed) ≤ 65531 = omega (arith, keys_fit) in
       let one_at : ℕ = 0 + 4 + length digest in
@@ -246,5 +267,12 @@ module _ (laws : Laws) (digest : List ℕ) (keyed : Keyed) (zeros : ℕ) (long :
         placed (28 + two_at + 4),
         laws.end_is zeros 28 (two_at + 4 + length (reply_kd keyed)) (28 + two_at) few,
         covered_is laws 18 17 digest number (reply_kd keyed) zeros long few one_fits two_fits,
-        same_bytes keyed.spi,
       ) refl
+
+  pub fourth_is_read : value_of (fourth keyed.spi fourth_text 8 (from_start 28 fourth_text)) ≡ Ok fourth_said
+  fourth_is_read = fourth_checked keyed.spi ∙ checked_true (bytes_eq keyed.spi keyed.spi) _ fourth_said _ (same_bytes keyed.spi)
+
+  -- so nothing else is read of it
+  pub fourth_gives : (spi : List ℕ) (read : PullRead FourthSaid) → value_of (fourth spi fourth_text 8 (from_start 28 fourth_text)) ≡ Ok read
+      → read ≡ fourth_said
+  fourth_gives spi read is = checked_same (bytes_eq keyed.spi spi) _ fourth_said read _ (sym (fourth_checked spi) ∙ is)

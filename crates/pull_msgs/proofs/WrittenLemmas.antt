@@ -78,6 +78,29 @@ policies_long policy fits sized = sized ∙ both policy.kek policy.tek fits.kek 
     both None tek has_kek has_tek = absurd (cc)
     both (Some kek) None has_kek has_tek = absurd (cc)
 
+-- ---- what is sealed
+
+-- the payloads of a message are octets, where what they are written of is
+pub plain_octets : ((next : ℕ) (body : List ℕ) → IsOctet next → AreOctets body → AreOctets (payload_text next body)) → (phase : Phase1) (said : Message)
+    → first_kind said.payloads < 256 → AreOctets (payloads_text said.payloads) → AreOctets (plain_text phase said)
+plain_octets octets_of phase said kind_small payload_octets =
+    let digest : List ℕ = message_hash phase said in
+    let rest : List ℕ = payloads_text said.payloads in
+    let before : List ℕ = payload_text (first_kind said.payloads) digest ++ rest in
+    let zeros : ℕ = (16 - length before % 16) % 16 in
+    All-append IsOctet before (replicate zeros 0)
+    (All-append IsOctet (payload_text (first_kind said.payloads) digest) rest
+    (octets_of (first_kind said.payloads) digest kind_small (octets-hash_of phase said.message said.nonces rest)) payload_octets)
+    (zeros_are_octets zeros)
+
+-- they are sealed after the header
+pub sealed_is : (phase : Phase1) (iv : List ℕ) (said : Message) (datagram : List ℕ) → length phase.cookies ≡ 16 → length said.message ≡ 4
+    → (is : IsPullText phase iv said datagram) → drop 28 datagram ≡ is.sealed
+sealed_is phase iv said datagram cookies message is =
+    ap (drop 28) is.is_text ∙ drop_at (head_text phase said) is.sealed 28 (head_long (head_of_message phase said) cookies message)
+
+-- ---- what is read
+
 -- what the laws below this crate promise
 pub record Laws : Type 0 where
   pub octets_of : (next : ℕ) (body : List ℕ) → IsOctet next → AreOctets body → AreOctets (payload_text next body)
@@ -96,21 +119,8 @@ module _ (laws : Laws) (phase : Phase1) (iv : List ℕ) (said : Message) (datagr
   abbrev rest : List ℕ
   rest = payloads_text said.payloads
 
-  abbrev before : List ℕ
-  before = payload_text (first_kind said.payloads) digest ++ rest
-
-  abbrev pub zeros : ℕ
-  zeros = (16 - length before % 16) % 16
-
   abbrev pub plain : List ℕ
   plain = plain_text phase said
-
-  plain_octets : AreOctets plain
-  plain_octets =
-      All-append IsOctet before (replicate zeros 0)
-      (All-append IsOctet (payload_text (first_kind said.payloads) digest) rest
-      (laws.octets_of (first_kind said.payloads) digest kind_small (octets-hash_of phase said.message said.nonces rest)) payload_octets)
-      (zeros_are_octets zeros)
 
   plain_is : length plain ≡ filled (36 + length rest)
   plain_is = plain_long digest said.payloads (length-hash_of phase said.message said.nonces rest)
@@ -144,9 +154,8 @@ module _ (laws : Laws) (phase : Phase1) (iv : List ℕ) (said : Message) (datagr
 
   is_opened : IsOpened phase.key iv (drop 28 datagram) plain
   is_opened =
-      subst (λ octets. IsOpened phase.key iv octets plain)
-      (sym (ap (drop 28) is.is_text ∙ drop_at (header_text top) is.sealed 28 (head_long top phase_fits.cookies message_fits.size)))
-      (laws.opens_as phase.key iv plain is.sealed (inl phase_fits.key) iv_fits plain_octets is.is_sealed)
+      subst (λ octets. IsOpened phase.key iv octets plain) (sym (sealed_is phase iv said datagram phase_fits.cookies message_fits.size is))
+      (laws.opens_as phase.key iv plain is.sealed (inl phase_fits.key) iv_fits (plain_octets laws.octets_of phase said kind_small payload_octets) is.is_sealed)
 
   -- the answer where that message is awaited, and its payloads are read
   module _ (A B : Type 0) (awaited : Awaited A B) (answer : Result B PullFault) (read : PullRead A)

@@ -4,5 +4,6 @@ pub mod Nonces
 pub mod Private
 pub mod Pulls
 pub mod Readings
+pub mod Sent
 pub mod Shown
 pub mod Texts

@@ -1,10 +1,11 @@
-//! A message that was written is read again, how long it is, and what the causes of an answer are.
+//! A message that was written is read again, and in another pull as nothing else; how long it is, and what the causes of an answer are.
 ghost use Rattle.std.specs.Prelude.{◌≡◌, ◌≤◌, ◌+◌, ◌*◌, ◌⊎◌, ℕ, List, length, Result, Ok, Err};
 ghost use Rattle.gd_cipher.specs.Bytes.{AreBytes};
 ghost use Rattle.gd_wire.specs.Chains.{filled};
 ghost use Rattle.group_terms.specs.Octets.{AreOctets};
 ghost use Rattle.group_terms.specs.declared.paths.Keyed.{Keyed};
 ghost use Rattle.group_terms.specs.declared.phases.Phase1.{Phase1};
+ghost use Rattle.kd_wire.specs.Texts.{IsPath};
 ghost use Rattle.pull_msgs.specs.declared.faults.PullFault.{PullFault};
 ghost use Rattle.pull_msgs.specs.declared.faults.PullFault.TheVariants.{NoMemory};
 ghost use Rattle.pull_msgs.specs.declared.messages.First.{First};
@@ -12,16 +13,23 @@ ghost use Rattle.pull_msgs.specs.declared.messages.Second.{Second};
 ghost use Rattle.pull_msgs.specs.declared.messages.Third.{Third};
 ghost use Rattle.pull_msgs.specs.Fits.{PhaseFits, MessageFits, NonceFits, ReplyFits, PoliciesFit};
 ghost use Rattle.pull_msgs.specs.Pulls.{IsAnswer, HasCauses, first_awaited, second_awaited, third_awaited, fourth_awaited};
+ghost use Rattle.pull_msgs.specs.Readings.{root_made};
+ghost use Rattle.pull_msgs.specs.Sent.{IsSomeSecond, IsSomeFourth};
 ghost use Rattle.pull_msgs.specs.Texts.{IsPullText, first_iv, next_iv, key_id_type};
 ghost use Rattle.pull_msgs.specs.Texts.{first_message, second_message, third_message, fourth_message};
 ghost use Rattle.sa_wire.specs.declared.policies.SaPolicy.{SaPolicy};
 
-use gd_cipher::{a_text_is_opened_in_one_way, what_was_sealed_opens};
+use gd_cipher::{
+    a_text_is_opened_in_one_way, an_iv_matters_for_the_first_block_alone, what_was_sealed_opens,
+};
 use gd_wire::{
     a_written_body_is_read, a_written_header_is_read, a_written_payload_is_read,
     written_framing_is_octets,
 };
-use kd_wire::{a_written_reply_is_read, written_texts_are_octets, written_texts_have_their_size};
+use kd_wire::{
+    a_body_has_one_of_three_forms, a_written_reply_is_read, written_texts_are_octets,
+    written_texts_have_their_size,
+};
 use sa_wire::{
     written_policies_are_octets, written_policies_are_read, written_policies_have_their_size,
 };
@@ -67,6 +75,51 @@ pub fn a_written_message_is_read()
     written_policies_are_octets();
     written_policies_are_read();
     written_policies_have_their_size();
+}
+
+/// A server's message is taken as it was written or not at all, also in another pull under its phase 1 SA, whatever message id, nonces and IV that
+/// pull has. A second message gives its nonce and its policies, a fourth its keys; neither is taken as the other one.
+pub fn a_message_is_taken_as_it_was_written()
+    ensures second { (phase : Phase1) (message iv ni nr datagram : List ℕ) (policy : SaPolicy) (taken : Second) →
+        PhaseFits phase → length iv ≡ 16 → IsSomeSecond phase nr policy datagram →
+        IsAnswer phase (second_awaited message iv ni) datagram (Ok taken) →
+        taken ≡ record { nr = nr; policy = policy; next_iv = next_iv datagram } }
+    ensures fourth { (phase : Phase1) (message iv ni nr spi datagram : List ℕ) (keyed taken : Keyed) →
+        PhaseFits phase → length iv ≡ 16 → IsSomeFourth phase keyed datagram →
+        IsAnswer phase (fourth_awaited message iv ni nr spi) datagram (Ok taken) → taken ≡ keyed }
+    ensures second_as_fourth { (phase : Phase1) (message iv ni nr spi server_nr datagram : List ℕ) (policy : SaPolicy) (taken : Keyed) →
+        PhaseFits phase → length iv ≡ 16 → IsSomeSecond phase server_nr policy datagram →
+        IsAnswer phase (fourth_awaited message iv ni nr spi) datagram (Ok taken) → ⊥ }
+    ensures fourth_as_second { (phase : Phase1) (message iv ni datagram : List ℕ) (keyed : Keyed) (taken : Second) →
+        PhaseFits phase → length iv ≡ 16 → IsSomeFourth phase keyed datagram →
+        IsAnswer phase (second_awaited message iv ni) datagram (Ok taken) → ⊥ }
+{
+    an_iv_matters_for_the_first_block_alone();
+    a_written_body_is_read();
+    a_written_payload_is_read();
+    written_framing_is_octets();
+    a_written_reply_is_read();
+    written_texts_are_octets();
+    written_texts_have_their_size();
+    written_policies_are_octets();
+    written_policies_are_read();
+    written_policies_have_their_size();
+}
+
+/// A message that is taken has a message id of 4 octets; its last block, under which the next message is written, has 16.
+pub fn a_taken_message_has_its_sizes()
+    ensures first { (phase : Phase1) (datagram : List ℕ) (taken : First) →
+        IsAnswer phase (first_awaited phase) datagram (Ok taken) → (length taken.message ≡ 4) × (length taken.next_iv ≡ 16) }
+    ensures third { (phase : Phase1) (message iv ni nr datagram : List ℕ) (taken : Third) →
+        IsAnswer phase (third_awaited message iv ni nr) datagram (Ok taken) → (length message ≡ 4) × (length taken.next_iv ≡ 16) }
+{}
+
+/// A fourth message that is taken, whatever its datagram is, gives a path that leads up to the root, and the epoch in which the root's key was made.
+pub fn a_taken_reply_is_a_path()
+    ensures { (phase : Phase1) (message iv ni nr spi datagram : List ℕ) (keyed : Keyed) →
+        IsAnswer phase (fourth_awaited message iv ni nr spi) datagram (Ok keyed) → IsPath keyed.path × (keyed.epoch ≡ root_made keyed.path) }
+{
+    a_body_has_one_of_three_forms();
 }
 
 /// A datagram has 28 octets of header, and whole blocks for its payloads. With nonces of 16 octets and a group whose name has 7 these are

@@ -5,6 +5,7 @@ pub use faults::PullFault;
 pub use fits::{nonce_fits, phase_fits, policies_fit};
 pub use group_terms::{GroupName, Keyed, Octets, Phase1};
 pub use laws::{
+    a_message_is_taken_as_it_was_written, a_taken_message_has_its_sizes, a_taken_reply_is_a_path,
     a_written_message_is_read, each_answer_has_its_cause, written_messages_have_their_size,
 };
 pub use messages::{First, Second, Third};

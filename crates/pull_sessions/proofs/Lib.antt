@@ -3,3 +3,4 @@ pub mod HeaderLemmas
 pub mod IndexLemmas
 pub mod LookLemmas
 pub mod SaLemmas
+pub mod SessionFacts

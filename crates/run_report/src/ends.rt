@@ -114,6 +114,7 @@ pub fn ran_out(entry: &Entry) -> bool
         | Answer::Opened { .. }
         | Answer::Shown { .. }
         | Answer::Kept { .. }
+        | Answer::Lost
         | Answer::Older { .. }
         | Answer::TookRoot { .. }
         | Answer::TookTraffic { .. }

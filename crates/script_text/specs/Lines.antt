@@ -4,10 +4,11 @@ use Rattle.std.specs.List.{starts_with}
 use Rattle.std.specs.Option.{option_map, option_and_then}
 use Rattle.std.specs.Str.{bytes_eq}
 use Rattle.group_terms.specs.Names.{Name, name_of}
+use Rattle.group_terms.specs.Patterns.{pattern_of}
 use Rattle.script_text.specs.Words.{words_of, only_word}
 use Rattle.script_text.specs.Numbers.{decimal_in}
 use Rattle.script_text.specs.declared.lines.Line.{Line}
-use Rattle.script_text.specs.declared.lines.Line.TheVariants.{Nothing, Join, Leave, Batch, Deliver, DeliverAll, Key, Derive, Halt, Reopen, Show}
+use Rattle.script_text.specs.declared.lines.Line.TheVariants.{Nothing, Allow, Deny, Join, Again, Lose, Leave, Batch, Deliver, DeliverAll, Key, Derive, Halt, Reopen, Show}
 
 -- a command of one word
 abbrev pub lone_command : List ℕ → Option Line
@@ -22,10 +23,14 @@ lone_command command =
 -- a command and its one argument
 abbrev pub command_with : List ℕ → List ℕ → Option Line
 command_with command name =
-    if bytes_eq command (codes "join") then option_map Join (name_of name)
+    if bytes_eq command (codes "allow") then option_map Allow (pattern_of name)
+    else (if bytes_eq command (codes "deny") then option_map Deny (pattern_of name)
+    else (if bytes_eq command (codes "join") then option_map Join (name_of name)
+    else (if bytes_eq command (codes "again") then option_map Again (name_of name)
+    else (if bytes_eq command (codes "lose") then option_map Lose (name_of name)
     else (if bytes_eq command (codes "leave") then option_map Leave (name_of name)
     else (if bytes_eq command (codes "key") then option_map Key (name_of name)
-    else None))
+    else None))))))
 
 -- a number of 1 to 10 decimal digits, below 2^32
 abbrev pub number_in : List ℕ → Option ℕ

@@ -14,9 +14,9 @@ use Rattle.group_model.specs.declared.entries.SentReply.{SentReply}
 use Rattle.group_model.specs.declared.entries.Standing.{Standing}
 use Rattle.group_model.specs.declared.entries.SymReply.{SymReply}
 use Rattle.group_model.specs.declared.entries.Asked.{Asked}
-use Rattle.group_model.specs.declared.entries.Asked.TheVariants.{AddRule, Create, Begin, Introduce, Serve, Join, Leave, Batch, Halt, Reopen, Show, Keep, Deliver, DeliverAll, Key, Derive}
+use Rattle.group_model.specs.declared.entries.Asked.TheVariants.{AddRule, Create, Begin, Introduce, Serve, Leave, Batch, Halt, Reopen, Show, Lose, Again, Keep, Deliver, DeliverAll, Key, Derive}
 use Rattle.group_model.specs.declared.entries.Answer.{Answer}
-use Rattle.group_model.specs.declared.entries.Answer.TheVariants.{RuleNumber, Datagram, Opened, Queued, Done, Nothing, Batched, Shown, Kept, Older, TookRoot, TookTraffic, PushRefused, KeyIs, Derived, Refused}
+use Rattle.group_model.specs.declared.entries.Answer.TheVariants.{RuleNumber, Datagram, Opened, Queued, Done, Nothing, Batched, Shown, Kept, Lost, Older, TookRoot, TookTraffic, PushRefused, KeyIs, Derived, Refused}
 use Rattle.group_model.specs.declared.entries.Refusal.{Refusal}
 use Rattle.group_model.specs.declared.entries.Refusal.TheVariants as refusals
 use Rattle.group_model.specs.declared.entries.Refusal.TheVariants.{NeedsReopen, UnknownPeer, WrongStep, BadHash, WrongGroup, Denied, NotMember, AlreadyPending, TreeFull, BatchFull, Spent, DiskFault, PhaseTaken, PhaseFull, NotAJournal, NoMemory}
@@ -157,22 +157,15 @@ serve_text m Queued = line_with (m ∷ codes "queued" ∷ [])
 serve_text m (Refused why) = refusal_line m why
 serve_text m answer = []
 
--- the name waits for the next batch, or is a member already
-abbrev pub join_text : Name → Answer → List ℕ
-join_text m Queued = line_with (m ∷ codes "queued" ∷ [])
-join_text m Nothing = line_with (m ∷ codes "nothing" ∷ [])
-join_text m (Refused why) = refusal_line m why
-join_text m answer = []
-
 -- the member goes out with the next batch
 abbrev pub leave_text : Name → Answer → List ℕ
 leave_text m Done = line_with (m ∷ codes "leaving" ∷ [])
 leave_text m (Refused why) = refusal_line m why
 leave_text m answer = []
 
--- a reply of a batch, where it has a datagram
+-- a reply of a batch
 abbrev pub reply_line : SentReply → List ℕ
-reply_line reply = if length reply.datagram == 0 then [] else message_line (codes "fourth") reply.says.member reply.datagram
+reply_line reply = message_line (codes "fourth") reply.says.member reply.datagram
 
 -- what the batch made, then each of its wraps in order, the pushes that were made of them, and the fourth messages
 abbrev pub batch_text : Answer → List ℕ
@@ -198,9 +191,21 @@ show_text (Shown group) = group_line group ++ flat_map leaf_line group.members
 show_text (Refused why) = refusal_line (codes "show") why
 show_text answer = []
 
--- the member has the keys of an epoch, or had later ones
+-- the next datagram to the member goes missing, or nothing does, since it was not introduced
+abbrev pub lose_text : Name → Answer → List ℕ
+lose_text m Done = line_with (m ∷ codes "loses" ∷ codes "next" ∷ [])
+lose_text m Nothing = line_with (m ∷ codes "nothing" ∷ [])
+lose_text m answer = []
+
+-- the member has sent nothing that it could send again
+abbrev pub again_text : Name → Answer → List ℕ
+again_text m Nothing = line_with (m ∷ codes "nothing" ∷ [])
+again_text m answer = []
+
+-- the member has the keys of an epoch, or had later ones; or the datagram went missing
 abbrev pub keep_text : Name → Answer → List ℕ
 keep_text m (Kept epoch) = line_with (m ∷ codes "keyed" ∷ decimal epoch ∷ [])
+keep_text m Lost = line_with (m ∷ codes "lost" ∷ [])
 keep_text m (Older last got) = line_with (m ∷ codes "older" ∷ decimal last ∷ decimal got ∷ [])
 keep_text m answer = []
 
@@ -243,12 +248,13 @@ answer_text Begin answer = begin_text answer
 answer_text (AddRule rule) answer = rule_text answer
 answer_text (Introduce phase) answer = introduction_text phase.member answer
 answer_text (Serve m datagram) answer = serve_text m answer
-answer_text (Join m) answer = join_text m answer
 answer_text (Leave m) answer = leave_text m answer
 answer_text Batch answer = batch_text answer
 answer_text Halt answer = halt_text answer
 answer_text Reopen answer = reopen_text answer
 answer_text Show answer = show_text answer
+answer_text (Lose m) answer = lose_text m answer
+answer_text (Again m) answer = again_text m answer
 answer_text (Keep m) answer = keep_text m answer
 answer_text (Deliver m sequence) answer = deliver_text m sequence answer
 answer_text DeliverAll answer = deliver_all_text answer

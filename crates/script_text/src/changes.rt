@@ -1,6 +1,6 @@
-//! The lines of joins, leaves and batches.
+//! The lines of leaves and batches.
 ghost use Rattle.std.specs.Prelude.{◌≡◌, ◌++◌, OnOk};
-ghost use Rattle.script_text.specs.Report.{join_text, leave_text, batch_text, epoch_line};
+ghost use Rattle.script_text.specs.Report.{leave_text, batch_text, epoch_line};
 
 use crate::messages::append_replies;
 use crate::pushes::append_pair;
@@ -9,28 +9,6 @@ use crate::seen::append_counts;
 use crate::wraps::append_wraps;
 use group_model::{Answer, MemberName, NoMemory, Octets, Output};
 use std::alloc::Global;
-
-pub fn append_join(
-    alloc: Global,
-    member: &MemberName,
-    answer: &Answer,
-    out: &mut Octets,
-) -> Result<(), NoMemory>
-    ensures { OnOk result (out.new ≡ out.old ++ join_text member.now answer.now) }
-{
-    match answer {
-        Answer::Queued => {
-            out.extend(member.text())?;
-            out.extend(b" queued\n")
-        }
-        Answer::Nothing => {
-            out.extend(member.text())?;
-            out.extend(b" nothing\n")
-        }
-        Answer::Refused { why } => append_refusal(alloc, member.text(), why, out),
-        _ => Ok(()),
-    }
-}
 
 pub fn append_leave(
     alloc: Global,

@@ -6,17 +6,26 @@ use crate::members::read_members;
 use crate::numbers::read_number;
 use crate::words::{next_word, only_word};
 use group_model::{MemberName, MemberNames};
+use group_terms::Pattern;
 
 /// How many octets a line has at the most.
 pub const MOST_LINE_OCTETS: usize = 200;
 
 /// What a line of a script says.
-#[derive(PartialEq, Drop)]
+#[derive(Drop)]
 pub enum Line {
     /// A comment, or a line without words.
     Nothing,
-    /// A name asks to come in.
+    /// Who may join is judged by one more rule, which allows those whose names match.
+    Allow { pattern: Pattern },
+    /// The same with a rule that denies them.
+    Deny { pattern: Pattern },
+    /// A member begins a pull; its phase 1 SA is made at its first use, and introduced where it was not.
     Join { member: MemberName },
+    /// A member sends its last datagram once more.
+    Again { member: MemberName },
+    /// The next datagram to a member goes missing.
+    Lose { member: MemberName },
     /// A member asks to go out.
     Leave { member: MemberName },
     /// The pending changes are to make the next epoch.
@@ -39,9 +48,9 @@ pub enum Line {
 
 /// What a line says, without its end of line; `None` where it is none of the grammar.
 ///
-/// Spaces alone part words, so that a tab or a carriage return is an octet of one. A line is `join NAME`, `leave NAME`, `batch`,
-/// `deliver NAME NUMBER`, `deliver-all`, `key NAME`, `derive NUMBER NAME..` with 1 to 8 names, `halt`, `reopen` or `show`; or it
-/// has no word, or one that begins with `#` first, and says nothing.
+/// Spaces alone part words, so that a tab or a carriage return is an octet of one. A line is `allow PATTERN`, `deny PATTERN`, `join NAME`, `again NAME`,
+/// `lose NAME`, `leave NAME`, `batch`, `deliver NAME NUMBER`, `deliver-all`, `key NAME`, `derive NUMBER NAME..` with 1 to 8 names, `halt`, `reopen` or
+/// `show`; or it has no word, or one that begins with `#` first, and says nothing.
 #[tactic(auto, unfolding(crate::specs::Lines::line_of))]
 pub fn read_line(text: &[u8]) -> Option<Line>
     ensures { result ≡ line_of text.now }
@@ -91,9 +100,21 @@ fn read_lone_command(command: &[u8]) -> Option<Line>
 fn read_command_with(command: &[u8], name: &[u8]) -> Option<Line>
     ensures { result ≡ command_with command.now name.now }
 {
-    if command == b"join".as_slice() {
+    if command == b"allow".as_slice() {
+        let pattern = Pattern::read(name)?;
+        Some(Line::Allow { pattern })
+    } else if command == b"deny".as_slice() {
+        let pattern = Pattern::read(name)?;
+        Some(Line::Deny { pattern })
+    } else if command == b"join".as_slice() {
         let member = MemberName::read(name)?;
         Some(Line::Join { member })
+    } else if command == b"again".as_slice() {
+        let member = MemberName::read(name)?;
+        Some(Line::Again { member })
+    } else if command == b"lose".as_slice() {
+        let member = MemberName::read(name)?;
+        Some(Line::Lose { member })
     } else if command == b"leave".as_slice() {
         let member = MemberName::read(name)?;
         Some(Line::Leave { member })

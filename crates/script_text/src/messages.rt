@@ -1,7 +1,7 @@
-//! The lines of rules, of introductions, and of the messages of pulls.
+//! The lines of rules, of introductions, and of the messages of pulls; of members that lose a datagram, or send theirs again.
 ghost use Rattle.std.specs.Prelude.{◌≡◌, ◌++◌, OnOk};
 ghost use Rattle.std.specs.List.{flat_map};
-ghost use Rattle.script_text.specs.Report.{rule_text, introduction_text, message_line, serve_text, reply_line};
+ghost use Rattle.script_text.specs.Report.{again_text, introduction_text, lose_text, message_line, reply_line, rule_text, serve_text};
 
 use crate::numbers::append_number;
 use crate::pushes::append_octets;
@@ -62,7 +62,34 @@ pub fn append_serve(
     }
 }
 
-/// Puts a line for each reply that has a datagram at the end of a text.
+pub fn append_lose(member: &MemberName, answer: &Answer, out: &mut Octets) -> Result<(), NoMemory>
+    ensures { OnOk result (out.new ≡ out.old ++ lose_text member.now answer.now) }
+{
+    match answer {
+        Answer::Done => append_words(member, b" loses next\n", out),
+        Answer::Nothing => append_words(member, b" nothing\n", out),
+        _ => Ok(()),
+    }
+}
+
+pub fn append_again(member: &MemberName, answer: &Answer, out: &mut Octets) -> Result<(), NoMemory>
+    ensures { OnOk result (out.new ≡ out.old ++ again_text member.now answer.now) }
+{
+    match answer {
+        Answer::Nothing => append_words(member, b" nothing\n", out),
+        _ => Ok(()),
+    }
+}
+
+/// Puts a name and these words after it at the end of a text.
+fn append_words(member: &MemberName, words: &[u8], out: &mut Octets) -> Result<(), NoMemory>
+    ensures { OnOk result (out.new ≡ out.old ++ (member.now ++ words.now)) }
+{
+    out.extend(member.text())?;
+    out.extend(words)
+}
+
+/// Puts a line for each reply at the end of a text.
 pub fn append_replies(
     alloc: Global,
     replies: &[SentReply],
@@ -79,9 +106,6 @@ pub fn append_replies(
 fn append_reply(alloc: Global, reply: &SentReply, out: &mut Octets) -> Result<(), NoMemory>
     ensures { OnOk result (out.new ≡ out.old ++ reply_line reply.now) }
 {
-    if reply.datagram.is_empty() {
-        return Ok(());
-    }
     append_message(
         alloc,
         b"fourth",

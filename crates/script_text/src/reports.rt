@@ -1,9 +1,9 @@
 ghost use Rattle.std.specs.Prelude.{◌≡◌, ◌++◌, OnOk, OnErr};
 ghost use Rattle.script_text.specs.Report.{entry_text, answer_text};
 
-use crate::changes::{append_batch, append_join, append_leave};
+use crate::changes::{append_batch, append_leave};
 use crate::derivations::append_derive;
-use crate::messages::{append_introduction, append_rule, append_serve};
+use crate::messages::{append_again, append_introduction, append_lose, append_rule, append_serve};
 use crate::openings::{append_begin, append_create, append_halt, append_reopen};
 use crate::seen::append_show;
 use crate::stores::{append_deliver, append_deliver_all, append_fingerprint, append_keep};
@@ -35,12 +35,13 @@ fn append_answer(
         Asked::AddRule { .. } => append_rule(alloc, answer, out),
         Asked::Introduce { phase } => append_introduction(alloc, &phase.member, answer, out),
         Asked::Serve { member, .. } => append_serve(alloc, member, answer, out),
-        Asked::Join { member } => append_join(alloc, member, answer, out),
         Asked::Leave { member } => append_leave(alloc, member, answer, out),
         Asked::Batch => append_batch(alloc, answer, out),
         Asked::Halt => append_halt(answer, out),
         Asked::Reopen => append_reopen(alloc, answer, out),
         Asked::Show => append_show(alloc, answer, out),
+        Asked::Lose { member } => append_lose(member, answer, out),
+        Asked::Again { member } => append_again(member, answer, out),
         Asked::Keep { member } => append_keep(alloc, member, answer, out),
         Asked::Deliver { member, sequence } => append_deliver(
             alloc, member, *sequence, answer, out,

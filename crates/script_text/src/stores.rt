@@ -25,6 +25,10 @@ pub fn append_keep(
             append_number(alloc, *epoch, out)?;
             out.extend(b"\n")
         }
+        Answer::Lost => {
+            out.extend(member.text())?;
+            out.extend(b" lost\n")
+        }
         Answer::Older { last, got } => {
             out.extend(member.text())?;
             out.extend(b" older ")?;

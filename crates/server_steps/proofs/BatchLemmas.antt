@@ -16,8 +16,6 @@ use Rattle.group_terms.specs.declared.values.BatchValues.{BatchValues}
 use Rattle.group_values.specs.Drawing.{blocks_for}
 use Rattle.group_values.specs.Values.{Made, batches_made}
 use Rattle.group_model.specs.Answers.{IsOutputOf, disk_failed_by, is_disk_fault}
-use Rattle.group_model.specs.Laws.{BatchesSayWhoIsMember}
-use Rattle.group_model.specs.Places.{IsValid}
 use Rattle.group_model.specs.Replies.{replies_to, says_of}
 use Rattle.group_model.specs.Servers.{IsPreparation, IsStoring, Server, after_draws, blocks_to_draw, coming_batch, coming_positions, coming_values}
 use Rattle.group_model.specs.Servers.{drawn_unless, in_doubt, refusal_to_batch, with_batch}
@@ -25,6 +23,7 @@ use Rattle.group_model.specs.Stayed.{sequence_at}
 use Rattle.group_model.specs.Wraps.{wraps_at}
 use Rattle.group_model.specs.declared.entries.Answer.{Answer}
 use Rattle.group_model.specs.declared.entries.Answer.TheVariants.{Batched, Refused}
+use Rattle.group_model.specs.declared.entries.Asked.TheVariants.{Batch}
 use Rattle.group_model.specs.declared.entries.Counter.TheVariants.{Epoch, Sequence}
 use Rattle.group_model.specs.declared.entries.Output.{Output}
 use Rattle.group_model.specs.declared.entries.Refusal.{Refusal}
@@ -43,15 +42,14 @@ use Rattle.pull_sessions.specs.declared.sas.Sa.{Sa}
 use Rattle.server_steps.specs.Batches.{IsBatching, PutsOut}
 use Rattle.server_steps.specs.Disks.{Counts, HasJournal}
 use Rattle.server_steps.specs.Entries.{beside}
-use Rattle.server_steps.specs.Fourths.{IsReplyMade, settled}
+use Rattle.server_steps.specs.Fourths.{IsFourthReply, settled}
 use Rattle.server_steps.specs.Hosts.{Host}
+use Rattle.server_steps.specs.Joining.{JoinsHaveSessions}
 use Rattle.server_steps.specs.Private.Told.{AreRepliesTo}
 use Rattle.server_steps.specs.Reflects.{IsServerOf}
-use Rattle.server_steps.specs.Replies.{AreTold, AreToldBy, came_in}
-use Rattle.server_steps.specs.Serves.{GoesOn, ServesBatch, answer_closed, told_with}
+use Rattle.server_steps.specs.Serves.{GoesOn, Serves, answer_batch}
 use Rattle.server_steps.specs.Views.{View as ServerView, server_of}
-use Rattle.server_steps.specs.declared.batching.Closed.{Closed}
-use Rattle.server_steps.proofs.ReplyLemmas.{Told, are_told, joiners_in, nobody_told, replies_made, replies_say}
+use Rattle.server_steps.proofs.ReplyLemmas.{replies_made, replies_say}
 use Rattle.server_steps.proofs.StillLemmas.{keeps_still}
 
 -- ---- a reason against a batch is no fault of the disk
@@ -87,26 +85,25 @@ module _ {D G R : Type 0} (d : DiskGhosts D) (g : SignerGhosts G) (draws : DrawG
   abbrev at_host : ServerView D G R → Server → Host D
   at_host view server = record { disk = view.core.disk; head = view.core.head; server = server; rules = view.rules; sessions = view.sessions }
 
-  -- the answer is that step of a host, this is the server of the host after it, and this is told to who came in
-  record Closes (old : ServerView D G R) (answer : Answer) (told : Told) (new : ServerView D G R) (host next : Host D) : Type 0 where
+  -- the answer is that step of a host, and this is the server of the host after it
+  record Closes (old : ServerView D G R) (answer : Answer) (new : ServerView D G R) (host next : Host D) : Type 0 where
     answered : IsBatching d g old.core.signer (draws.block_at old.core.draws) host answer (beside answer host.server.place) next
     keeps : Keeps d host.disk next.disk
     counts : Counts d (disk_failed_by answer) host.disk next.disk
     server : IsServerOf d draws new next
-    keys : AreToldBy answer next told
 
   -- it is enough to look at these hosts
-  by_core : (old : ServerView D G R) (answer : Answer) (told : Told) (new : ServerView D G R) → GoesOn draws old new
+  by_core : (old : ServerView D G R) (answer : Answer) (new : ServerView D G R) → GoesOn draws old new
       → ((server : Server) → Stands draws old.core server → HasJournal d (at_host old server)
-      → (next : Host D) × Closes old answer told new (at_host old server) next)
-      → ServesBatch d g draws answer told old new
-  by_core old answer told new goes_on each = record {
+      → (next : Host D) × Closes old answer new (at_host old server) next)
+      → Serves d g draws Batch answer old new
+  by_core old answer new goes_on each = record {
     goes_on = goes_on;
     each = λ host is.
         let same : at_host old host.server ≡ host =
         λ i. record { disk = sym is.disk i; head = sym is.head i; server = host.server; rules = sym is.rules i; sessions = sym is.sessions i } in
-        let done : (next : Host D) × Closes old answer told new host next =
-        subst (λ at. (next : Host D) × Closes old answer told new at next) same
+        let done : (next : Host D) × Closes old answer new host next =
+        subst (λ at. (next : Host D) × Closes old answer new at next) same
         (each host.server is.stands (subst (HasJournal d) (sym same) is.journal)) in (
           done.0,
           record {
@@ -116,7 +113,6 @@ module _ {D G R : Type 0} (d : DiskGhosts D) (g : SignerGhosts G) (draws : DrawG
             counts = done.1.counts;
           },
           done.1.server,
-          done.1.keys,
         );
   }
 
@@ -152,7 +148,7 @@ module _ {D G R : Type 0} (d : DiskGhosts D) (g : SignerGhosts G) (draws : DrawG
     -- no memory was left
     memory_ends : (server : Server) → HasJournal d (at_host was server)
         → (n : ℕ) → n ≤ blocks_to_draw server → Stands draws mid (after_draws server n)
-        → (next : Host D) × Closes was (Refused NoMemory) [] is_now (at_host was server) next
+        → (next : Host D) × Closes was (Refused NoMemory) is_now (at_host was server) next
     memory_ends server journal n few stands = (
       at_host was (after_draws server n),
       record {
@@ -160,26 +156,25 @@ module _ {D G R : Type 0} (d : DiskGhosts D) (g : SignerGhosts G) (draws : DrawG
         keeps = keeps_still d old.disk;
         counts = refl;
         server = is_server (after_draws server n) stands (record { file = journal.file; crash = journal.crash });
-        keys = nobody_told server.depth old.head.spi server.list;
       },
     )
 
-    pub lacks_memory : (values : BatchValues) → Prepares old (Ok values) mid → ServesBatch d g draws (Refused NoMemory) [] was is_now
-    lacks_memory values prepares = by_core was (Refused NoMemory) [] is_now goes_on_drawn each
+    pub lacks_memory : (values : BatchValues) → Prepares old (Ok values) mid → Serves d g draws Batch (Refused NoMemory) was is_now
+    lacks_memory values prepares = by_core was (Refused NoMemory) is_now goes_on_drawn each
       where
         each : (server : Server) → Stands draws old server → HasJournal d (at_host was server)
-            → (next : Host D) × Closes was (Refused NoMemory) [] is_now (at_host was server) next
+            → (next : Host D) × Closes was (Refused NoMemory) is_now (at_host was server) next
         each server stands journal =
             let step = prepares server stands in
             let all = blocks_for (coming_positions server) in
             let few : all ≤ blocks_to_draw server = subst (λ reason. all ≤ drawn_unless reason all) (sym step.1.0) (omega arith) in
             memory_ends server journal all few (subst (Stands draws mid) step.1.2 step.2)
 
-    pub is_refused : (why : Refusal) → Prepares old (Err why) mid → ServesBatch d g draws (Refused why) [] was is_now
-    is_refused why prepares = by_core was (Refused why) [] is_now goes_on_drawn each
+    pub is_refused : (why : Refusal) → Prepares old (Err why) mid → Serves d g draws Batch (Refused why) was is_now
+    is_refused why prepares = by_core was (Refused why) is_now goes_on_drawn each
       where
         each : (server : Server) → Stands draws old server → HasJournal d (at_host was server)
-            → (next : Host D) × Closes was (Refused why) [] is_now (at_host was server) next
+            → (next : Host D) × Closes was (Refused why) is_now (at_host was server) next
         each server stands journal =
             let step = prepares server stands in
             let host : Host D = at_host was server in
@@ -200,11 +195,10 @@ module _ {D G R : Type 0} (d : DiskGhosts D) (g : SignerGhosts G) (draws : DrawG
                 keeps = keeps_still d old.disk;
                 counts = subst (λ b. Counts d b old.disk old.disk) (sym no) refl;
                 server = is_server server (subst (Stands draws mid) refused.1 step.2) journal;
-                keys = nobody_told server.depth old.head.spi server.list;
               },
             ))
             (λ (ran : (why ≡ NoMemory) × ((n : ℕ) × (n ≤ blocks_to_draw server) × (step.0 ≡ after_draws server n))).
-            subst (λ at. (next : Host D) × Closes was (Refused at) [] is_now host next) (sym ran.0)
+            subst (λ at. (next : Host D) × Closes was (Refused at) is_now host next) (sym ran.0)
             (memory_ends server journal ran.1.0 ran.1.1 (subst (Stands draws mid) ran.1.2 step.2)))
             step.1
 
@@ -214,49 +208,26 @@ module _ {D G R : Type 0} (d : DiskGhosts D) (g : SignerGhosts G) (draws : DrawG
   record IsOut (mid : View D G R) (sas : List Sa) (ready : PreparedBatch) (replies : List SentReply) (server : Server) (made : Made) : Type 0 where
     output_is : IsCoreOutputOf g mid.signer mid.head.depth mid.head.spi (server.list ++ made ∷ []) ready.output
     says : says_of replies ≡ replies_to mid.head.depth (batches_made (server.list ++ made ∷ [])) server.queue
-    sends : All (IsReplyMade mid.head.depth mid.head.spi (server.list ++ made ∷ []) sas) replies
-    keys : AreTold mid.head.depth mid.head.spi (server.list ++ made ∷ []) (came_in (with_replies ready.output replies)) ready.output.told
+    sends : All (IsFourthReply mid.head.depth mid.head.spi (server.list ++ made ∷ []) sas) replies
 
-  module _ (law : BatchesSayWhoIsMember) (mid new : View D G R) (sas : List Sa) (ready : PreparedBatch) (replies : List SentReply)
-      (are : AreRepliesTo sas ready.output.told replies) (server : Server) (stands : Stands draws mid server)
-      (is_ready : IsReadyFor g mid.signer mid.head mid.tree mid.queue server.list ready)
-      (after : Stands draws new (with_batch server (coming_batch server ready.values))) where
-    goes_out : IsOut mid sas ready replies server (coming_batch server ready.values)
-    goes_out =
-        let is = subst (λ queue. IsReadyFor g mid.signer mid.head mid.tree queue server.list ready) stands.queue is_ready in
-        let made : Made = coming_batch server ready.values in
-        let list : List Made = server.list ++ made ∷ [] in
-        let valid = subst (λ depth. IsValid depth (batches_made list)) (after.tree_depth ∙ sym stands.depth) after.tree.valid in
-        record {
-          output_is = is.puts_out;
-          says = replies_say mid.head.depth mid.head.spi list sas ready.output.told replies server.queue are is.joiners_are is.replies_are;
-          sends = replies_made mid.head.depth mid.head.spi list sas ready.output.told replies are is.replies_are;
-          keys = are_told mid.head.depth mid.head.spi list sas ready.output.told replies server.queue are is.joiners_are
-              (joiners_in law mid.head.depth server.list made valid) is.replies_are;
-        }
-
-    -- this is told by the server that stored it
-    pub is_told : new.head ≡ mid.head → (next : Server) × Stands draws new next
-        × AreTold next.depth new.head.spi next.list (came_in (with_replies ready.output replies)) ready.output.told
-    is_told same_head =
-        let next : Server = with_batch server (coming_batch server ready.values) in
-        let names = came_in (with_replies ready.output replies) in (
-          next,
-          after,
-          subst (λ head. AreTold server.depth head.spi next.list names ready.output.told) (sym same_head)
-              (subst (λ depth. AreTold depth mid.head.spi next.list names ready.output.told) stands.depth goes_out.keys),
-        )
-
-  -- nobody is told anything by a batch that was refused
-  pub tells_nobody : (core : View D G R) (server : Server) → Stands draws core server
-      → (server : Server) × Stands draws core server × AreTold server.depth core.head.spi server.list [] []
-  tells_nobody core server stands = (server, stands, nobody_told server.depth core.head.spi server.list)
+  goes_out : (mid : View D G R) (sas : List Sa) (ready : PreparedBatch) (replies : List SentReply) → AreRepliesTo sas ready.output.told replies
+      → JoinsHaveSessions mid.queue sas → (server : Server) → Stands draws mid server
+      → IsReadyFor g mid.signer mid.head mid.tree mid.queue server.list ready → IsOut mid sas ready replies server (coming_batch server ready.values)
+  goes_out mid sas ready replies are sound server stands is_ready =
+      let is = subst (λ queue. IsReadyFor g mid.signer mid.head mid.tree queue server.list ready) stands.queue is_ready in
+      let joins = subst (λ queue. JoinsHaveSessions queue sas) stands.queue sound in
+      let list : List Made = server.list ++ coming_batch server ready.values ∷ [] in
+      record {
+        output_is = is.puts_out;
+        says = replies_say mid.head.depth mid.head.spi list sas ready.output.told replies server.queue are is.joiners_are is.replies_are;
+        sends = replies_made mid.head.depth mid.head.spi list sas ready.output.told replies server.queue are is.joiners_are joins is.replies_are;
+      }
 
   -- what holds of a refusal holds of the answer to a call that handed it on
-  pub answered_err : (P : Answer → Told → Type 0) (result : Result Closed Refusal) (why : Refusal) → IsErrAnd result (λ reason. reason ≡ why)
-      → P (Refused why) [] → P (answer_closed result) (told_with result)
-  answered_err P (Ok closed) why is holds = absurd is
-  answered_err P (Err reason) why is holds = subst (λ reason. P (Refused reason) []) (sym is) holds
+  pub answered_err : (P : Answer → Type 0) (result : Result Output Refusal) (why : Refusal) → IsErrAnd result (λ reason. reason ≡ why) → P (Refused why)
+      → P (answer_batch result)
+  answered_err P (Ok output) why is holds = absurd is
+  answered_err P (Err reason) why is holds = subst (λ reason. P (Refused reason)) (sym is) holds
 
   -- ---- it was stored, or that failed
 
@@ -309,7 +280,7 @@ module _ {D G R : Type 0} (d : DiskGhosts D) (g : SignerGhosts G) (draws : DrawG
 
     -- ---- it was stored
 
-    module _ (law : BatchesSayWhoIsMember) (replies : List SentReply) (are : AreRepliesTo sessions.sas ready.output.told replies)
+    module _ (replies : List SentReply) (are : AreRepliesTo sessions.sas ready.output.told replies) (joins : JoinsHaveSessions mid.queue sessions.sas)
         (is_ready : (server : Server) → Stands draws mid server → IsReadyFor g mid.signer mid.head mid.tree mid.queue server.list ready)
         (step : (server : Server) → Stands draws mid server
         → (next : Server) × (next ≡ with_batch server (coming_batch server ready.values)) × Stands draws new next)
@@ -333,9 +304,9 @@ module _ {D G R : Type 0} (d : DiskGhosts D) (g : SignerGhosts G) (draws : DrawG
             let now = stands_drawn server stands in
             let taken = step (drawn_for server) now in
             let after = subst (Stands draws new) taken.1 taken.2 in
-            let out = goes_out law mid new sessions.sas ready replies are (drawn_for server) now (is_ready (drawn_for server) now) after in
+            let out = goes_out mid sessions.sas ready replies are joins (drawn_for server) now (is_ready (drawn_for server) now) in
             subst (IsKnown server) (same_made server stands) (record {
-              out = record { output_is = out.output_is; says = out.says; sends = out.sends; keys = out.keys };
+              out = record { output_is = out.output_is; says = out.says; sends = out.sends };
               stands_after = after;
               on_disk = λ on_disk. subst (λ head. IsOnDisk d new.disk head (with_batch (drawn_for server) (made_ready server stands))) same.2
                   (stored (drawn_for server) now on_disk);
@@ -347,10 +318,6 @@ module _ {D G R : Type 0} (d : DiskGhosts D) (g : SignerGhosts G) (draws : DrawG
 
         abbrev list_after : List Made
         list_after = server.list ++ made_drawn server stands ∷ []
-
-        keys_after : AreTold server.depth mid.head.spi list_after (came_in output_after) ready.output.told
-        keys_after =
-            subst (λ depth. AreTold depth mid.head.spi list_after (came_in output_after) ready.output.told) (stands_drawn server stands).depth known.out.keys
 
         puts_out : PutsOut d g mid.signer (draws.block_at before) (at_host was_drawn server) output_after
         puts_out =
@@ -367,9 +334,7 @@ module _ {D G R : Type 0} (d : DiskGhosts D) (g : SignerGhosts G) (draws : DrawG
             record {
               says = subst (λ depth. IsOutputOf depth (batches_made list_after) server.queue output_after) now.depth says;
               pushes = subst (λ depth. IsPairIfStayed g mid.signer depth mid.head.spi list_after ready.output.pushes) now.depth is.pushes;
-              replies = subst (λ depth. All (IsReplyMade depth mid.head.spi list_after sessions.sas) replies) now.depth known.out.sends;
-              told = ready.output.told;
-              keys = keys_after;
+              replies = subst (λ depth. All (IsFourthReply depth mid.head.spi list_after sessions.sas) replies) now.depth known.out.sends;
             }
 
         abbrev host_after : Host D
@@ -396,11 +361,11 @@ module _ {D G R : Type 0} (d : DiskGhosts D) (g : SignerGhosts G) (draws : DrawG
       abbrev is_after : ServerView D G R
       is_after = server_of new rules (settled sessions replies)
 
-      pub is_stored : ServesBatch d g draws (Batched (with_replies ready.output replies)) ready.output.told was_drawn is_after
-      is_stored = by_core was_drawn (Batched (with_replies ready.output replies)) ready.output.told is_after (goes_on_stored (settled sessions replies)) each
+      pub is_stored : Serves d g draws Batch (Batched (with_replies ready.output replies)) was_drawn is_after
+      is_stored = by_core was_drawn (Batched (with_replies ready.output replies)) is_after (goes_on_stored (settled sessions replies)) each
         where
           each : (server : Server) → Stands draws old server → HasJournal d (at_host was_drawn server)
-              → (next : Host D) × Closes was_drawn (Batched (with_replies ready.output replies)) ready.output.told is_after (at_host was_drawn server) next
+              → (next : Host D) × Closes was_drawn (Batched (with_replies ready.output replies)) is_after (at_host was_drawn server) next
           each server stands journal =
               let after = journal_after server stands journal in (
                 host_after server stands,
@@ -426,7 +391,6 @@ module _ {D G R : Type 0} (d : DiskGhosts D) (g : SignerGhosts G) (draws : DrawG
                     rules = refl;
                     sessions = refl;
                   };
-                  keys = keys_after server stands;
                 },
               )
 
@@ -475,15 +439,15 @@ module _ {D G R : Type 0} (d : DiskGhosts D) (g : SignerGhosts G) (draws : DrawG
       abbrev is_doubted : ServerView D G R
       is_doubted = server_of new rules sessions
 
-      pub is_in_doubt : ServesBatch d g draws (Refused why) [] was_drawn is_doubted
-      is_in_doubt = by_core was_drawn (Refused why) [] is_doubted (goes_on_stored sessions) each
+      pub is_in_doubt : Serves d g draws Batch (Refused why) was_drawn is_doubted
+      is_in_doubt = by_core was_drawn (Refused why) is_doubted (goes_on_stored sessions) each
         where
           each : (server : Server) → Stands draws old server → HasJournal d (at_host was_drawn server)
-              → (next : Host D) × Closes was_drawn (Refused why) [] is_doubted (at_host was_drawn server) next
+              → (next : Host D) × Closes was_drawn (Refused why) is_doubted (at_host was_drawn server) next
           each server stands journal =
               let after = journal_in_doubt server stands journal in
               let failed : why ≡ DiskFault = (step (drawn_for server) (stands_drawn server stands)).1.0 in
-              subst (λ at. (next : Host D) × Closes was_drawn (Refused at) [] is_doubted (at_host was_drawn server) next) (sym failed) (
+              subst (λ at. (next : Host D) × Closes was_drawn (Refused at) is_doubted (at_host was_drawn server) next) (sym failed) (
                 host_in_doubt server stands,
                 record {
                   answered = inr (inl (record {
@@ -505,6 +469,5 @@ module _ {D G R : Type 0} (d : DiskGhosts D) (g : SignerGhosts G) (draws : DrawG
                     rules = refl;
                     sessions = refl;
                   };
-                  keys = nobody_told server.depth mid.head.spi server.list;
                 },
               )

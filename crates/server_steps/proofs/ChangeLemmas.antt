@@ -1,29 +1,27 @@
 -- Changes that wait, and stops.
-use Rattle.std.proofs.Common.{◌≡◌, ◌∙◌, ℕ, Bool, true, false, List, [], ◌∷◌, ◌++◌, length, Option, None, Some, Ok, Err, refl, sym, ap, subst}
-use Rattle.std.specs.Prelude.{nat_lt, ◌==◌, ◌^◌, Result, OnErr, if◌then◌else◌}
+use Rattle.std.proofs.Common.{◌≡◌, ◌∙◌, ℕ, Bool, true, false, List, [], ◌∷◌, ◌++◌, length, Option, Ok, Err, refl, sym, ap, subst}
+use Rattle.std.specs.Prelude.{nat_lt, Result, OnErr, if◌then◌else◌}
 use Rattle.gd_disk.specs.declared.disks.Disk.{Ghosts as DiskGhosts}
 use Rattle.gd_edges.specs.declared.draws.Draws.{Ghosts as DrawGhosts}
 use Rattle.gd_edges.specs.declared.signers.Signer.{Ghosts as SignerGhosts}
 use Rattle.group_terms.specs.Changes.{is_pending}
 use Rattle.group_terms.specs.Names.{Name}
 use Rattle.group_terms.specs.declared.changes.Change.{Change}
-use Rattle.group_terms.specs.declared.changes.Change.TheVariants.{In, Out}
+use Rattle.group_terms.specs.declared.changes.Change.TheVariants.{Out}
 use Rattle.group_terms.specs.declared.patterns.Rule.{Rule}
 use Rattle.group_values.specs.Values.{batches_made}
-use Rattle.group_model.specs.Answers.{answer_to_join, answer_to_leave, unless_refused}
+use Rattle.group_model.specs.Answers.{answer_to_leave, unless_refused}
 use Rattle.group_model.specs.Places.{Holders, holders_of, is_member}
-use Rattle.group_model.specs.Refusals.{leaves_taken, why_no_join}
-use Rattle.group_model.specs.Servers.{IsJoin, IsLeave, Server, halted, members_now, with_change}
+use Rattle.group_model.specs.Servers.{IsLeave, Server, halted, members_now, with_change}
 use Rattle.group_model.specs.declared.entries.Answer.{Answer}
-use Rattle.group_model.specs.declared.entries.Answer.TheVariants.{Done, Nothing, Queued, Refused}
-use Rattle.group_model.specs.declared.entries.Asked.TheVariants.{Halt, Join, Leave}
+use Rattle.group_model.specs.declared.entries.Answer.TheVariants.{Done, Refused}
+use Rattle.group_model.specs.declared.entries.Asked.TheVariants.{Halt, Leave}
 use Rattle.group_model.specs.declared.entries.Refusal.{Refusal}
-use Rattle.group_model.specs.declared.entries.Refusal.TheVariants.{NeedsReopen}
 use Rattle.gcks_core.specs.Stands.{Stands}
 use Rattle.gcks_core.specs.Views.{View}
 use Rattle.pull_sessions.specs.Sessions.{Sessions}
-use Rattle.server_steps.specs.Changes.{after_join, after_leave}
-use Rattle.server_steps.specs.Hosts.{Host, with_server}
+use Rattle.server_steps.specs.Changes.{after_leave}
+use Rattle.server_steps.specs.Hosts.{with_server}
 use Rattle.server_steps.specs.Serves.{GoesOn, ServesBeside, answer_done}
 use Rattle.server_steps.specs.Views.{server_of}
 use Rattle.server_steps.specs.Waiting.{queue_after_leave}
@@ -31,26 +29,12 @@ use Rattle.server_steps.proofs.StillLemmas.{IsPlain, core_of, plain_beside, plai
 
 -- ---- the answers are plain
 
-plain_if : (b : Bool) (x y : Answer) → IsPlain x → IsPlain y → IsPlain (if b then x else y)
-plain_if true x y first second = first
-plain_if false x y first second = second
-
 plain_reason : (answer : Answer) (b : Bool) (x y : Option Refusal) → IsPlain (unless_refused x answer) → IsPlain (unless_refused y answer)
     → IsPlain (unless_refused (if b then x else y) answer)
 plain_reason answer true x y first second = first
 plain_reason answer false x y first second = second
 
 module _ (need : Bool) (depth : ℕ) (holders : Holders) (queue : List Change) (m : Name) where
-  plain_join : IsPlain (answer_to_join need depth holders queue m)
-  plain_join =
-      plain_if need _ _ (record { no_fault = refl; not_opened = refl })
-      (plain_if (is_member holders m) _ _ (record { no_fault = refl; not_opened = refl })
-      (plain_reason Queued need _ _ (record { no_fault = refl; not_opened = refl })
-      (plain_reason Queued (is_pending queue m) _ _ (record { no_fault = refl; not_opened = refl })
-      (plain_reason Queued (leaves_taken depth holders queue == 2 ^ depth) _ _ (record { no_fault = refl; not_opened = refl })
-      (plain_reason Queued (nat_lt (length queue) 32) _ _ (record { no_fault = refl; not_opened = refl })
-      (record { no_fault = refl; not_opened = refl }))))))
-
   plain_leave : IsPlain (answer_to_leave need depth holders queue m)
   plain_leave =
       plain_reason Done need _ _ (record { no_fault = refl; not_opened = refl })
@@ -59,22 +43,6 @@ module _ (need : Bool) (depth : ℕ) (holders : Holders) (queue : List Change) (
       (plain_reason Done (nat_lt (length queue) 32) _ _ (record { no_fault = refl; not_opened = refl })
       (record { no_fault = refl; not_opened = refl })))
       (record { no_fault = refl; not_opened = refl }))
-
-  -- ---- the answers that are due
-
-  stopped : need ≡ true → Refused NeedsReopen ≡ answer_to_join need depth holders queue m
-  stopped stops = rw stops refl
-
-  present : need ≡ false → is_member holders m ≡ true → Nothing ≡ answer_to_join need depth holders queue m
-  present goes member = rw goes rw member refl
-
-  by_reason : (reason : Option Refusal) → need ≡ false → is_member holders m ≡ false → why_no_join need depth holders queue m ≡ reason
-      → unless_refused reason Queued ≡ answer_to_join need depth holders queue m
-  by_reason reason goes stranger why =
-      let rest : Answer = unless_refused (why_no_join need depth holders queue m) Queued in
-      sym (ap (λ (b : Bool). if b then Refused NeedsReopen else (if is_member holders m then Nothing else rest)) goes
-      ∙ ap (λ (b : Bool). if b then Nothing else rest) stranger
-      ∙ ap (λ reason. unless_refused reason Queued) why)
 
 -- ---- the server
 
@@ -95,56 +63,6 @@ module _ {D G R : Type 0} (d : DiskGhosts D) (g : SignerGhosts G) (draws : DrawG
   goes_on_waiting new rules sessions rest = record {
     signer = ap (λ (v : View D G R). v.signer) rest;
     blocks = λ k. ap (λ (v : View D G R). draws.block_at v.draws k) rest;
-  }
-
-  -- ---- joins
-
-  abbrev JoinIsDue : Answer → Type 0
-  JoinIsDue answer = (server : Server) → Stands draws core server
-      → answer ≡ answer_to_join server.need server.depth (members_now server) server.queue m
-
-  join_still : (answer : Answer) → ((host : Host D) → after_join host m answer ≡ host) → JoinIsDue answer → ServesBeside d g draws (Join m) answer core core
-  join_still answer stays due = serves_still d g draws (Join m) core answer (λ host server.
-      let is = due host.server server.stands in
-      let plain = subst IsPlain (sym is) (plain_join host.server.need host.server.depth (members_now host.server) host.server.queue m) in
-      (plain, record { answers = is; beside = plain_beside d draws core host answer server plain; now = sym (stays host) }))
-
-  pub join_stopped : core.need ≡ true → ServesBeside d g draws (Join m) (Refused NeedsReopen) core core
-  join_stopped stops = join_still (Refused NeedsReopen) (λ host. refl)
-      (λ server stands. stopped server.need server.depth (members_now server) server.queue m (sym stands.need ∙ stops))
-
-  pub join_present : core.need ≡ false → is_member core.tree.holders m ≡ true → ServesBeside d g draws (Join m) Nothing core core
-  join_present goes member = join_still Nothing (λ host. refl)
-      (λ server stands. present server.need server.depth (members_now server) server.queue m (sym stands.need ∙ goes)
-      (ap (λ holders. is_member holders m) (sym (same_holders stands)) ∙ member))
-
-  pub join_refused : (new : View D G R) (why : Refusal) → core.need ≡ false → is_member core.tree.holders m ≡ false → new ≡ core
-      → ((server : Server) → Stands draws core server → (next : Server) × IsJoin server m (Err why) next × Stands draws new next)
-      → ServesBeside d g draws (Join m) (Refused why) core new
-  join_refused new why goes stranger still step =
-      subst (λ new. ServesBeside d g draws (Join m) (Refused why) core new) (sym still)
-      (join_still (Refused why) (λ host. refl)
-      (λ server stands. by_reason server.need server.depth (members_now server) server.queue m (Some why) (sym stands.need ∙ goes)
-      (ap (λ holders. is_member holders m) (sym (same_holders stands)) ∙ stranger) (step server stands).1.0))
-
-  pub join_queued : (new : View D G R) → core.need ≡ false → is_member core.tree.holders m ≡ false → new ≡ record core { queue = new.queue }
-      → ((server : Server) → Stands draws core server → (next : Server) × IsJoin server m (Ok tt) next × Stands draws new next)
-      → ServesBeside d g draws (Join m) Queued core new
-  join_queued new goes stranger rest step rules sessions = record {
-    goes_on = goes_on_waiting new rules sessions rest;
-    each = λ host server.
-        let taken = step host.server server.stands in
-        let is = by_reason host.server.need host.server.depth (members_now host.server) host.server.queue m None (sym server.stands.need ∙ goes)
-        (ap (λ holders. is_member holders m) (sym (same_holders server.stands)) ∙ stranger) taken.1.0 in
-        let on = core_of d draws core rules sessions host server in
-        let plain : IsPlain Queued = record { no_fault = refl; not_opened = refl } in (
-          after_join host m Queued,
-          plain_step d g draws (Join m) core Queued host (with_change host.server (In m)) plain
-              (record { answers = is; beside = plain_beside d draws core host Queued on plain; now = refl }),
-          server_still d draws core new rules sessions host (host.server.queue ++ In m ∷ []) host.server.need server
-              (ap (λ (v : View D G R). v.disk) rest) (ap (λ (v : View D G R). v.head) rest)
-              (subst (Stands draws new) taken.1.1 taken.2),
-        );
   }
 
   -- ---- leaves

@@ -1,5 +1,5 @@
 -- What comes of opening a group from its journal.
-use Rattle.std.proofs.Common.{◌≡◌, ◌∙◌, ◌⊎◌, inl, inr, ℕ, false, List, [], Option, Some, refl, sym, ap, subst}
+use Rattle.std.proofs.Common.{◌≡◌, ◌∙◌, ◌⊎◌, inl, inr, ℕ, false, List, [], Option, Some, refl, sym, ap}
 use Rattle.std.proofs.lemmas.List.{length-map}
 use Rattle.gd_disk.specs.Disks.{Knows, Only}
 use Rattle.gd_disk.specs.Moments.{Keeps, LeavesOnly, shown}

@@ -24,7 +24,7 @@ abbrev third_now : Session → Third
 third_now session = record { next_iv = session.iv }
 
 module _ (sas : List Sa) (m : Name) where
-  session_is : (sa : Sa) (session : Session) → HasSession sas m sa session → session_of sas m ≡ Some session
+  pub session_is : (sa : Sa) (session : Session) → HasSession sas m sa session → session_of sas m ≡ Some session
   session_is sa session has = ap (option_and_then (λ (sa : Sa). sa.session)) has.is_there ∙ has.has
 
   abbrev Awaits : Type 0
@@ -272,11 +272,6 @@ all_datagrams answers replies is = subst AreDatagrams (sym is) (each replies)
     each : (replies : List SentReply) → AreDatagrams (map kept_of replies)
     each [] = tt
     each (reply ∷ replies) = (tt, each replies)
-
--- where there is no SA, no session changes
-pub no_sa_settled : (sessions new : Sessions) (replies : List SentReply) → new ≡ settled sessions replies → sessions.sas ≡ [] → new ≡ sessions
-no_sa_settled sessions new replies is none =
-    is ∙ ap (λ sas. record sessions { sas = map (settle replies) sas }) none ∙ sym (ap (λ sas. record sessions { sas = sas }) none)
 
 -- ---- answers that are left
 

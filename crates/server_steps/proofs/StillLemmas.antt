@@ -18,7 +18,7 @@ use Rattle.server_steps.specs.Entries.{beside, noted}
 use Rattle.server_steps.specs.Hosts.{Host, with_server}
 use Rattle.server_steps.specs.Outsides.{Says, quiet}
 use Rattle.server_steps.specs.Reflects.{IsServerOf}
-use Rattle.server_steps.specs.Serves.{GoesOn, ServesBeside}
+use Rattle.server_steps.specs.Serves.{ServesBeside}
 use Rattle.server_steps.specs.Steps.{IsServed, IsServerStep}
 use Rattle.server_steps.specs.Views.{server_of}
 

@@ -2,8 +2,6 @@
 use Rattle.std.specs.Prelude.{◌≡◌, ◌⊎◌, ℕ, ◌≤◌, List, [], ◌∷◌, ◌++◌, All, None, Some}
 use Rattle.gd_disk.specs.declared.disks.Disk.{Ghosts as DiskGhosts}
 use Rattle.gd_edges.specs.declared.signers.Signer.{Ghosts as SignerGhosts}
-use Rattle.group_terms.specs.Names.{Name}
-use Rattle.group_terms.specs.declared.paths.Keyed.{Keyed}
 use Rattle.group_values.specs.Drawing.{blocks_for}
 use Rattle.group_values.specs.Values.{Made, batches_made}
 use Rattle.group_model.specs.Answers.{IsOutputOf}
@@ -18,10 +16,9 @@ use Rattle.group_model.specs.declared.entries.Refusal.TheVariants.{DiskFault, No
 use Rattle.group_pushes.specs.Fits.{MadeFits}
 use Rattle.group_pushes.specs.Pairs.{IsPairIfStayed}
 use Rattle.server_steps.specs.Disks.{HasJournal, LeavesJournal}
-use Rattle.server_steps.specs.Fourths.{IsReplyMade, settled}
+use Rattle.server_steps.specs.Fourths.{IsFourthReply, settled}
 use Rattle.server_steps.specs.Hosts.{Host, with_disk, with_server}
 use Rattle.server_steps.specs.Outsides.{Says, failing, quiet}
-use Rattle.server_steps.specs.Replies.{AreTold, came_in}
 
 module _ {D G : Type 0} (d : DiskGhosts D) (g : SignerGhosts G) (signer : G) (block : ℕ → List ℕ) (host : Host D) where
   -- what waits as a batch, with the values of the next blocks
@@ -36,14 +33,11 @@ module _ {D G : Type 0} (d : DiskGhosts D) (g : SignerGhosts G) (signer : G) (bl
   abbrev pub drawn_next : Server
   drawn_next = after_draws host.server (blocks_for (coming_positions host.server))
 
-  -- What the batch puts out: what it encrypts, its two pushes octet for octet (RFC 6407 section 4), and its replies, each with its datagram. Who came in is told
-  -- its keys.
+  -- What the batch puts out: what it encrypts, its two pushes octet for octet (RFC 6407 section 4), and its replies, each with its datagram.
   pub record PutsOut (output : Output) : Type 0 where
     pub says : IsOutputOf host.server.depth (batches_made list_next) host.server.queue output
     pub pushes : IsPairIfStayed g signer host.server.depth host.head.spi list_next output.pushes
-    pub replies : All (IsReplyMade host.server.depth host.head.spi list_next host.sessions.sas) output.replies
-    pub told : List (Name × Keyed)
-    pub keys : AreTold host.server.depth host.head.spi list_next (came_in output) told
+    pub replies : All (IsFourthReply host.server.depth host.head.spi list_next host.sessions.sas) output.replies
 
   -- What waits becomes a batch, whose values are keys, and is stored: from then on a crash leaves it. Sessions that awaited it have their fourth messages.
   pub record IsStored (answer : Answer) (outside : Outside) (next : Host D) : Type 0 where

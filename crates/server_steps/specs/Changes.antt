@@ -1,13 +1,13 @@
 -- Requests to a server that touch neither its disk nor its draws.
 use Rattle.std.specs.Prelude.{◌≡◌, ◌⊎◌, ◌+◌, true, [], ◌∷◌, ◌++◌, length, if◌then◌else◌}
 use Rattle.group_terms.specs.Names.{Name}
-use Rattle.group_terms.specs.declared.changes.Change.TheVariants.{In, Out}
+use Rattle.group_terms.specs.declared.changes.Change.TheVariants.{Out}
 use Rattle.group_terms.specs.declared.patterns.Rule.{Rule}
-use Rattle.group_model.specs.Answers.{answer_to_join, answer_to_leave}
+use Rattle.group_model.specs.Answers.{answer_to_leave}
 use Rattle.group_model.specs.Seen.{seen_group}
 use Rattle.group_model.specs.Servers.{Server, halted, members_now, present_batches, with_change}
 use Rattle.group_model.specs.declared.entries.Answer.{Answer}
-use Rattle.group_model.specs.declared.entries.Answer.TheVariants.{Done, Queued, RuleNumber, Shown, Refused}
+use Rattle.group_model.specs.declared.entries.Answer.TheVariants.{Done, RuleNumber, Shown, Refused}
 use Rattle.group_model.specs.declared.entries.Outside.{Outside}
 use Rattle.group_model.specs.declared.entries.Refusal.TheVariants.{NeedsReopen, NoMemory}
 use Rattle.server_steps.specs.Hosts.{Host, with_rules, with_server}
@@ -24,21 +24,10 @@ module _ {D : Type 0} where
       Becomes (RuleNumber (length host.rules + 1)) (with_rules host (host.rules ++ rule ∷ [])) host answer outside next
       ⊎ Says (Refused NoMemory) host answer outside next
 
-  -- a name whose join is granted waits
-  abbrev pub after_join : Host D → Name → Answer → Host D
-  after_join host m Queued = with_server host (with_change host.server (In m))
-  after_join host m answer = host
-
   -- a member whose leave is granted waits
   abbrev pub after_leave : Host D → Name → Answer → Host D
   after_leave host m Done = with_server host (with_change host.server (Out m))
   after_leave host m answer = host
-
-  -- a join is answered, and where it is granted, the name waits to come in
-  pub record IsJoining (m : Name) (host : Host D) (answer : Answer) (outside : Outside) (next : Host D) : Type 0 where
-    pub answers : answer ≡ answer_to_join host.server.need host.server.depth (members_now host.server) host.server.queue m
-    pub beside : outside ≡ quiet host
-    pub now : next ≡ after_join host m answer
 
   -- a leave is answered, and where it is granted, the member waits to go out
   pub record IsLeaving (m : Name) (host : Host D) (answer : Answer) (outside : Outside) (next : Host D) : Type 0 where

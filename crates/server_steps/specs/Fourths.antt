@@ -1,5 +1,5 @@
 -- What a batch makes of sessions. Who is no member waits for a batch by our choice; then its session gets its fourth message (RFC 6407 section 3.2).
-use Rattle.std.specs.Prelude.{◌≡◌, ℕ, MatchBool, List, [], map, Option, None, Some, option_map, if◌then◌else◌}
+use Rattle.std.specs.Prelude.{◌≡◌, ℕ, List, map, Option, None, Some, option_map, if◌then◌else◌}
 use Rattle.std.specs.List.{find}
 use Rattle.group_terms.specs.Names.{Name, same_name}
 use Rattle.group_terms.specs.declared.paths.Keyed.{Keyed}
@@ -7,25 +7,23 @@ use Rattle.group_values.specs.Values.{Made}
 use Rattle.group_keys.specs.Replies.{IsKeyedOf}
 use Rattle.group_model.specs.declared.entries.SentReply.{SentReply}
 use Rattle.pull_sessions.specs.Builds.{IsFourthOf, settled_session}
-use Rattle.pull_sessions.specs.Sessions.{HasSession, Sessions, is_queued, is_queued_of}
+use Rattle.pull_sessions.specs.Sessions.{HasSession, Sessions, is_queued}
 use Rattle.pull_sessions.specs.declared.answers.Kept.TheVariants as kept
+use Rattle.pull_sessions.specs.declared.answers.Step.TheVariants.{Queued}
 use Rattle.pull_sessions.specs.declared.sas.Sa.{Sa}
 use Rattle.pull_sessions.specs.declared.sas.Session.{Session}
 
 -- of a group with this depth, this SPI of pushes and these batches, where these are the SAs before the last batch
 module _ (depth : ℕ) (spi : List ℕ) (list : List Made) (sas : List Sa) where
-  -- The datagram of a reply is the fourth message of its member's session, with the keys that the member has since the last batch.
+  -- The datagram of a reply is the fourth message of its member's session, which awaits the batch, with the keys that the member has since then.
   pub record IsFourthReply (reply : SentReply) : Type 0 where
     pub sa : Sa
     pub session : Session
     pub has : HasSession sas reply.says.member sa session
+    pub awaits : session.step ≡ Queued
     pub keyed : Keyed
     pub keys : IsKeyedOf depth spi list reply.says.member keyed
     pub is_text : IsFourthOf sa.phase session session.iv keyed reply.datagram
-
-  -- The datagram is that message where the session awaits the batch; else there is none. Of a server whose joins come by pulls alone, each session of a reply does.
-  abbrev pub IsReplyMade : SentReply → Type 0
-  IsReplyMade reply = MatchBool (is_queued_of sas reply.says.member) (IsFourthReply reply) (reply.datagram ≡ [])
 
 -- a session that keeps this reply as its answer; without one it stays
 abbrev pub settled_by : Session → Option SentReply → Session

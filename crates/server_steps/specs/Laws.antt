@@ -3,18 +3,16 @@ use Rattle.std.specs.Prelude.{◌≡◌, List, ◌∷◌, ◌++◌, [], Option, 
 use Rattle.gd_disk.specs.declared.disks.Disk.{Ghosts as DiskGhosts}
 use Rattle.gd_edges.specs.declared.draws.Draws.{Ghosts as DrawGhosts}
 use Rattle.gd_edges.specs.declared.signers.Signer.{Ghosts as SignerGhosts}
-use Rattle.group_terms.specs.Names.{Name}
-use Rattle.group_terms.specs.declared.paths.Keyed.{Keyed}
 use Rattle.group_model.specs.declared.entries.Answer.{Answer}
 use Rattle.group_model.specs.declared.entries.Asked.{Asked}
-use Rattle.group_model.specs.declared.entries.Asked.TheVariants.{Batch, Reopen}
+use Rattle.group_model.specs.declared.entries.Asked.TheVariants.{Reopen}
 use Rattle.group_model.specs.declared.entries.Entry.{Entry}
 use Rattle.group_model.specs.declared.entries.PushPair.{PushPair}
 use Rattle.group_model.specs.declared.entries.Refusal.{Refusal}
 use Rattle.group_model.specs.Servers.{Server}
 use Rattle.gcks_core.specs.Stands.{Stands}
 use Rattle.server_steps.specs.Entries.{noted}
-use Rattle.server_steps.specs.Serves.{IsSince, Serves, ServesBatch, ServesReopening, Start, answer_reopened}
+use Rattle.server_steps.specs.Serves.{IsSince, Serves, ServesReopening, Start, answer_reopened}
 use Rattle.server_steps.specs.Views.{View}
 
 module _ {D G R : Type 0} (d : DiskGhosts D) (g : SignerGhosts G) (draws : DrawGhosts R) where
@@ -28,12 +26,6 @@ module _ {D G R : Type 0} (d : DiskGhosts D) (g : SignerGhosts G) (draws : DrawG
       (start : Start D G R) (old new : View D G R) (entries : List Entry) (request : Asked) (answer : Answer) → IsSince d g draws start old entries
       → Serves d g draws request answer old new
       → IsSince d g draws start new (entries ++ noted request answer (draws.place_of old.core.draws) ∷ [])
-
-  -- A batch that was closed was served.
-  abbrev pub ClosedBatchesAreServed : Type 0
-  ClosedBatchesAreServed =
-      (answer : Answer) (told : List (Name × Keyed)) (old new : View D G R) → ServesBatch d g draws answer told old new
-      → Serves d g draws Batch answer old new
 
   -- A group that was opened again was served so, where the answer shows it.
   abbrev pub ReopeningsAreServed : Type 0

@@ -4,7 +4,9 @@ pub mod Disks
 pub mod Entries
 pub mod Fourths
 pub mod Hosts
+pub mod Joining
 pub mod Laws
+pub mod Messages
 pub mod Openings
 pub mod Opens
 pub mod Outsides
@@ -12,7 +14,6 @@ pub mod Private
 pub mod Pulls
 pub mod Reflects
 pub mod Refusals
-pub mod Replies
 pub mod Sent
 pub mod Serves
 pub mod Steps

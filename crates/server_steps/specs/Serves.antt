@@ -1,18 +1,17 @@
 -- What a request does to a key server: whatever host it is on, the request is one step of that host.
-use Rattle.std.specs.Prelude.{◌≡◌, ℕ, List, [], ◌++◌, Option, Result, Ok, Err}
+use Rattle.std.specs.Prelude.{◌≡◌, ℕ, List, ◌++◌, Option, Result, Ok, Err}
 use Rattle.gd_disk.specs.declared.disks.Disk.{Ghosts as DiskGhosts}
 use Rattle.gd_edges.specs.declared.draws.Draws.{Ghosts as DrawGhosts}
 use Rattle.gd_edges.specs.declared.signers.Signer.{Ghosts as SignerGhosts}
-use Rattle.group_terms.specs.Names.{Name}
-use Rattle.group_terms.specs.declared.paths.Keyed.{Keyed}
 use Rattle.group_terms.specs.declared.patterns.Rule.{Rule}
 use Rattle.group_model.specs.Seen.{seen_group}
 use Rattle.group_model.specs.Servers.{Server, present_batches}
 use Rattle.group_model.specs.declared.entries.Answer.{Answer}
 use Rattle.group_model.specs.declared.entries.Answer.TheVariants.{Batched, Done, Opened, Refused}
 use Rattle.group_model.specs.declared.entries.Asked.{Asked}
-use Rattle.group_model.specs.declared.entries.Asked.TheVariants.{Batch, Reopen}
+use Rattle.group_model.specs.declared.entries.Asked.TheVariants.{Reopen}
 use Rattle.group_model.specs.declared.entries.Entry.{Entry}
+use Rattle.group_model.specs.declared.entries.Output.{Output}
 use Rattle.group_model.specs.declared.entries.PushPair.{PushPair}
 use Rattle.group_model.specs.declared.entries.Refusal.{Refusal}
 use Rattle.gcks_core.specs.Views.{View as CoreView}
@@ -20,10 +19,8 @@ use Rattle.pull_sessions.specs.Sessions.{Sessions, without_sessions}
 use Rattle.server_steps.specs.Entries.{noted}
 use Rattle.server_steps.specs.Hosts.{Host}
 use Rattle.server_steps.specs.Reflects.{IsServerOf}
-use Rattle.server_steps.specs.Replies.{AreToldBy}
 use Rattle.server_steps.specs.Steps.{AreServed, IsServerStep}
 use Rattle.server_steps.specs.Views.{View, server_of}
-use Rattle.server_steps.specs.declared.batching.Closed.{Closed}
 
 -- ---- what calls answer, as answers of a history
 
@@ -32,14 +29,10 @@ abbrev pub answer_done : Result (Unit {0}) Refusal → Answer
 answer_done (Ok done) = Done
 answer_done (Err why) = Refused why
 
--- a batch, and who is told what with it
-abbrev pub answer_closed : Result Closed Refusal → Answer
-answer_closed (Ok closed) = Batched closed.output
-answer_closed (Err why) = Refused why
-
-abbrev pub told_with : Result Closed Refusal → List (Name × Keyed)
-told_with (Ok closed) = closed.told
-told_with (Err why) = []
+-- what a batch puts out
+abbrev pub answer_batch : Result Output Refusal → Answer
+answer_batch (Ok output) = Batched output
+answer_batch (Err why) = Refused why
 
 -- an opening that was granted: it shows the group as it is then, and the pair that was sent again
 abbrev pub answer_opened : Server → Option PushPair → Answer
@@ -82,12 +75,6 @@ module _ {D G R : Type 0} (d : DiskGhosts D) (g : SignerGhosts G) (draws : DrawG
   abbrev pub ServesBeside : Asked → Answer → CoreView D G R → CoreView D G R → Type 0
   ServesBeside request answer old new =
       (rules : List Rule) (sessions : Sessions) → Serves request answer (server_of old rules sessions) (server_of new rules sessions)
-
-  -- The same of a batch, with what is told to those who come in with it.
-  pub record ServesBatch (answer : Answer) (told : List (Name × Keyed)) (old new : View D G R) : Type 0 where
-    pub goes_on : GoesOn draws old new
-    pub each : (host : Host D) → IsServerOf d draws old host
-        → (next : Host D) × Noted Batch answer old host next × IsServerOf d draws new next × AreToldBy answer next told
 
   -- The same of a call that opens the group again: its answer shows the group that is open then.
   pub record ServesReopening (result : Result (Option PushPair) Refusal) (old new : View D G R) : Type 0 where

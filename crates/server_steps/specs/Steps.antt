@@ -5,11 +5,11 @@ use Rattle.gd_disk.specs.declared.disks.Disk.{Ghosts as DiskGhosts}
 use Rattle.gd_edges.specs.declared.signers.Signer.{Ghosts as SignerGhosts}
 use Rattle.group_model.specs.declared.entries.Answer.{Answer}
 use Rattle.group_model.specs.declared.entries.Asked.{Asked}
-use Rattle.group_model.specs.declared.entries.Asked.TheVariants.{AddRule, Batch, DeliverAll, Halt, Introduce, Join, Leave, Reopen, Serve, Show}
+use Rattle.group_model.specs.declared.entries.Asked.TheVariants.{AddRule, Batch, DeliverAll, Halt, Introduce, Leave, Reopen, Serve, Show}
 use Rattle.group_model.specs.declared.entries.Entry.{Entry}
 use Rattle.group_model.specs.declared.entries.Outside.{Outside}
 use Rattle.server_steps.specs.Batches.{IsBatching}
-use Rattle.server_steps.specs.Changes.{IsAddingRule, IsHalting, IsJoining, IsLeaving, IsNoDelivery, IsShowing}
+use Rattle.server_steps.specs.Changes.{IsAddingRule, IsHalting, IsLeaving, IsNoDelivery, IsShowing}
 use Rattle.server_steps.specs.Disks.{Counts}
 use Rattle.server_steps.specs.Hosts.{Host}
 use Rattle.server_steps.specs.Openings.{IsOpeningAgain}
@@ -29,7 +29,6 @@ module _ {D G : Type 0} (d : DiskGhosts D) (g : SignerGhosts G) (signer : G) (bl
   IsServed (AddRule rule) = IsAddingRule rule
   IsServed (Introduce phase) = IsIntroducing phase
   IsServed (Serve m datagram) = λ host. IsAnswering g signer block host datagram
-  IsServed (Join m) = IsJoining m
   IsServed (Leave m) = IsLeaving m
   IsServed Batch = IsBatching d g signer block
   IsServed Halt = IsHalting

@@ -2,16 +2,11 @@
 use Rattle.std.specs.Prelude.{List, [], ◌∷◌, ◌++◌}
 use Rattle.group_terms.specs.Names.{Name}
 use Rattle.group_terms.specs.declared.changes.Change.{Change}
-use Rattle.group_terms.specs.declared.changes.Change.TheVariants.{In, Out}
+use Rattle.group_terms.specs.declared.changes.Change.TheVariants.{Out}
 use Rattle.group_model.specs.declared.entries.Answer.{Answer}
-use Rattle.group_model.specs.declared.entries.Answer.TheVariants.{Done, Queued}
+use Rattle.group_model.specs.declared.entries.Answer.TheVariants.{Done}
 
--- a join that is granted is the last of them
-abbrev pub queue_after_join : List Change → Name → Answer → List Change
-queue_after_join queue m Queued = queue ++ In m ∷ []
-queue_after_join queue m answer = queue
-
--- and so is a leave
+-- a leave that is granted is the last of them
 abbrev pub queue_after_leave : List Change → Name → Answer → List Change
 queue_after_leave queue m Done = queue ++ Out m ∷ []
 queue_after_leave queue m answer = queue

@@ -1,36 +1,14 @@
 //! Requests that touch neither the disk nor the draws: changes that wait, and stops.
-ghost use Rattle.std.specs.Prelude.{◌≡◌, None};
+ghost use Rattle.std.specs.Prelude.{◌≡◌};
 ghost use Rattle.group_model.specs.declared.entries.Answer.TheVariants as answers;
 ghost use Rattle.group_model.specs.declared.entries.Asked.TheVariants as requests;
-ghost use Rattle.server_steps.specs.Sent.{pair_by};
 ghost use Rattle.server_steps.specs.Serves.{ServesBeside, answer_done};
-ghost use Rattle.server_steps.specs.Waiting.{queue_after_join, queue_after_leave};
+ghost use Rattle.server_steps.specs.Waiting.{queue_after_leave};
 
 use gcks_core::Core;
 use gd_disk::Disk;
 use gd_edges::{Draws, Signer};
-use group_model::{Answer, MemberName, Refusal};
-
-/// Asks the server to let a name in with the next batch. The answer is `Queued`, `Nothing` for a member, or the first reason against it: `NeedsReopen`,
-/// `AlreadyPending`, `TreeFull`, `BatchFull`.
-pub fn join<D: Disk, G: Signer, R: Draws>(core: &mut Core<D, G, R>, member: &MemberName) -> Answer
-    ensures serves { ServesBeside D.Disk G.Signer R.Draws (requests.Join member.now) result core.old core.new }
-    ensures waits { core.new.queue ≡ queue_after_join core.old.queue member.now result }
-    ensures silent { pair_by result ≡ None }
-{
-    core.rests();
-    if core.needs_reopen() {
-        let why = Refusal::NeedsReopen;
-        return Answer::Refused { why };
-    }
-    if core.is_member(member) {
-        return Answer::Nothing;
-    }
-    match core.join(member) {
-        Ok(()) => Answer::Queued,
-        Err(why) => Answer::Refused { why },
-    }
-}
+use group_model::{MemberName, Refusal};
 
 /// Asks the server to take a member out with the next batch: `NeedsReopen`, `NotMember`, `AlreadyPending`, `BatchFull`, the first of these that holds.
 pub fn leave<D: Disk, G: Signer, R: Draws>(

@@ -46,6 +46,7 @@ fn disk_failed_by(answer: &Answer) -> bool
         | Answer::Opened { .. }
         | Answer::Shown { .. }
         | Answer::Kept { .. }
+        | Answer::Lost
         | Answer::Older { .. }
         | Answer::TookRoot { .. }
         | Answer::TookTraffic { .. }
@@ -75,6 +76,7 @@ fn found_by(answer: &Answer) -> Option<u32>
         | Answer::Batched { .. }
         | Answer::Shown { .. }
         | Answer::Kept { .. }
+        | Answer::Lost
         | Answer::Older { .. }
         | Answer::TookRoot { .. }
         | Answer::TookTraffic { .. }

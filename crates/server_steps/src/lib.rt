@@ -2,11 +2,12 @@
 //! does so.
 #![tactic(auto)]
 
-pub use batching::{Closed, close_batch};
-pub use changing::{halt, join, leave};
+pub use batching::close_batch;
+pub use changing::{halt, leave};
 pub use entries::{answer_done, entry};
 pub use laws::{
-    a_closed_batch_is_served, a_reopening_is_served, nothing_was_served_yet, one_more_is_served,
+    a_reopening_is_served, messages_are_of_the_group, messages_stay, nothing_was_served_yet,
+    one_more_is_served,
 };
 pub use opening::{create, open, reopen, show_opened};
 pub use replying::reply_says;

@@ -1,6 +1,6 @@
 -- A list of batches that begins with those of a run: its first epochs are those of the run.
 use Rattle.std.proofs.Common.{◌≡◌, ◌∙◌, ap, arith, length-append, subst, sym, ℕ, ◌-◌, ◌≤◌, true, List, ◌++◌, length, take}
-use Rattle.std.proofs.Math.Seq.{take-append_seam, take-length}
+use Rattle.std.proofs.Math.Seq.{take-append_seam}
 use Rattle.std.proofs.lemmas.List.{length-map, map-append, take-append-le}
 use Rattle.gd_edges.specs.declared.signers.Signer.{Ghosts as SignerGhosts}
 use Rattle.group_terms.specs.Names.{Name}
@@ -29,23 +29,14 @@ module _ (depth : ℕ) (list later : List Made) where
       ∙ ap (holders_of depth)
       (take-append-le epoch (batches_made list) (batches_made later) (subst (λ n. epoch ≤ n) (sym as_long) few))
 
-  holders_now : holders_at depth (batches_made list) (length list) ≡ holders_of depth (batches_made list)
-  holders_now =
-      ap (holders_of depth) (subst (λ n. take n (batches_made list) ≡ batches_made list) as_long (take-length (batches_made list)))
+  pub member_early : (m : Name) (epoch : ℕ) → epoch ≤ length list → is_member (holders_at depth (batches_made list) epoch) m ≡ true
+      → is_member (holders_at depth (batches_made (list ++ later)) epoch) m ≡ true
+  member_early m epoch few is = subst (λ holders. is_member holders m ≡ true) (sym (holders_early epoch few)) is
 
-  pub member_now : (m : Name) → is_member (holders_of depth (batches_made list)) m ≡ true
-      → is_member (holders_at depth (batches_made list) (length list)) m ≡ true
-  member_now m is = subst (λ holders. is_member holders m ≡ true) (sym holders_now) is
-
-  pub member_early : (m : Name) → is_member (holders_of depth (batches_made list)) m ≡ true
-      → is_member (holders_at depth (batches_made (list ++ later)) (length list)) m ≡ true
-  member_early m is =
-      subst (λ holders. is_member holders m ≡ true) (sym (holders_early (length list) (omega arith) ∙ holders_now)) is
-
-  pub keyed_early : (spi : List ℕ) (m : Name) (keyed : Keyed) → IsKeyedOf depth spi list m keyed
-      → IsKeyedOf depth spi (take (length list) (list ++ later)) m keyed
-  keyed_early spi m keyed is =
-      subst (λ (given : List Made). IsKeyedOf depth spi given m keyed) (sym (take-append_seam list later)) is
+  pub keyed_early : (spi : List ℕ) (m : Name) (keyed : Keyed) (epoch : ℕ) → epoch ≤ length list → IsKeyedOf depth spi (take epoch list) m keyed
+      → IsKeyedOf depth spi (take epoch (list ++ later)) m keyed
+  keyed_early spi m keyed epoch few is =
+      subst (λ (given : List Made). IsKeyedOf depth spi given m keyed) (sym (take-append-le epoch list later few)) is
 
   stayed_early : stayed_at depth (batches_made list) (length list) ≡ true
       → stayed_at depth (batches_made (list ++ later)) (length list) ≡ true

@@ -2,9 +2,6 @@
 use Rattle.std.proofs.Common.{◌≡◌, ◌∙◌, ℕ, true, List, [], ◌∷◌, ◌++◌, refl, sym, ap, subst, inl, inr}
 use Rattle.std.specs.Cmp.Derive.{both_true}
 use Rattle.std.proofs.lemmas.List.{append_assoc, append-nil}
-use Rattle.gd_disk.specs.declared.disks.Disk.{Ghosts as DiskGhosts}
-use Rattle.gd_edges.specs.declared.signers.Signer.{Ghosts as SignerGhosts}
-use Rattle.gd_edges.specs.declared.verifiers.Verifier.{Ghosts as VerifierGhosts}
 use Rattle.group_values.specs.Values.{Made}
 use Rattle.group_model.specs.Answers.{is_open}
 use Rattle.group_model.specs.Servers.{MayHave, Server}
@@ -13,6 +10,7 @@ use Rattle.group_records.specs.declared.heads.Head.{Head}
 use Rattle.server_steps.specs.Batches.{made_next}
 use Rattle.server_steps.specs.Hosts.{Host}
 use Rattle.server_steps.specs.Openings.{IsSame}
+use Rattle.group_steps.specs.Devices.{Devices, Keying}
 use Rattle.group_steps.specs.Kinds.{IsOfAKind}
 use Rattle.group_steps.specs.Laws.{is_opened_again}
 
@@ -56,18 +54,18 @@ module _ {D : Type 0} where
       (subst (P host.server.depth host.head.spi) (sym grows.list) is))
 
   -- a step that reads true, if it opens the group again
-  pub grows_kind : {G V : Type 0} (d : DiskGhosts D) (g : SignerGhosts G) (signer : G) (v : VerifierGhosts V) (verifier : V) (block : ℕ → List ℕ)
-      (host : Host D) (entry : Entry) (next : Host D) → IsAtHead host → IsOfAKind d g signer v verifier block host entry next
+  pub grows_kind : {G V : Type 0} (on : Devices D G V) (by : Keying G) (host : Host D) (entry : Entry) (next : Host D) → IsAtHead host
+      → IsOfAKind on by host entry next
       → (is_opened_again entry ≡ true → IsSame host (record { head = next.head; list = next.server.list })) → Grows host next
-  grows_kind d g signer v verifier block host entry next at (inl quiet) reads =
+  grows_kind on by host entry next at (inl quiet) reads =
       record { head = quiet.head; depth = quiet.depth; later = []; list = quiet.list ∙ sym (append-nil host.server.list) }
-  grows_kind d g signer v verifier block host entry next at (inr (inl stored)) reads = record {
+  grows_kind on by host entry next at (inr (inl stored)) reads = record {
     head = ap (λ (given : Host D). given.head) stored.now;
     depth = ap (λ (given : Host D). given.server.depth) stored.now;
-    later = made_next d g signer block host ∷ [];
+    later = made_next on.disks on.signers by.signer by.block host ∷ [];
     list = ap (λ (given : Host D). given.server.list) stored.now;
   }
-  grows_kind d g signer v verifier block host entry next at (inr (inr found)) reads =
+  grows_kind on by host entry next at (inr (inr found)) reads =
       let same = reads (both_true found.1 (ap is_open found.2.answers)) in
       let begins = list_begins host.server next.server.list same.batches in
       record {

@@ -1,13 +1,10 @@
 -- A group that was made or found has keys, whatever its disk does.
 use Rattle.std.proofs.Common.{◌≡◌, ◌∙◌, ◌⊎◌, ℕ, ◌+◌, ◌<◌, ◌≤◌, true, false, Bool, leb, ltb, List, [], ◌∷◌, ◌++◌, None, Some, if◌then◌else◌}
 use Rattle.std.proofs.Common.{arith, length, length-append, refl, sym, ap, subst, inl, inr}
-use Rattle.std.specs.List.{All}
+use Rattle.std.specs.List.{All, Contains}
 use Rattle.std.proofs.lemmas.Bool.{false≢true, leb-true, ltb-true}
 use Rattle.std.proofs.lemmas.List.{append_assoc, append-nil, length-map, map-append}
 use Rattle.std.proofs.lemmas.List.Elements.{All-nil, All-push}
-use Rattle.gd_disk.specs.declared.disks.Disk.{Ghosts as DiskGhosts}
-use Rattle.gd_edges.specs.declared.signers.Signer.{Ghosts as SignerGhosts}
-use Rattle.gd_edges.specs.declared.verifiers.Verifier.{Ghosts as VerifierGhosts}
 use Rattle.group_terms.specs.Names.{Name}
 use Rattle.group_terms.specs.declared.changes.Change.{Change}
 use Rattle.group_values.specs.Values.{Made, batches_made}
@@ -21,8 +18,7 @@ use Rattle.group_model.specs.declared.entries.Entry.{Entry}
 use Rattle.group_model.specs.declared.entries.Outside.{Outside}
 use Rattle.group_model.specs.declared.entries.Refusal.{Refusal}
 use Rattle.group_model.specs.declared.entries.Refusal.TheVariants.{NeedsReopen, Spent}
-use Rattle.group_peers.specs.Peers.{is_peer}
-use Rattle.group_peers.specs.declared.members.Peer.{Peer}
+use Rattle.group_peers.specs.Peers.{store_of}
 use Rattle.group_pushes.specs.Fits.{MadeFits}
 use Rattle.group_records.specs.declared.heads.Head.{Head}
 use Rattle.gcks_core.specs.Stored.{AreDueFrom}
@@ -30,13 +26,19 @@ use Rattle.member_roots.specs.Groups.{IsKeyedGroup}
 use Rattle.server_steps.specs.Batches.{IsStored, made_next}
 use Rattle.server_steps.specs.Hosts.{Host}
 use Rattle.server_steps.specs.Openings.{FindsGroup, Found, IsHead}
-use Rattle.member_steps.specs.Members.{Members}
+use Rattle.member_store.specs.Stores.{Store}
+use Rattle.member_steps.specs.Acts.{Acts}
+use Rattle.member_steps.specs.Members.{Mail, Members}
+use Rattle.group_steps.specs.Devices.{Devices, Keying}
 use Rattle.group_steps.specs.Kinds.{EachStepIsOfAKind, IsOfAKind, IsQuiet}
 use Rattle.group_steps.specs.Laws.{LeavesValidList}
-use Rattle.group_steps.specs.Runs.{Run, no_run}
+use Rattle.group_steps.specs.Runs.{Outset, Run, no_run, with_members}
 use Rattle.group_steps.specs.Steps.{AreRunSteps, IsHistory}
 use Rattle.store_steps.specs.Follow.{OpenedGroupsHaveKeys}
+use Rattle.store_steps.proofs.ActLemmas.{all_after, stay}
 use Rattle.store_steps.proofs.FirstLemmas.{IsFirst, first_of, members_first}
+use Rattle.store_steps.proofs.PeerLemmas.{Holds, found}
+use Rattle.store_steps.proofs.StoreLemmas.{stores_kept}
 
 -- ---- epochs and numbers
 
@@ -123,15 +125,14 @@ keyed_group head depth limit list has valid =
       spi_octets = has.is_head.octets;
     }
 
-module _ {D G V : Type 0} (d : DiskGhosts D) (g : SignerGhosts G) (signer : G) (v : VerifierGhosts V) (verifier : V)
-    (block : ℕ → List ℕ) where
+module _ {D G V : Type 0} (on : Devices D G V) (by : Keying G) where
   -- a host that is equal to one of a group that was opened
   is_opened : (next made : Host D) → next ≡ made → IsOpened made → IsOpened next
   is_opened next made is has = subst (λ (given : Host D). IsOpened given) (sym is) has
 
   -- what an opening found
   opened_found : (host : Host D) (found : Found) (answer : Answer) (outside : Outside) (next : Host D)
-      → FindsGroup d g signer host found answer outside next → IsOpened next
+      → FindsGroup on.disks on.signers by.signer host found answer outside next → IsOpened next
   opened_found host found answer outside next finds = is_opened next _ finds.now (record {
     is_head = finds.group.head;
     as_deep = refl;
@@ -144,7 +145,7 @@ module _ {D G V : Type 0} (d : DiskGhosts D) (g : SignerGhosts G) (signer : G) (
   -- ---- the first request
 
   opened_first : (host : Host D) (answer : Answer) (outside : Outside) (next : Host D) → is_open answer ≡ true
-      → IsFirst d g signer block host answer outside next → IsOpened next
+      → IsFirst on.disks on.signers by.signer by.block host answer outside next → IsOpened next
   opened_first host answer outside next opened (inl made) = is_opened next _ made.1.now (record {
     is_head = made.1.head;
     as_deep = refl;
@@ -159,9 +160,9 @@ module _ {D G V : Type 0} (d : DiskGhosts D) (g : SignerGhosts G) (signer : G) (
 
   -- with the batch that waited
   opened_stored : (host : Host D) (answer : Answer) (outside : Outside) (next : Host D) → IsOpened host
-      → IsStored d g signer block host answer outside next → IsOpened next
+      → IsStored on.disks on.signers by.signer by.block host answer outside next → IsOpened next
   opened_stored host answer outside next has stored =
-      let made = made_next d g signer block host in
+      let made = made_next on.disks on.signers by.signer by.block host in
       is_opened next _ stored.now (record {
         is_head = has.is_head;
         as_deep = has.as_deep;
@@ -178,53 +179,78 @@ module _ {D G V : Type 0} (d : DiskGhosts D) (g : SignerGhosts G) (signer : G) (
       (subst (HasKeys host.head host.server.depth host.server.limit) (sym quiet.list) has)))
 
   -- opened again, it goes on with what was found, whatever that is
-  opened_kind : (host : Host D) (entry : Entry) (next : Host D) → IsOpened host → IsOfAKind d g signer v verifier block host entry next → IsOpened next
+  opened_kind : (host : Host D) (entry : Entry) (next : Host D) → IsOpened host → IsOfAKind on by host entry next → IsOpened next
   opened_kind host entry next has (inl quiet) = opened_quiet host entry.answer next has quiet
   opened_kind host entry next has (inr (inl stored)) = opened_stored host entry.answer entry.outside next has stored
   opened_kind host entry next has (inr (inr found)) = opened_found host found.0 entry.answer entry.outside next found.2
 
-  opened_after : EachStepIsOfAKind d g signer v verifier block → (first : Entry) (before : List Entry) (run : Run D) (entries : List Entry)
-      (after : Run D) → IsOpened run.host → AreRunSteps d g signer v verifier block (first ∷ before) run entries after → IsOpened after.host
+  opened_after : EachStepIsOfAKind on by → (first : Entry) (before : List Entry) (run : Run D) (entries : List Entry)
+      (after : Run D) → IsOpened run.host → AreRunSteps on by (first ∷ before) run entries after → IsOpened after.host
   opened_after kinds first before run [] after has steps = subst (λ (given : Run D). IsOpened given.host) (sym steps) has
   opened_after kinds first before run (entry ∷ entries) after has steps =
       opened_after kinds first (before ++ entry ∷ []) steps.0 entries after
       (opened_kind run.host entry steps.0.host has (kinds first before run entry steps.0 steps.1)) steps.2
 
-  pub opened_have_keys : EachStepIsOfAKind d g signer v verifier block → LeavesValidList d g signer v verifier block
-      → OpenedGroupsHaveKeys d g signer v verifier block
-  opened_have_keys kinds valid disk name limit place first later after history opened =
-      let start = no_run disk name limit place in
+  pub opened_have_keys : EachStepIsOfAKind on by → LeavesValidList on by
+      → OpenedGroupsHaveKeys on by
+  opened_have_keys kinds valid outset first later after history opened =
+      let start = no_run outset in
       let step = history.steps.1 in
       let next = history.steps.0 in
-      let is = first_of d g signer block v verifier [] start first.answer first.outside next first.asked history.begins.0 step.answered in
+      let is =
+      first_of on by [] (with_members start step.acted) first.answer first.outside next first.asked history.begins.0 step.answered.answered in
       let has = opened_first start.host first.answer first.outside next.host opened is in
       keyed_group after.host.head after.host.server.depth after.host.server.limit after.host.server.list
-      (opened_after kinds first [] next later after has history.steps.2) (valid disk name limit place (first ∷ later) after history)
+      (opened_after kinds first [] next later after has history.steps.2) (valid outset (first ∷ later) after history)
 
   -- ---- those who have stores
 
-  -- a history that opened no group ends without members
-  pub keyed_or_alone : OpenedGroupsHaveKeys d g signer v verifier block → (disk : D) (name : Name) (limit place : ℕ) (entries : List Entry)
-      (after : Run D) → IsHistory d g signer v verifier block (no_run disk name limit place) entries after
-      → IsKeyedGroup after.host.server.depth after.host.head.spi after.host.server.list ⊎ (after.members.all ≡ [])
-  keyed_or_alone have disk name limit place [] after history = inr (ap (λ (given : Run D). given.members.all) history.steps)
-  keyed_or_alone have disk name limit place (first ∷ []) after history =
-      let start = no_run disk name limit place in
+  -- nothing is on its way, and nobody has a store
+  pub record IsBare (members : Members) : Type 0 where
+    pub mail : (mail : Mail) → Contains members.mail mail → ⊥
+    pub stores : All (Holds (λ m store. ⊥)) members.all
+
+  bare_first : (outset : Outset D) → IsBare (no_run outset).members
+  bare_first outset = record { mail = λ mail is. omega (arith, is.1); stores = All-nil (Holds (λ m store. ⊥)) }
+
+  bare_acted : (old new : Members) → Acts by.members_block by.group old new → IsBare old → IsBare new
+  bare_acted old new acts bare = record {
+    mail = λ mail is. bare.mail mail ((stay by.members_block by.group old new acts).mail mail is);
+    stores = all_after (Holds (λ m store. ⊥)) (stores_kept (λ m store. ⊥)) by.members_block by.group old new bare.stores acts;
+  }
+
+  -- a history that opened no group ends so
+  pub keyed_or_bare : OpenedGroupsHaveKeys on by → (outset : Outset D) (entries : List Entry) (after : Run D)
+      → IsHistory on by (no_run outset) entries after
+      → IsKeyedGroup after.host.server.depth after.host.head.spi after.host.server.list ⊎ IsBare after.members
+  keyed_or_bare have outset [] after history = inr (subst (λ (given : Run D). IsBare given.members) (sym history.steps) (bare_first outset))
+  keyed_or_bare have outset (first ∷ []) after history =
+      let start = no_run outset in
       let next = history.steps.0 in
-      let step = history.steps.1.answered in
-      inr (ap (λ (given : Run D). given.members.all) history.steps.2
-      ∙ ap (λ (members : Members). members.all)
-      (members_first d g signer block v verifier [] start first.answer first.outside next first.asked history.begins.0 step))
-  keyed_or_alone have disk name limit place (first ∷ second ∷ later) after history = elim history.begins.1 [
+      let step = history.steps.1 in
+      let acted = bare_acted start.members step.acted step.acts (bare_first outset) in
+      let stays =
+      members_first on by [] (with_members start step.acted) first.answer first.outside next first.asked history.begins.0 step.answered.answered in
+      inr (subst (λ (given : Run D). IsBare given.members) (sym history.steps.2) (subst IsBare (sym stays) acted))
+  keyed_or_bare have outset (first ∷ second ∷ later) after history = elim history.begins.1 [
     | inl none ↦ absurd (cc none)
-    | inr opened ↦ inl (have disk name limit place first (second ∷ later) after history opened)
+    | inr opened ↦ inl (have outset first (second ∷ later) after history opened)
   ]
 
-  -- so where there is a member, there is a group with keys
-  pub keyed_with : OpenedGroupsHaveKeys d g signer v verifier block → (disk : D) (name : Name) (limit place : ℕ) (entries : List Entry)
-      (after : Run D) → IsHistory d g signer v verifier block (no_run disk name limit place) entries after → (m : Name)
-      → is_peer after.members.all m ≡ true → IsKeyedGroup after.host.server.depth after.host.head.spi after.host.server.list
-  keyed_with have disk name limit place entries after history m peer = elim (keyed_or_alone have disk name limit place entries after history) [
+  -- so where somebody has a store, there is a group with keys
+  pub keyed_with : OpenedGroupsHaveKeys on by → (outset : Outset D) (entries : List Entry) (after : Run D)
+      → IsHistory on by (no_run outset) entries after → (m : Name) (store : Store) → store_of after.members.all m ≡ Some store
+      → IsKeyedGroup after.host.server.depth after.host.head.spi after.host.server.list
+  keyed_with have outset entries after history m store had = elim (keyed_or_bare have outset entries after history) [
     | inl group ↦ group
-    | inr alone ↦ absurd (false≢true (sym (ap (λ (peers : List Peer). is_peer peers m) alone) ∙ peer))
+    | inr bare ↦ absurd (found (λ m store. ⊥) after.members.all m store bare.stores had)
+  ]
+
+  -- and where something is on its way
+  pub keyed_told : OpenedGroupsHaveKeys on by → (outset : Outset D) (entries : List Entry) (after : Run D)
+      → IsHistory on by (no_run outset) entries after → (mail : Mail) → Contains after.members.mail mail
+      → IsKeyedGroup after.host.server.depth after.host.head.spi after.host.server.list
+  keyed_told have outset entries after history mail is = elim (keyed_or_bare have outset entries after history) [
+    | inl group ↦ group
+    | inr bare ↦ absurd (bare.mail mail is)
   ]

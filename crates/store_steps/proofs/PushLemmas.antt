@@ -5,7 +5,6 @@ use Rattle.std.proofs.lemmas.Bool.{false≢true}
 use Rattle.std.proofs.lemmas.Option.{none-some}
 use Rattle.gd_disk.specs.declared.disks.Disk.{Ghosts as DiskGhosts}
 use Rattle.gd_edges.specs.declared.signers.Signer.{Ghosts as SignerGhosts}
-use Rattle.gd_edges.specs.declared.verifiers.Verifier.{Ghosts as VerifierGhosts}
 use Rattle.group_values.specs.Values.{batches_made}
 use Rattle.group_model.specs.Stayed.{stayed_at}
 use Rattle.group_model.specs.declared.entries.Answer.{Answer}
@@ -18,6 +17,7 @@ use Rattle.server_steps.specs.Batches.{IsStored}
 use Rattle.server_steps.specs.Hosts.{Host}
 use Rattle.server_steps.specs.Openings.{FindsGroup, Found, opened_host}
 use Rattle.server_steps.specs.Sent.{pair_by}
+use Rattle.group_steps.specs.Devices.{Devices, Keying}
 use Rattle.group_steps.specs.Kinds.{IsOfAKind, speaks}
 use Rattle.store_steps.proofs.FirstLemmas.{IsFirst}
 
@@ -81,8 +81,11 @@ module _ {D G : Type 0} (g : SignerGhosts G) (signer : G) where
     sends_first answer outside next (inr (inl found)) = sends_found found.0 answer outside next found.1
     sends_first answer outside next (inr (inr refusal)) = sends_none answer _ next refusal.answers refl
 
-    pub sends_kind : {V : Type 0} (v : VerifierGhosts V) (verifier : V) (entry : Entry) (next : Host D)
-        → IsOfAKind d g signer v verifier block host entry next → Sends entry.answer next
-    sends_kind v verifier entry next (inl quiet) = sends_none entry.answer entry.answer next refl (silent_pair entry.answer quiet.silent)
-    sends_kind v verifier entry next (inr (inl stored)) = sends_stored entry.answer entry.outside next stored
-    sends_kind v verifier entry next (inr (inr found)) = sends_found found.0 entry.answer entry.outside next found.2
+-- whatever is asked
+pub sends_kind : {D G V : Type 0} (on : Devices D G V) (by : Keying G) (host : Host D) (entry : Entry) (next : Host D) → IsOfAKind on by host entry next
+    → Sends on.signers by.signer entry.answer next
+sends_kind on by host entry next (inl quiet) = sends_none on.signers by.signer entry.answer entry.answer next refl (silent_pair entry.answer quiet.silent)
+sends_kind on by host entry next (inr (inl stored)) =
+    sends_stored on.signers by.signer on.disks by.block host entry.answer entry.outside next stored
+sends_kind on by host entry next (inr (inr found)) =
+    sends_found on.signers by.signer on.disks by.block host found.0 entry.answer entry.outside next found.2

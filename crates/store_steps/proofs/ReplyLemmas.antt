@@ -1,82 +1,126 @@
--- What a member is told after a history is kept.
-use Rattle.std.proofs.Common.{◌≡◌, ◌∙◌, ap, arith, refl, subst, sym, ℕ, zero, suc, ◌-◌, ◌≤◌, false, List, [], ◌∷◌, length, take, Option, None, Some}
+-- What a member is told after a history is kept, or is older than what its store has; or it goes missing.
+use Rattle.std.proofs.Common.{◌≡◌, ◌∙◌, ap, refl, subst, sym, inl, inr, ℕ, ◌≤◌, true, false, Bool, List, Option, None, Some}
 use Rattle.std.specs.Prelude.{MatchBool, option_and_then}
-use Rattle.std.specs.List.{All}
-use Rattle.std.proofs.Math.Seq.{take-length}
-use Rattle.std.proofs.lemmas.List.Elements.{All-head}
-use Rattle.std.proofs.lemmas.Option.{none-some}
+use Rattle.std.specs.List.{Contains}
+use Rattle.std.proofs.lemmas.Bool.{cases_lt, false≢true}
+use Rattle.std.proofs.lemmas.List.{length-take-le}
 use Rattle.group_terms.specs.Names.{Name}
-use Rattle.group_terms.specs.declared.paths.Keyed.{Keyed}
-use Rattle.group_terms.specs.declared.paths.PathKey.{PathKey}
-use Rattle.group_terms.specs.declared.values.NodeValue.{NodeValue}
-use Rattle.group_values.specs.Values.{HasValue, Made, made_at, value_of}
-use Rattle.group_keys.specs.Replies.{IsKeyedOf}
+use Rattle.group_terms.specs.declared.phases.Phase1.{Phase1}
+use Rattle.group_terms.specs.declared.signatures.SignKind.{SignKind}
 use Rattle.group_model.specs.declared.entries.Answer.{Answer}
 use Rattle.group_model.specs.declared.entries.Answer.TheVariants.{Kept}
-use Rattle.group_peers.specs.Peers.{store_of}
-use Rattle.server_steps.specs.Replies.{IsTold}
-use Rattle.member_steps.specs.Members.{Mail, Members, with_mail}
-use Rattle.member_steps.specs.Steps.{Gets, IsKeeping, IsOld, TakesReply}
-use Rattle.group_steps.specs.Replies.{AreRepliesNow}
+use Rattle.group_peers.specs.Peers.{is_peer, peer_of, put, store_of, with_loss}
+use Rattle.group_peers.specs.declared.members.Peer.{Peer}
+use Rattle.member_steps.specs.Members.{Members, with_all, with_mail_left}
+use Rattle.member_steps.specs.Steps.{GoesMissing, Gets, IsKeeping, IsOld, TakesFourth, TakesReply}
 use Rattle.group_steps.specs.Runs.{Run}
-use Rattle.member_roots.specs.Roots.{IsAtRoot}
-use Rattle.member_store.specs.Stores.{Store, is_older, no_key, root_epoch, root_of, store_of as store_made}
-use Rattle.store_steps.proofs.PeerLemmas.{found_anew}
+use Rattle.member_store.specs.Stores.{Store, is_older, root_epoch, store_of as store_made}
+use Rattle.store_steps.specs.Follow.{HasKeysThen, IsKeptAt, IsToldKeys, KeepsItsStore, TakesOrLoses}
+use Rattle.store_steps.proofs.ActLemmas.{Stay, put_stores}
+use Rattle.store_steps.proofs.MailLemmas.{Tells}
+use Rattle.store_steps.proofs.PeerLemmas.{found_anew, found_named, found_peer, put_found, seen_changed}
 
--- ---- the epoch of a root
+-- stores do not depend on which datagrams are to go missing
+loss_stores : (peers : List Peer) (name : Name) (loses : Bool) (m : Name) → store_of (with_loss peers name loses) m ≡ store_of peers m
+loss_stores peers name loses m =
+    seen_changed (λ (found : Option Peer). option_and_then (λ (peer : Peer). peer.store) found) (λ (peer : Peer). record peer { loses = loses })
+    (λ peer. refl) (λ peer. refl) peers name m
 
-made_early : (list : List Made) (epoch : ℕ) (made : Made) → made_at list epoch ≡ Some made → epoch ≤ length list
-made_early list zero made is = omega arith
-made_early [] (suc epoch) made is = absurd (none-some made is)
-made_early (first ∷ list) (suc zero) made is = omega arith
-made_early (first ∷ list) (suc (suc epoch)) made is = omega (arith, made_early list (suc epoch) made is)
+module _ {D : Type 0} (kind : SignKind) (run : Run D) (acted : Members) (stays : Stay run.members acted) (m : Name) (answer : Answer) (next : Run D) where
+  -- the store of a member is what it was before the members acted
+  keeps_store : (made : Members) → next.members ≡ made → store_of made.all m ≡ store_of acted.all m → KeepsItsStore run m next
+  keeps_store made is same = ap (λ (members : Members). store_of members.all m) is ∙ same ∙ stays.stores m
 
-value_early : (list : List Made) (v epoch : ℕ) (value : NodeValue) (found : Option Made) → made_at list epoch ≡ found
-    → option_and_then (λ (made : Made). value_of made.values.nodes v) found ≡ Some value → epoch ≤ length list
-value_early list v epoch value None found is = absurd (none-some value is)
-value_early list v epoch value (Some made) found is = made_early list epoch made found
+  missing : GoesMissing m acted answer next.members → TakesOrLoses kind run m answer next
+  missing goes = inl (goes.answers, keeps_store _ goes.now (loss_stores acted.all m _ m))
 
-keys_early : (list : List Made) (path : List PathKey) → All (HasValue list) path → (root_of path).made ≤ length list
-keys_early list [] all = omega arith
-keys_early list (key ∷ path) all =
-    let root = root_of (key ∷ path) in
-    value_early list root.id root.made root.value (made_at list root.made) refl
-    (all (length (key ∷ path) - 1) no_key (omega arith))
+  module _ (fourth : TakesFourth m acted answer next.members) (tells : Tells kind run m fourth.datagram fourth.keyed)
+      (has_keys : HasKeysThen run tells.says.keyed_epoch m (store_made fourth.keyed))
+      (fresh : (store : Store) → store_of run.members.all m ≡ Some store → root_epoch store ≤ tells.says.keyed_epoch
+      → is_older store fourth.keyed ≡ false) where
+    abbrev epoch : ℕ
+    epoch = tells.says.keyed_epoch
 
--- a store is at no later root than that of the last epoch
-pub root_early : (depth : ℕ) (spi : List ℕ) (list : List Made) (m : Name) (store : Store) → IsAtRoot depth spi list (root_epoch store) m store
-    → root_epoch store ≤ length list
-root_early depth spi list m store root = keys_early list store.path root.values
+    abbrev left : Members
+    left = with_mail_left (with_all acted (put acted.all fourth.after)) fourth.later
 
--- ---- a reply
+    phase : fourth.after.phase ≡ fourth.peer.phase
+    phase = ap (λ (peer : Peer). peer.phase) fourth.told.now
 
--- it is that of all of the batches
-pub keyed_now : (depth : ℕ) (spi : List ℕ) (list : List Made) (m : Name) (keyed : Keyed) → IsKeyedOf depth spi list m keyed
-    → IsKeyedOf depth spi (take (length list) list) m keyed
-keyed_now depth spi list m keyed is = subst (λ (given : List Made). IsKeyedOf depth spi given m keyed) (sym (take-length list)) is
+    put_store : store_of left.all m ≡ store_of acted.all m
+    put_store = put_stores acted.all m fourth.peer fourth.after fourth.gets.is_there phase (ap (λ (peer : Peer). peer.store) fourth.told.now) m
 
--- the first of the replies that are on their way is of the present epoch, as all of them are
-pub told_first : {D : Type 0} (run : Run D) (m : Name) (keyed : Keyed) (later : List Mail) → AreRepliesNow run → run.members.mail ≡ (m, keyed) ∷ later
-    → IsTold run.host.server.depth run.host.head.spi run.host.server.list m keyed
-told_first run m keyed later now is =
-    let Told : Mail → Type 0 = λ mail. IsTold run.host.server.depth run.host.head.spi run.host.server.list mail.0 mail.1 in
-    All-head Told (m, keyed) later (subst (All Told) is now)
+    had_store : fourth.peer.store ≡ store_of run.members.all m
+    had_store =
+        sym (ap (λ (found : Option Peer). option_and_then (λ (peer : Peer). peer.store) found) fourth.gets.is_there) ∙ stays.stores m
 
-module _ (m : Name) (members : Members) (answer : Answer) (next : Members) (keeping : IsKeeping m members answer next) where
-  abbrev before : Members
-  before = with_mail members keeping.later
+    named : m ≡ fourth.after.phase.member
+    named = found_named acted.all m fourth.peer fourth.gets.is_there ∙ ap (λ (phase : Phase1). phase.member) (sym phase)
 
-  gets_by : (had : Option Store) → ((store : Store) → had ≡ Some store → is_older store keeping.keyed ≡ false)
-      → TakesReply had m keeping.keyed before answer next → Gets m keeping.keyed before answer next
-  gets_by None fresh takes = takes
-  gets_by (Some store) fresh takes =
-      subst (λ older. MatchBool older (IsOld store keeping.keyed before answer next) (Gets m keeping.keyed before answer next)) (fresh store refl) takes
+    still_peer : is_peer left.all m ≡ true
+    still_peer =
+        let was = found_peer acted.all m fourth.peer fourth.gets.is_there in
+        let put_there : peer_of left.all fourth.after.phase.member ≡ Some fourth.after =
+        put_found fourth.after acted.all (subst (λ name. is_peer acted.all name ≡ true) named was) in
+        found_peer left.all m fourth.after (subst (λ name. peer_of left.all name ≡ Some fourth.after) (sym named) put_there)
 
-  -- what is not older is kept
-  pub keeps : ((store : Store) → store_of members.all m ≡ Some store → is_older store keeping.keyed ≡ false)
-      → (answer ≡ Kept keeping.keyed.epoch) × (store_of next.all m ≡ Some (store_made keeping.keyed))
-  keeps fresh =
-      let gets = gets_by (store_of members.all m) fresh keeping.takes in (
-        gets.answers,
-        ap (λ (members : Members). store_of members.all m) gets.now ∙ found_anew members.all m (store_made keeping.keyed) keeping.granted,
-      )
+    at_epoch : fourth.keyed.epoch ≡ epoch
+    at_epoch = tells.keys.epoch ∙ length-take-le epoch run.host.server.list tells.early
+
+    kept : Gets m fourth.keyed left answer next.members → IsKeptAt run epoch m answer next
+    kept gets = inl (
+      gets.answers ∙ ap Kept at_epoch,
+      (
+        store_made fourth.keyed,
+        ap (λ (members : Members). store_of members.all m) gets.now ∙ found_anew left.all m (store_made fourth.keyed) still_peer,
+        has_keys,
+      ),
+    )
+
+    old : (store : Store) → fourth.peer.store ≡ Some store → is_older store fourth.keyed ≡ true → IsOld store fourth.keyed left answer next.members
+        → IsKeptAt run epoch m answer next
+    old store had older stays_old =
+        let now = ap (λ (members : Members). store_of members.all m) stays_old.stays ∙ put_store in
+        let was = sym had_store ∙ had in
+        inr (
+          store.sequence,
+          fourth.keyed.sequence,
+          stays_old.answers,
+          now ∙ stays.stores m,
+          (
+            store,
+            now ∙ stays.stores m ∙ was,
+            elim (cases_lt epoch (root_epoch store)) [
+              | inl less ↦ less
+              | inr past ↦ absurd (false≢true (sym (fresh store was past) ∙ older))
+            ],
+          ),
+        )
+
+    by_age : (store : Store) (age : Bool) → fourth.peer.store ≡ Some store → is_older store fourth.keyed ≡ age
+        → MatchBool age (IsOld store fourth.keyed left answer next.members) (Gets m fourth.keyed left answer next.members)
+        → IsKeptAt run epoch m answer next
+    by_age store true had older takes = old store had older takes
+    by_age store false had older takes = kept takes
+
+    by_store : (had : Option Store) → fourth.peer.store ≡ had → TakesReply had m fourth.keyed left answer next.members → IsKeptAt run epoch m answer next
+    by_store None had takes = kept takes
+    by_store (Some store) had takes = by_age store (is_older store fourth.keyed) had refl takes
+
+    takes_keys : Contains run.members.mail (m, fourth.datagram) → IsToldKeys kind run m answer next
+    takes_keys on_its_way = record {
+      octets = fourth.datagram;
+      says = tells.says;
+      on_its_way = on_its_way;
+      sent = tells.sent;
+      kept = by_store fourth.peer.store refl fourth.takes;
+    }
+
+  pub takes_or_loses : ((fourth : TakesFourth m acted answer next.members) → Contains run.members.mail (m, fourth.datagram)
+      × ((tells : Tells kind run m fourth.datagram fourth.keyed)
+      × (HasKeysThen run tells.says.keyed_epoch m (store_made fourth.keyed))
+      × ((store : Store) → store_of run.members.all m ≡ Some store → root_epoch store ≤ tells.says.keyed_epoch → is_older store fourth.keyed ≡ false)))
+      → IsKeeping m acted answer next.members → TakesOrLoses kind run m answer next
+  takes_or_loses known (inl goes) = missing goes
+  takes_or_loses known (inr fourth) =
+      let is = known fourth in inr (takes_keys fourth is.1.0 is.1.1 is.1.2 is.0)

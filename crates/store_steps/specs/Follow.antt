@@ -1,8 +1,5 @@
 -- What follows of the steps of a run for the stores of its members (RFC 6407 section 4), said of every history.
-use Rattle.std.specs.Prelude.{◌≡◌, ◌≢◌, ◌⊎◌, ℕ, ◌+◌, ◌<◌, ◌≤◌, true, false, List, [], ◌∷◌, length, Some, IsSome}
-use Rattle.gd_disk.specs.declared.disks.Disk.{Ghosts as DiskGhosts}
-use Rattle.gd_edges.specs.declared.signers.Signer.{Ghosts as SignerGhosts}
-use Rattle.gd_edges.specs.declared.verifiers.Verifier.{Ghosts as VerifierGhosts}
+use Rattle.std.specs.Prelude.{◌≡◌, ◌≢◌, ◌⊎◌, ℕ, ◌+◌, ◌<◌, ◌≤◌, true, false, List, [], ◌∷◌, Contains, Some, IsSome}
 use Rattle.group_terms.specs.Names.{Name}
 use Rattle.group_terms.specs.declared.pushes.PushRefusal.{PushRefusal}
 use Rattle.group_terms.specs.declared.pushes.PushRefusal.TheVariants.{Malformed, NoPath, Stale}
@@ -10,12 +7,13 @@ use Rattle.group_model.specs.Answers.{is_open}
 use Rattle.group_model.specs.Places.{Holders, holders_at, is_member}
 use Rattle.group_model.specs.Stayed.{sequence_at, stayed_at}
 use Rattle.group_model.specs.declared.entries.Answer.{Answer}
-use Rattle.group_model.specs.declared.entries.Answer.TheVariants.{Kept, PushRefused, TookRoot, TookTraffic}
+use Rattle.group_model.specs.declared.entries.Answer.TheVariants.{Kept, Lost, Older, PushRefused, TookRoot, TookTraffic}
 use Rattle.group_model.specs.declared.entries.Asked.TheVariants.{Deliver, Keep}
 use Rattle.group_model.specs.declared.entries.Entry.{Entry}
 use Rattle.group_model.specs.declared.entries.Outside.{Outside}
 use Rattle.group_peers.specs.Peers.{store_of}
-use Rattle.group_steps.specs.Runs.{Run, no_run}
+use Rattle.group_steps.specs.Devices.{Devices, Keying}
+use Rattle.group_steps.specs.Runs.{Outset, Run, no_run}
 use Rattle.server_steps.specs.Sent.{last_push}
 use Rattle.group_steps.specs.Steps.{IsHistory, IsRunStep}
 use Rattle.group_steps.specs.TrueSteps.{AreTrueSteps, batches_in}
@@ -23,6 +21,9 @@ use Rattle.member_roots.specs.Groups.{Checks, IsKeyedGroup}
 use Rattle.member_roots.specs.Roots.{HasKeysOf, IsStoreOf}
 use Rattle.member_store.specs.Stores.{Store, leaf_of, root_epoch}
 use Rattle.store_steps.specs.Stores.{AreForOneRoot, AreStores}
+use Rattle.group_terms.specs.declared.signatures.SignKind.{SignKind}
+use Rattle.group_model.specs.declared.entries.SymReply.{SymReply}
+use Rattle.group_steps.specs.Mails.{IsSentTo}
 
 module _ {D : Type 0} where
   -- the number of the last push up to an epoch
@@ -64,39 +65,63 @@ module _ {D : Type 0} where
       ⊎ ((root : ℕ) × (root ≢ root_epoch store) × (IsMembershipPush run number root ⊎ IsTrafficPush run number root)
       × (at : ℕ) × (why ≡ Malformed at)))
 
-module _ {D G V : Type 0} (d : DiskGhosts D) (g : SignerGhosts G) (signer : G) (v : VerifierGhosts V) (verifier : V) (block : ℕ → List ℕ) where
+-- ---- what a member is told
+
+module _ {D : Type 0} where
+  -- the store of a member is what it was
+  abbrev pub KeepsItsStore : Run D → Name → Run D → Type 0
+  KeepsItsStore run m next = store_of next.members.all m ≡ store_of run.members.all m
+
+  -- By the answer where a member is told the keys that it had at an epoch (RFC 6407 section 3.2): it has all of them then; or its store is at the root of a
+  -- later epoch, and stays.
+  abbrev pub IsKeptAt : Run D → ℕ → Name → Answer → Run D → Type 0
+  IsKeptAt run epoch m answer next =
+      ((answer ≡ Kept epoch) × HasThen next m (HasKeysThen run epoch m))
+      ⊎ ((last got : ℕ) × (answer ≡ Older last got) × KeepsItsStore run m next × HasThen next m (λ (now : Store). epoch < root_epoch now))
+
+  -- a fourth message on its way to it tells it those of the epoch that this says
+  pub record IsToldKeys (kind : SignKind) (run : Run D) (m : Name) (answer : Answer) (next : Run D) : Type 0 where
+    pub octets : List ℕ
+    pub says : SymReply
+    pub on_its_way : Contains run.members.mail (m, octets)
+    pub sent : IsSentTo kind run.host run.members.all m octets (Some says)
+    pub kept : IsKeptAt run says.keyed_epoch m answer next
+
+  -- or the datagram went missing, and its store stays
+  abbrev pub TakesOrLoses : SignKind → Run D → Name → Answer → Run D → Type 0
+  TakesOrLoses kind run m answer next = ((answer ≡ Lost) × KeepsItsStore run m next) ⊎ IsToldKeys kind run m answer next
+
+module _ {D G V : Type 0} (on : Devices D G V) (by : Keying G) where
   -- Of no push that the group of a run sends under the root of one epoch is a push read under that of another one: supposed of cipher and drawn keys.
   abbrev pub AreApart : Run D → Type 0
-  AreApart run = AreForOneRoot g signer (v.kind_of verifier) run.host.server.depth run.host.head.spi run.host.server.list
+  AreApart run = AreForOneRoot on.signers by.signer (on.verifiers.kind_of on.verifier) run.host.server.depth run.host.head.spi run.host.server.list
 
   -- a history of which each opening again found the group that there was
   pub record IsTrueHistory (entries : List Entry) (after : Run D) : Type 0 where
-    pub disk : D
-    pub name : Name
-    pub limit : ℕ
-    pub place : ℕ
-    pub history : IsHistory d g signer v verifier block (no_run disk name limit place) entries after
-    pub reads : AreTrueSteps d g signer v verifier block [] (no_run disk name limit place) entries after
+    pub outset : Outset D
+    pub history : IsHistory on by (no_run outset) entries after
+    pub reads : AreTrueSteps on by [] (no_run outset) entries after
 
   -- A group that was made or found has keys: values that fit, an SPI of 16 octets, and epochs and numbers of 32 bits.
   abbrev pub OpenedGroupsHaveKeys : Type 0
   OpenedGroupsHaveKeys =
-      (disk : D) (name : Name) (limit place : ℕ) (first : Entry) (later : List Entry) (after : Run D)
-      → IsHistory d g signer v verifier block (no_run disk name limit place) (first ∷ later) after → is_open first.answer ≡ true
+      (outset : Outset D) (first : Entry) (later : List Entry) (after : Run D)
+      → IsHistory on by (no_run outset) (first ∷ later) after → is_open first.answer ≡ true
       → IsKeyedGroup after.host.server.depth after.host.head.spi after.host.server.list
 
   -- Where keys are apart, each store is one of the group, whatever pushes came, in whatever order and how often.
   abbrev pub StoresAreOfTheGroup : Type 0
-  StoresAreOfTheGroup = (entries : List Entry) (after : Run D) → IsTrueHistory entries after → Checks g signer v verifier → AreApart after → AreStores after
+  StoresAreOfTheGroup =
+      (entries : List Entry) (after : Run D) → IsTrueHistory entries after → Checks on.signers by.signer on.verifiers on.verifier → AreApart after
+      → AreStores after
 
-  -- What a member is told is kept, if it has no store yet or one of the group, and it has all keys of the present epoch then (RFC 6407 section 3.2).
+  -- What a member is told is kept, if it has no store yet or one of the group.
   abbrev pub RepliesAreKept : Type 0
   RepliesAreKept =
-      (disk : D) (name : Name) (limit place : ℕ) (before : List Entry) (run : Run D) (m : Name) (answer : Answer) (outside : Outside) (next : Run D)
-      → IsHistory d g signer v verifier block (no_run disk name limit place) before run
-      → ((store : Store) → store_of run.members.all m ≡ Some store → IsOurs run m store)
-      → IsRunStep d g signer v verifier block before run (record { asked = Keep m; outside = outside; answer = answer }) next
-      → (answer ≡ Kept (length run.host.server.list)) × HasThen next m (HasKeysThen run (length run.host.server.list) m)
+      (outset : Outset D) (before : List Entry) (run : Run D) (m : Name) (answer : Answer) (outside : Outside) (next : Run D)
+      → IsHistory on by (no_run outset) before run → ((store : Store) → store_of run.members.all m ≡ Some store → IsOurs run m store)
+      → IsRunStep on by before run (record { asked = Keep m; outside = outside; answer = answer }) next
+      → TakesOrLoses (on.signers.kind_of by.signer) run m answer next
 
   -- a member with this store, which is one of the group, is given the last push of a number, of which one at least was sent
   pub record IsGivenPush (before : List Entry) (run : Run D) (m : Name) (store : Store) (number : ℕ) (answer : Answer) (next : Run D) : Type 0 where
@@ -105,12 +130,12 @@ module _ {D G V : Type 0} (d : DiskGhosts D) (g : SignerGhosts G) (signer : G) (
     pub ours : IsOurs run m store
     pub sent : IsSome (last_push before number)
     pub outside : Outside
-    pub step : IsRunStep d g signer v verifier block before run (record { asked = Deliver m number; outside = outside; answer = answer }) next
+    pub step : IsRunStep on by before run (record { asked = Deliver m number; outside = outside; answer = answer }) next
 
   -- It takes the membership push of the epoch after that of its root, if it stays over that epoch, and is at that root then, whatever it missed before.
   abbrev pub MembershipPushesAreTaken : Type 0
   MembershipPushesAreTaken =
-      (before : List Entry) (run : Run D) (m : Name) (store : Store) (answer : Answer) (next : Run D) → Checks g signer v verifier
+      (before : List Entry) (run : Run D) (m : Name) (store : Store) (answer : Answer) (next : Run D) → Checks on.signers by.signer on.verifiers on.verifier
       → IsGivenPush before run m store (number_at run (root_epoch store) + 1) answer next
       → is_member (holders_in run (root_epoch store + 1)) m ≡ true
       → (answer ≡ TookRoot (root_epoch store + 1))
@@ -119,7 +144,7 @@ module _ {D G V : Type 0} (d : DiskGhosts D) (g : SignerGhosts G) (signer : G) (
   -- It takes the traffic push of the epoch of its root, if its number is greater than the store's, and has all keys of that epoch then.
   abbrev pub TrafficPushesAreTaken : Type 0
   TrafficPushesAreTaken =
-      (before : List Entry) (run : Run D) (m : Name) (store : Store) (answer : Answer) (next : Run D) → Checks g signer v verifier
+      (before : List Entry) (run : Run D) (m : Name) (store : Store) (answer : Answer) (next : Run D) → Checks on.signers by.signer on.verifiers on.verifier
       → IsGivenPush before run m store (number_at run (root_epoch store)) answer next
       → stayed_at run.host.server.depth (batches_in run) (root_epoch store) ≡ true → store.sequence < number_at run (root_epoch store)
       → (answer ≡ TookTraffic (root_epoch store)) × HasThen next m (HasKeysThen run (root_epoch store) m)
@@ -127,8 +152,8 @@ module _ {D G V : Type 0} (d : DiskGhosts D) (g : SignerGhosts G) (signer : G) (
   -- Where keys are apart, it refuses any other push that was sent, for the reason that there is, and its store stays.
   abbrev pub OthersAreRefused : Type 0
   OthersAreRefused =
-      (before : List Entry) (run : Run D) (m : Name) (store : Store) (number : ℕ) (answer : Answer) (next : Run D) → Checks g signer v verifier
-      → AreApart run → IsGivenPush before run m store number answer next
+      (before : List Entry) (run : Run D) (m : Name) (store : Store) (number : ℕ) (answer : Answer) (next : Run D)
+      → Checks on.signers by.signer on.verifiers on.verifier → AreApart run → IsGivenPush before run m store number answer next
       → (number ≡ number_at run (root_epoch store) + 1 → is_member (holders_in run (root_epoch store + 1)) m ≡ false)
       → (IsTrafficPush run number (root_epoch store) → number ≤ store.sequence)
       → (why : PushRefusal) × (answer ≡ PushRefused why) × IsWhy run store number why × HasThen next m (λ (now : Store). now ≡ store)

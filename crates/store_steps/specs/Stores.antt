@@ -13,7 +13,7 @@ use Rattle.member_store.specs.Stores.{Store}
 
 -- a peer's store, if it has one, is one of the group
 abbrev pub IsPeerOf : ℕ → List ℕ → List Made → Peer → Type 0
-IsPeerOf depth spi list peer = IfSome peer.store (λ (store : Store). IsStoreOf depth spi list peer.name store)
+IsPeerOf depth spi list peer = IfSome peer.store (λ (store : Store). IsStoreOf depth spi list peer.phase.member store)
 
 -- each store of a run is one of its group
 abbrev pub AreStores : {D : Type 0} → Run D → Type 0

@@ -4,7 +4,7 @@ use Rattle.std.specs.Prelude.{◌≡◌, ◌≤◌, List, ◌∷◌, ◌++◌, m
 use Rattle.std.specs.Option.{option_to_list}
 use Rattle.command_words.specs.declared.commands.Command.{Command}
 use Rattle.command_words.specs.declared.arguments.Argument.{Argument}
-use Rattle.command_words.specs.declared.arguments.Argument.TheVariants.{Opens, Limit, Seed}
+use Rattle.command_words.specs.declared.arguments.Argument.TheVariants.{Opens, Limit, Seed, Workers}
 use Rattle.command_words.specs.declared.found.Found.{Found}
 use Rattle.command_words.specs.Commands.{HasDepth, command_from}
 
@@ -12,6 +12,7 @@ use Rattle.command_words.specs.Commands.{HasDepth, command_from}
 abbrev pub found_arguments : Found → List Argument
 found_arguments found =
     map Opens (option_to_list found.opening) ++ map Limit (option_to_list found.limit) ++ map Seed (option_to_list found.seed)
+    ++ map Workers (option_to_list found.workers)
 
 -- the command of what was found and of more arguments
 abbrev pub command_with : Found → List Argument → Option Command
@@ -30,8 +31,10 @@ abbrev pub IsAllowed : Argument → Type 0
 IsAllowed (Opens opening) = HasDepth opening
 IsAllowed (Limit limit) = 1 ≤ limit
 IsAllowed (Seed seed) = Unit {0}
+IsAllowed (Workers workers) = (1 ≤ workers) × (workers ≤ 16)
 
 -- what was found may be in a command
 pub record AreAllowed (found : Found) : Type 0 where
   pub depth : IfSome found.opening HasDepth
   pub limit : IfSome found.limit (λ limit. 1 ≤ limit)
+  pub workers : IfSome found.workers (λ workers. (1 ≤ workers) × (workers ≤ 16))

@@ -9,19 +9,21 @@ use Rattle.group_steps.specs.Runs.{Run}
 use Rattle.script_text.specs.declared.lines.Line.{Line as ScriptLine}
 use Rattle.run_report.specs.declared.stops.Stop.{Stop}
 use Rattle.run_report.specs.declared.stops.Stop.TheVariants.{Line}
-use Rattle.console_run.specs.Devices.{Devices, Keying, Steps}
-use Rattle.console_run.specs.Private.Runs.{Stands, Stops, begun_by_line}
+use Rattle.group_steps.specs.Devices.{Devices, Keying}
+use Rattle.group_steps.specs.Steps.{IsAnsweredAfter}
+use Rattle.member_steps.specs.Members.{Members}
+use Rattle.console_run.specs.Private.Runs.{Drawing, Stands, Stops, begun_by_line}
 
-module _ {D G V R : Type 0} (on : Devices D G V) (draws : DrawGhosts R) where
-  -- One entry was added, which answers a request. Whatever run it was before, that is a step from it, and it is the run after the step.
-  pub record Answers (request : Asked) (old new : View D G R) : Type 0 where
+module _ {D G V R : Type 0} (on : Devices D G V) (draws : DrawGhosts R) (peers : Drawing) where
+  -- One entry was added, which answers a request once the members are these. Whatever run it was before, that is an answer of it, and it is the run after that.
+  pub record Answers (acted : Members) (request : Asked) (old new : View D G R) : Type 0 where
     pub entry : Entry
     pub added : new.entries ≡ old.entries ++ entry ∷ []
     pub asked : entry.asked ≡ request
-    pub each : (by : Keying G) (run : Run D) → Stands on.disks draws by old run
-        → (next : Run D) × Steps on by old.entries run entry next × Stands on.disks draws by new next
+    pub each : (by : Keying G) (run : Run D) → Stands on.disks draws peers by old run
+        → (next : Run D) × IsAnsweredAfter on by acted old.entries run entry next × Stands on.disks draws peers by new next
 
   -- the run stopped in a line, which is one of the grammar
   pub record StopsIn (line : ScriptLine) (stop : Stop) (old new : View D G R) (was now : Shown) : Type 0 where
-    pub stops : Stops on.disks draws (begun_by_line on line) stop old new was now
+    pub stops : Stops on.disks draws peers (begun_by_line on line) stop old new was now
     pub known : stop ≡ Line → ⊥

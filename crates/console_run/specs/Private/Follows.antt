@@ -1,5 +1,5 @@
 -- A run and the source that it takes its script from.
-use Rattle.std.specs.Prelude.{◌≡◌, ◌⊎◌, ℕ, true, List}
+use Rattle.std.specs.Prelude.{◌≡◌, ◌⊎◌, ℕ, true, List, []}
 use Rattle.std.specs.Io.KnownBytes.{Consumes}
 use Rattle.gd_edges.specs.Shown.{Shown}
 use Rattle.gd_edges.specs.declared.draws.Draws.{Ghosts as DrawGhosts}
@@ -10,20 +10,20 @@ use Rattle.group_steps.specs.Runs.{Run}
 use Rattle.console_run.specs.declared.script_run.ScriptRun.{ScriptRun}
 use Rattle.run_report.specs.declared.stops.Stop.{Stop}
 use Rattle.run_report.specs.declared.endings.Ending.{Ending}
-use Rattle.console_run.specs.Devices.{Devices, Keying}
+use Rattle.group_steps.specs.Devices.{Devices, Keying}
 use Rattle.console_run.specs.Scripts.{are_octets}
 use Rattle.console_run.specs.Causes.{CameFrom, Given, SourceAt, TakesAll}
 use Rattle.console_run.specs.Lines.{Opens}
 use Rattle.console_run.specs.Promises.{IsEnded, IsBroken, streams_of}
-use Rattle.console_run.specs.Private.Runs.{Moment, GoesOn, IsReported, IsStoppedAt, SourceFails, Stands, Start, StopsWithin}
+use Rattle.console_run.specs.Private.Runs.{Drawing, Moment, GoesOn, IsReported, IsStoppedAt, SourceFails, Stands, Start, StopsWithin}
 
 -- a group and its sink at a moment, with what has come of the present line, after so many lines
-abbrev pub moment : {D G R : Type 0} → View D G R → List ℕ → ℕ → Shown → Moment D G R
-moment held line count out = record { held = held; line = line; count = count; out = out }
+abbrev pub moment : {D G R : Type 0} → View D G R → List ℕ → ℕ → Shown → Drawing → Moment D G R
+moment held line count out peers = record { held = held; peers = peers; line = line; count = count; out = out }
 
 -- that of a run of a script
-abbrev pub at : {D G R : Type 0} → ScriptRun D G R → Shown → Moment D G R
-at run out = moment run.group run.line.items run.count out
+abbrev pub at : {D G R : Type 0} → ScriptRun D G R → Shown → Drawing → Moment D G R
+at run out peers = moment run.group run.line.items run.count out peers
 
 module _ {D G V R : Type 0} (on : Devices D G V) (draws : DrawGhosts R) where
   -- all that the source had was taken, and the run went on by it
@@ -43,10 +43,13 @@ module _ {D G V R : Type 0} (on : Devices D G V) (draws : DrawGhosts R) where
     pub stops : StopsWithin on draws taken stop old new
 
   -- the group was opened as requested, and nothing else has happened
-  pub record IsOpened (start : Start D G) (held : View D G R) : Type 0 where
+  pub record IsOpened (peers : Drawing) (start : Start D G) (held : View D G R) : Type 0 where
     pub opened : Run D
     pub opens : Opens on start.by start.request start.run held.entries opened
-    pub stands : Stands on.disks draws start.by held opened
+    pub place : peers.place ≡ held.members.place
+    pub rest : held.members.mail ≡ []
+    pub no_rules : held.server.rules ≡ []
+    pub stands : Stands on.disks draws peers start.by held opened
 
   -- a script was run to the ending that is due, with what the source gave
   pub record IsRunTo (due : Ending) (start : Start D G) (had left : Shown) (now : Moment D G R) : Type 0 where

@@ -9,6 +9,7 @@ use Rattle.group_model.specs.declared.entries.Asked.{Asked}
 use Rattle.group_model.specs.declared.entries.Entry.{Entry}
 use Rattle.group_run.specs.Reflects.{Reflects}
 use Rattle.group_run.specs.Views.{View}
+use Rattle.server_steps.specs.Reflects.{IsServerOf}
 use Rattle.group_steps.specs.Runs.{Run}
 use Rattle.script_text.specs.Report.{entries_text}
 use Rattle.script_text.specs.declared.lines.Line.{Line as ScriptLine}
@@ -16,28 +17,47 @@ use Rattle.run_report.specs.declared.stops.Stop.{Stop}
 use Rattle.run_report.specs.declared.stops.Stop.TheVariants.{Line, Source as SourceStop, Sink as SinkStop, Memory as MemoryStop, Unreported}
 use Rattle.run_report.specs.declared.endings.Ending.{Ending}
 use Rattle.run_report.specs.declared.endings.Ending.TheVariants.{Whole, BadLine, Source, Sink, Memory}
-use Rattle.console_run.specs.Devices.{Devices, Keying}
+use Rattle.group_steps.specs.Devices.{Devices, Keying}
+use Rattle.console_run.specs.Names.{console_name}
 use Rattle.console_run.specs.Scripts.{EndsLine, are_octets, ends_line, longest_line, longest_piece, most_lines}
 use Rattle.console_run.specs.Lines.{BeginsToGive, Gives, IsRunOf, LineBegins, LineGives}
 use Rattle.console_run.specs.Causes.{CauseOf, Given, IsInParts}
 use Rattle.run_report.specs.Reports.{Puts, ReportBreaksOff}
 use Rattle.console_run.specs.Private.Cuts.{cut_of}
 
--- a group is that of a run, with this server
-pub record Stands {D G R : Type 0} (d : DiskGhosts D) (draws : DrawGhosts R) (by : Keying G) (held : View D G R) (run : Run D) : Type 0 where
+-- the draws of members: the place of the next block, and the blocks
+pub record Drawing : Type 0 where
+  pub place : ℕ
+  pub block : ℕ → List ℕ
+
+-- with these
+abbrev pub drawing : ℕ → (ℕ → List ℕ) → Drawing
+drawing place block = record { place = place; block = block }
+
+-- those of who draws
+abbrev pub drawn_by : {P : Type 0} → DrawGhosts P → P → Drawing
+drawn_by draws drawer = drawing (draws.place_of drawer) (draws.block_at drawer)
+
+-- a group is that of a run, with this server and these draws of its members
+pub record Stands {D G R : Type 0} (d : DiskGhosts D) (draws : DrawGhosts R) (peers : Drawing) (by : Keying G) (held : View D G R) (run : Run D)
+    : Type 0 where
   pub reflects : Reflects d draws held run
-  pub signer : held.core.signer ≡ by.signer
-  pub blocks : (k : ℕ) → draws.block_at held.core.draws k ≡ by.block k
+  pub signer : held.server.core.signer ≡ by.signer
+  pub blocks : (k : ℕ) → draws.block_at held.server.core.draws k ≡ by.block k
+  pub members_blocks : (k : ℕ) → peers.block k ≡ by.members_block k
+  pub group : by.group ≡ console_name
 
 -- entries that are given by a server, after those before them, which have made this run, and the run after them
 abbrev pub Giving : Type 0 → Type 0 → Type 1
 Giving D G = Keying G → List Entry → Run D → List Entry → Run D → Type 0
 
 -- entries were added as they are given, and reported; whatever run it was before, it is the run after them
-pub record Runs {D G R : Type 0} (d : DiskGhosts D) (draws : DrawGhosts R) (gives : Giving D G) (old new : View D G R) (was now : Shown) : Type 0 where
+pub record Runs {D G R : Type 0} (d : DiskGhosts D) (draws : DrawGhosts R) (peers : Drawing) (gives : Giving D G) (old new : View D G R) (was now : Shown) :
+    Type 0 where
   pub more : List Entry
   pub grown : new.entries ≡ old.entries ++ more
-  pub each : (by : Keying G) (run : Run D) → Stands d draws by old run → (after : Run D) × gives by old.entries run more after × Stands d draws by new after
+  pub each : (by : Keying G) (run : Run D) → Stands d draws peers by old run → (after : Run D) × gives by old.entries run more after
+      × Stands d draws peers by new after
   pub puts : Puts was now (entries_text more)
 
 -- how much was reported of the entries at which the run stopped
@@ -48,12 +68,14 @@ ReportsUntil SinkStop was now more = ReportBreaksOff Sink was now more
 ReportsUntil MemoryStop was now more = Puts was now (entries_text more)
 ReportsUntil Unreported was now more = ReportBreaksOff Memory was now more
 
--- entries were added as somebody begins to give them, and there the run stopped
-pub record Stops {D G R : Type 0} (d : DiskGhosts D) (draws : DrawGhosts R) (begins : Giving D G) (stop : Stop) (old new : View D G R) (was now : Shown)
+-- Entries were added as somebody begins to give them, and there the run stopped. Members may have done more by then, of which there is no entry.
+pub record Stops {D G R : Type 0} (d : DiskGhosts D) (draws : DrawGhosts R) (peers : Drawing) (begins : Giving D G) (stop : Stop) (old new : View D G R)
+    (was now : Shown)
     : Type 0 where
   pub more : List Entry
   pub grown : new.entries ≡ old.entries ++ more
-  pub each : (by : Keying G) (run : Run D) → Stands d draws by old run → (after : Run D) × begins by old.entries run more after × Stands d draws by new after
+  pub each : (by : Keying G) (run : Run D) → Stands d draws peers by old run → (after : Run D) × begins by old.entries run more after
+      × IsServerOf d draws new.server after.host
   pub reports : ReportsUntil stop was now more
 
 module _ {D G V : Type 0} (on : Devices D G V) where
@@ -78,15 +100,19 @@ pub record Start (D G : Type 0) : Type 0 where
   pub by : Keying G
   pub was : Shown
 
--- a run at some moment: its group, what has come of the present line, how many lines were run before it, and the sink
+-- a run at some moment: its group, the draws of its members, what has come of the present line, how many lines were run before it, and the sink
 pub record Moment (D G R : Type 0) : Type 0 where
   pub held : View D G R
+  pub peers : Drawing
   pub line : List ℕ
   pub count : ℕ
   pub out : Shown
 
--- the run is within its limits
+-- nothing is on its way, the members' draws are where the members say, there are no more rules than lines, and the run is within its limits
 pub record IsReady {D G R : Type 0} (at : Moment D G R) : Type 0 where
+  pub rest : at.held.members.mail ≡ []
+  pub place : at.peers.place ≡ at.held.members.place
+  pub rules : length at.held.server.rules ≤ at.count
   pub lines : at.count ≤ most_lines
   pub begun : 0 < length at.line → at.count < most_lines
   pub short : length at.line ≤ longest_line
@@ -115,7 +141,7 @@ module _ {D G V R : Type 0} (on : Devices D G V) (draws : DrawGhosts R) where
     pub counted : length (cut_of octets).lines ≡ at.count
     pub now : Run D
     pub run : IsRunOf on start.by start.request start.run (cut_of octets).lines at.held.entries now
-    pub stands : Stands on.disks draws start.by at.held now
+    pub stands : Stands on.disks draws at.peers start.by at.held now
     pub puts : Puts start.was at.out (entries_text at.held.entries)
     pub front : List ℕ
     pub parts : octets ≡ front ++ at.line
@@ -130,7 +156,7 @@ module _ {D G V R : Type 0} (on : Devices D G V) (draws : DrawGhosts R) where
   -- the history was reported up to what the opening or the line begun last gave, and there the report broke off
   pub record IsBrokenOff (ending : Ending) (given : Given) (start : Start D G) (at : Moment D G R) : Type 0 where
     pub after : Run D
-    pub stands : Stands on.disks draws start.by at.held after
+    pub server : IsServerOf on.disks draws at.held.server after.host
     pub history : IsInParts on start.by given start.request start.run at.held.entries after
     pub middle : Shown
     pub report : Puts start.was middle (entries_text history.done)
@@ -139,7 +165,7 @@ module _ {D G V R : Type 0} (on : Devices D G V) (draws : DrawGhosts R) where
   -- the ending that is due, with its cause, where the whole history was reported
   pub record IsReported (due : Ending) (given : Given) (start : Start D G) (at : Moment D G R) : Type 0 where
     pub after : Run D
-    pub stands : Stands on.disks draws start.by at.held after
+    pub server : IsServerOf on.disks draws at.held.server after.host
     pub cause : CauseOf on start.by given start.request start.run due at.held.entries after
     pub report : Puts start.was at.out (entries_text at.held.entries)
 

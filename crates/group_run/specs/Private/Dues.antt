@@ -19,8 +19,8 @@ module _ (holders : Holders) (peers : List Peer) where
   pub record IsWaiting (place : ℕ) (m : Name) (last : ℕ) : Type 0 where
     pub peer : Peer
     pub is_there : slice_get peers place ≡ Some peer
-    pub named : m ≡ peer.name
-    pub member : is_member holders peer.name ≡ true
+    pub named : m ≡ peer.phase.member
+    pub member : is_member holders peer.phase.member ≡ true
     pub store : Store
     pub has : peer.store ≡ Some store
     pub accepted : last ≡ store.sequence

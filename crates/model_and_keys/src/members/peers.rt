@@ -1,11 +1,13 @@
 //! The peers of a run, one of which is told its keys.
+ghost use Rattle.std.specs.Prelude.{IsTrue, OnSome};
+ghost use Rattle.group_peers.specs.Peers.{is_peer};
 ghost use Rattle.member_store.specs.Stores.{IsReply};
 
 use crate::draws::named;
 use crate::members::known::reply;
 use gd_edges::TestVerifier;
 use group_peers::{Peers, who_is_noted_is_a_peer};
-use group_terms::{Keyed, MemberName};
+use group_terms::{Keyed, MemberName, Phase1};
 use member_store::{Older, Room};
 use std::alloc::Global;
 
@@ -72,19 +74,32 @@ fn is_answered(peers: &mut Peers, member: &MemberName, room: &mut Room) -> bool 
         .is_some()
 }
 
-fn note(peers: &mut Peers, member: &MemberName) -> Option<()> {
-    peers.reserve(1).ok()?;
-    peers.note(member);
-    Some(())
+/// Notes a member, unless it is there.
+fn note(peers: &mut Peers, member: &MemberName) -> Option<()>
+    ensures { OnSome result (IsTrue (is_peer peers.new.items member.now)) }
+{
+    who_is_noted_is_a_peer();
+    match peers.phase(member) {
+        Some(_) => Some(()),
+        None => {
+            peers.reserve(1).ok()?;
+            peers.note(Phase1 {
+                member: *member,
+                cookies: [0; 16],
+                skeyid_a: [0; 32],
+                key: [0; 16],
+                last: [0; 16],
+            });
+            Some(())
+        }
+    }
 }
 
 /// Notes a member and tells it its keys.
 fn tell(peers: &mut Peers, member: &MemberName, keyed: Keyed) -> Option<Result<(), Older>>
     requires { IsReply keyed }
 {
-    peers.reserve(1).ok()?;
-    peers.note(member);
-    who_is_noted_is_a_peer();
+    note(peers, member)?;
     Some(peers.keep(member, keyed))
 }
 

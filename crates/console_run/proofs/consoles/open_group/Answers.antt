@@ -3,40 +3,46 @@ use Rattle.std.specs.Prelude.{IfErr, IfOk}
 use Rattle.command_words.specs.declared.commands.Opening.{Opening}
 use Rattle.command_words.specs.declared.commands.Opening.TheVariants.{Open}
 use Rattle.group_run.specs.Openings.{FailsToOpen, Opens}
-use Rattle.group_steps.specs.Runs.{no_run}
-use Rattle.console_run.specs.Devices.{keying}
-use Rattle.console_run.specs.Promises.{console_name, request_of, start_of}
+use Rattle.group_steps.specs.Runs.{no_run, outset_of}
+use Rattle.console_run.specs.Promises.{most_phases, request_of, start_of}
+use Rattle.console_run.specs.Names.{console_name}
 use Rattle.console_run.specs.Private.Openings.{step_of}
 use Rattle.console_run.proofs.OpenedLemmas.{fails_for, opens_for}
 use Rattle.console_run.proofs.consoles.open_group.Goals as goal
 
 pub returns-in-New-clause-err : goal.returns-in-New-clause-err
 returns-in-New-clause-err g c =
-    let by = keying c.args.parts.signer (g.R.Draws.block_at c.args.parts.draws) in
-    subst (λ (opening : Opening). IfErr c.create.result (λ unopened. FailsToOpen g.D.Disk (step_of g.D.Disk g.G.Signer by opening) (request_of opening)
-    (start_of c.args.command c.args.parts.disk (g.R.Draws.place_of c.args.parts.draws)) unopened.history unopened.parts.disk)) (sym c.in-New.is)
+    subst (λ (opening : Opening). IfErr c.create.result (λ unopened. FailsToOpen g.D.Disk
+    (step_of g.D.Disk g.G.Signer c.args.parts.signer (g.R.Draws.block_at c.args.parts.draws) opening) (request_of opening)
+    (start_of c.args.command c.args.parts.disk (g.R.Draws.place_of c.args.parts.draws) c.args.members_place) unopened.history unopened.parts.disk))
+    (sym c.in-New.is)
     (rw (← c.console_name.ensures) c.create.ensures.err)
 
 pub returns-in-Open-clause-err : goal.returns-in-Open-clause-err
 returns-in-Open-clause-err g c =
-    let by = keying c.args.parts.signer (g.R.Draws.block_at c.args.parts.draws) in
-    subst (λ (opening : Opening). IfErr c.open.result (λ unopened. FailsToOpen g.D.Disk (step_of g.D.Disk g.G.Signer by opening) (request_of opening)
-    (start_of c.args.command c.args.parts.disk (g.R.Draws.place_of c.args.parts.draws)) unopened.history unopened.parts.disk)) (sym c.in-Open.is)
-    (fails_for (λ unopened name limit. FailsToOpen g.D.Disk (step_of g.D.Disk g.G.Signer by Open) (request_of Open)
-    (no_run c.args.parts.disk name limit (g.R.Draws.place_of c.args.parts.draws)) unopened.history unopened.parts.disk)
+    subst (λ (opening : Opening). IfErr c.open.result (λ unopened. FailsToOpen g.D.Disk
+    (step_of g.D.Disk g.G.Signer c.args.parts.signer (g.R.Draws.block_at c.args.parts.draws) opening) (request_of opening)
+    (start_of c.args.command c.args.parts.disk (g.R.Draws.place_of c.args.parts.draws) c.args.members_place) unopened.history unopened.parts.disk))
+    (sym c.in-Open.is)
+    (fails_for (λ unopened name limit. FailsToOpen g.D.Disk (step_of g.D.Disk g.G.Signer c.args.parts.signer (g.R.Draws.block_at c.args.parts.draws) Open)
+    (request_of Open)
+    (no_run (outset_of c.args.parts.disk name limit (g.R.Draws.place_of c.args.parts.draws) c.args.members_place most_phases)) unopened.history
+    unopened.parts.disk)
     c.open.result console_name c.args.command.limit c.open.ensures.err)
 
 pub returns-in-New-clause-ok : goal.returns-in-New-clause-ok
 returns-in-New-clause-ok g c =
-    let by = keying c.args.parts.signer (g.R.Draws.block_at c.args.parts.draws) in
-    subst (λ (opening : Opening). IfOk c.create.result (Opens g.D.Disk g.R.Draws (step_of g.D.Disk g.G.Signer by opening) (request_of opening)
-    (start_of c.args.command c.args.parts.disk (g.R.Draws.place_of c.args.parts.draws)))) (sym c.in-New.is)
+    subst (λ (opening : Opening). IfOk c.create.result (Opens g.D.Disk g.R.Draws
+    (step_of g.D.Disk g.G.Signer c.args.parts.signer (g.R.Draws.block_at c.args.parts.draws) opening) (request_of opening)
+    (start_of c.args.command c.args.parts.disk (g.R.Draws.place_of c.args.parts.draws) c.args.members_place))) (sym c.in-New.is)
     (rw (← c.console_name.ensures) c.create.ensures.ok)
 
 pub returns-in-Open-clause-ok : goal.returns-in-Open-clause-ok
 returns-in-Open-clause-ok g c =
-    let by = keying c.args.parts.signer (g.R.Draws.block_at c.args.parts.draws) in
-    subst (λ (opening : Opening). IfOk c.open.result (Opens g.D.Disk g.R.Draws (step_of g.D.Disk g.G.Signer by opening) (request_of opening)
-    (start_of c.args.command c.args.parts.disk (g.R.Draws.place_of c.args.parts.draws)))) (sym c.in-Open.is)
-    (opens_for (λ name limit. Opens g.D.Disk g.R.Draws (step_of g.D.Disk g.G.Signer by Open) (request_of Open)
-    (no_run c.args.parts.disk name limit (g.R.Draws.place_of c.args.parts.draws))) c.open.result console_name c.args.command.limit c.open.ensures.ok)
+    subst (λ (opening : Opening). IfOk c.open.result (Opens g.D.Disk g.R.Draws
+    (step_of g.D.Disk g.G.Signer c.args.parts.signer (g.R.Draws.block_at c.args.parts.draws) opening) (request_of opening)
+    (start_of c.args.command c.args.parts.disk (g.R.Draws.place_of c.args.parts.draws) c.args.members_place))) (sym c.in-Open.is)
+    (opens_for (λ name limit. Opens g.D.Disk g.R.Draws (step_of g.D.Disk g.G.Signer c.args.parts.signer (g.R.Draws.block_at c.args.parts.draws) Open)
+    (request_of Open)
+    (no_run (outset_of c.args.parts.disk name limit (g.R.Draws.place_of c.args.parts.draws) c.args.members_place most_phases))) c.open.result console_name
+    c.args.command.limit c.open.ensures.ok)

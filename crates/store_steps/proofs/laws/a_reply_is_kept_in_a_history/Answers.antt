@@ -1,34 +1,39 @@
-use Rattle.std.proofs.Common.{◌∙◌, ap, arith, length}
-use Rattle.group_model.specs.declared.entries.Answer.TheVariants.{Kept}
-use Rattle.member_store.specs.Stores.{store_of as store_made}
-use Rattle.store_steps.proofs.FrontLemmas.{member_now}
-use Rattle.store_steps.proofs.OpenedLemmas.{keyed_with}
-use Rattle.store_steps.proofs.ReplyLemmas.{keeps, keyed_now, root_early, told_first}
+use Rattle.group_steps.specs.Devices.{devices}
+use Rattle.store_steps.proofs.ActLemmas.{stay}
+use Rattle.store_steps.proofs.MailLemmas.{tells}
+use Rattle.store_steps.proofs.OpenedLemmas.{keyed_told}
+use Rattle.store_steps.proofs.ReplyLemmas.{takes_or_loses}
 use Rattle.store_steps.proofs.laws.a_reply_is_kept_in_a_history.Goals as goal
 
 pub returns : goal.returns
-returns g c signer verifier block disk name limit place before run m answer outside next history ours step =
+returns g c verifier by outset before run m answer outside next history ours step =
+    let on = devices g.D.Disk g.G.Signer g.V.Verifier verifier in
     let depth = run.host.server.depth in
     let spi = run.host.head.spi in
     let list = run.host.server.list in
-    let epoch = length list in
-    let keeping = step.answered.acted in
-    let keyed = keeping.keyed in
-    let now = c.replies_are_of_the_present_epoch.ensures signer verifier block disk name limit place before run history in
-    let told = told_first run m keyed keeping.later now keeping.is_first in
-    let keys = keyed_now depth spi list m keyed told.keys in
-    let group =
-    keyed_with g.D.Disk g.G.Signer signer g.V.Verifier verifier block (c.an_opened_group_has_keys.ensures signer verifier block) disk name limit place
-    before run history m keeping.granted in
-    let kept =
-    keeps m run.members answer next.members keeping
-    (λ store had.
-    let is = ours store had in
-    c.a_later_reply_is_not_older.ensures depth epoch spi list m keyed store is (omega arith) (root_early depth spi list m store is.root) keys) in (
-      kept.0 ∙ ap Kept told.keys.epoch,
+    let have = c.an_opened_group_has_keys.ensures verifier by in
+    let fits = c.a_pull_always_fits.ensures in
+    let takes = c.a_pull_takes_messages_as_they_were_written.ensures in
+    takes_or_loses (g.G.Signer.kind_of by.signer) run step.acted (stay by.members_block by.group run.members step.acted step.acts) m answer next
+    (λ fourth.
+    let told =
+    tells
+    (record {
+      pulls = record { begun = fits.begun; second = fits.second; fourth = fits.fourth };
+      as_written = takes.fourth;
+      no_second = takes.second_as_fourth;
+      reply = c.a_reply_is_at_its_root.ensures;
+      written = c.a_reply_can_be_written.ensures;
+    })
+    on by have (c.mail_is_of_the_group.ensures.mail verifier by) outset before run step.acted m answer next.members history step.acts fourth in
+    let is = told.1 in
+    let group = keyed_told on by have outset before run history (m, fourth.datagram) told.0 in (
+      told.0,
       (
-        store_made keyed,
-        kept.1,
-        (c.a_reply_is_at_its_root.ensures depth epoch spi list m keyed group (omega arith) (member_now depth list list m told.member) keys).1,
+        is,
+        (c.a_reply_is_at_its_root.ensures depth is.says.keyed_epoch spi list m fourth.keyed group is.early is.member is.keys).1,
+        λ store had later.
+            c.a_later_reply_is_not_older.ensures depth is.says.keyed_epoch spi list m fourth.keyed store (ours store had) is.early later is.keys,
       ),
-    )
+    ))
+    step.answered.answered.acted

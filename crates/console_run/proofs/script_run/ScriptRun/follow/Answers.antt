@@ -2,7 +2,8 @@ use Rattle.std.proofs.Common.{Err, ap, ◌∙◌}
 use Rattle.std.proofs.lemmas.Result.{on_ok_weaker}
 use Rattle.run_report.specs.declared.stops.Stop.TheVariants.{Memory}
 use Rattle.console_run.specs.Private.Follows.{at}
-use Rattle.console_run.specs.Devices.{devices}
+use Rattle.console_run.specs.Private.Runs.{drawn_by}
+use Rattle.group_steps.specs.Devices.{devices}
 use Rattle.run_report.proofs.ErrorLemmas.{at_error, if_error}
 use Rattle.console_run.proofs.FollowLemmas.{run_whole, run_stopped_at_opening, run_out_of_memory, run_stopped, run_stopped_at_end}
 use Rattle.console_run.proofs.StopLemmas.{SourceFails-other}
@@ -16,7 +17,7 @@ returns-in_err-report_last-clause-stops g c =
     if_error _ _ _ c.from_residual.ensures.1
     (λ start same opened.
     run_stopped_at_opening on g.R.Draws start was.group was.line.items was.count (seen c.args.out.now)
-    (seen c.report_last.new.out) same opened c.requires.line c.requires.count
+    (seen c.report_last.new.out) (drawn_by g.P.Draws c.args.peers.now) same opened c.requires.line c.requires.count
     (g.S.Source.shows c.args.script.now) c.in_err-report_last.field-0.0 c.in_err-report_last.ensures.breaks)
 
 pub returns-in_err-buffer-clause-stops : goal.returns-in_err-buffer-clause-stops
@@ -27,7 +28,7 @@ returns-in_err-buffer-clause-stops g c =
     if_error _ _ Memory c.from_residual-in_err-buffer.ensures.1
     (λ start same opened.
     run_out_of_memory on g.R.Draws start was.group was.line.items was.count (seen c.args.out.now)
-    (seen c.report_last.new.out) same opened c.requires.line c.requires.count c.in_ok-report_last.ensures.ok
+    (seen c.report_last.new.out) (drawn_by g.P.Draws c.args.peers.now) same opened c.requires.line c.requires.count c.in_ok-report_last.ensures.ok
     (g.S.Source.shows c.args.script.now))
 
 pub returns-in_err-take_script-clause-stops : goal.returns-in_err-take_script-clause-stops
@@ -39,9 +40,9 @@ returns-in_err-take_script-clause-stops g c =
     if_error _ _ _ c.from_residual-in_err-take_script.ensures.1
     (λ start same opened.
     run_stopped on g.R.Draws start was.group was.line.items was.count (seen c.args.out.now)
-    (seen c.report_last.new.out) same opened c.requires.line c.requires.count c.in_ok-report_last.ensures.ok
+    (seen c.report_last.new.out) (drawn_by g.P.Draws c.args.peers.now) same opened c.requires.line c.requires.count c.in_ok-report_last.ensures.ok
     (left c.args.script.now) (left c.take_script.new.script) c.in_err-take_script.field-0.0
-    (at c.take_script.new.self (seen c.take_script.new.out)) c.in_err-take_script.ensures.stops)
+    (at c.take_script.new.self (seen c.take_script.new.out) (drawn_by g.P.Draws c.take_script.new.peers)) c.in_err-take_script.ensures.stops)
 
 pub returns-clause-stops : goal.returns-clause-stops
 returns-clause-stops g c =
@@ -52,9 +53,10 @@ returns-clause-stops g c =
     at_error _ _ c.finish.result
     (λ stop failed stops start same opened.
     run_stopped_at_end on g.R.Draws start was.group was.line.items was.count (seen c.args.out.now)
-    (seen c.report_last.new.out) same opened c.requires.line c.requires.count c.in_ok-report_last.ensures.ok
-    (left c.args.script.now) (left c.take_script.new.script) (at c.take_script.new.self (seen c.take_script.new.out)) c.in_ok-take_script.ensures.goes stop
-    (at c.finish.new.self (seen c.finish.new.out))
+    (seen c.report_last.new.out) (drawn_by g.P.Draws c.args.peers.now) same opened c.requires.line c.requires.count c.in_ok-report_last.ensures.ok
+    (left c.args.script.now) (left c.take_script.new.script) (at c.take_script.new.self (seen c.take_script.new.out)
+    (drawn_by g.P.Draws c.take_script.new.peers)) c.in_ok-take_script.ensures.goes stop
+    (at c.finish.new.self (seen c.finish.new.out) (drawn_by g.P.Draws c.finish.new.peers))
     (SourceFails-other stop _ _ (λ source. c.finish.ensures.other (failed ∙ ap Err source)) c.in_ok-take_script.ensures.goes.stands) stops)
     c.finish.ensures.stops
 
@@ -67,7 +69,8 @@ returns-clause-ok g c =
     on_ok_weaker c.finish.result
     (λ ends start same opened.
     run_whole on g.R.Draws start was.group was.line.items was.count (seen c.args.out.now)
-    (seen c.report_last.new.out) same opened c.requires.line c.requires.count c.in_ok-report_last.ensures.ok
-    (left c.args.script.now) (left c.take_script.new.script) (at c.take_script.new.self (seen c.take_script.new.out)) c.in_ok-take_script.ensures.goes
-    (at c.finish.new.self (seen c.finish.new.out)) ends)
+    (seen c.report_last.new.out) (drawn_by g.P.Draws c.args.peers.now) same opened c.requires.line c.requires.count c.in_ok-report_last.ensures.ok
+    (left c.args.script.now) (left c.take_script.new.script) (at c.take_script.new.self (seen c.take_script.new.out)
+    (drawn_by g.P.Draws c.take_script.new.peers)) c.in_ok-take_script.ensures.goes
+    (at c.finish.new.self (seen c.finish.new.out) (drawn_by g.P.Draws c.finish.new.peers)) ends)
     c.finish.ensures.ends

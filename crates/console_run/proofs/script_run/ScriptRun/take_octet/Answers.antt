@@ -1,6 +1,6 @@
 use Rattle.std.proofs.Common.{◌≡◌, ◌<◌, ◌∷◌, Err, length, inl, inr, subst, sym, ap, ◌∙◌, refl, arith, rules}
-use Rattle.console_run.specs.Devices.{devices}
-use Rattle.console_run.specs.Private.Runs.{Stops, begun_by_text}
+use Rattle.group_steps.specs.Devices.{devices}
+use Rattle.console_run.specs.Private.Runs.{Stops, begun_by_text, drawn_by}
 use Rattle.console_run.specs.Scripts.{is_line}
 use Rattle.run_report.proofs.ErrorLemmas.{if_error}
 use Rattle.console_run.proofs.SoFarLemmas.{GoesOn-ended, GoesOn-kept}
@@ -12,7 +12,8 @@ returns-then-self-eq-MOST_LINES-clause-stops g c = λ later few small start befo
     let on = devices g.D.Disk g.G.Signer g.V.Verifier c.args.verifier.now in
     let was = c.args.self.now in
     let ready = c.requires.ready in
-    stopped_at_line on g.R.Draws start before (c.args.octet ∷ later) _ was.group was.line.items was.count (g.K.Sink.shows c.args.out.now) so ready.short
+    stopped_at_line on g.R.Draws start before (c.args.octet ∷ later) _ was.group was.line.items was.count (g.K.Sink.shows c.args.out.now)
+    (drawn_by g.P.Draws c.args.peers.now) so ready.short
     (omega (arith, few)) ready.begun
     (inl (omega (arith, c.if-self-eq-MOST_LINES.true), omega arith))
 
@@ -27,11 +28,13 @@ returns-in_err-run_line-clause-stops g c =
     let room : was.count < 16384 = omega (arith, ready.lines, c.if-self-eq-MOST_LINES.false) in
     if_error _ _ _ c.from_residual.ensures.1
     (λ later few small start before so.
-    stopped_in_line on g.R.Draws start before (c.args.octet ∷ later) _ was.group was.line.items was.count (seen c.args.out.now) so ready.short
+    stopped_in_line on g.R.Draws start before (c.args.octet ∷ later) _ was.group was.line.items was.count (seen c.args.out.now)
+    (drawn_by g.P.Draws c.args.peers.now) so ready.short
     (omega (arith, few)) ready.begun stop c.run_line.new.group (seen c.run_line.new.out)
-    (inl (later, ap (λ octet. octet ∷ later) c.if-octet-eq10.true)) room
+    (drawn_by g.P.Draws c.run_line.new.peers) (inl (later, ap (λ octet. octet ∷ later) c.if-octet-eq10.true)) room
     (λ line. ap is_line (sym text) ∙ c.run_line.ensures.faulty (c.in_err-run_line.was ∙ ap Err line))
-    (subst (λ text. Stops g.D.Disk g.R.Draws (begun_by_text on text) stop was.group c.run_line.new.group (seen c.args.out.now) (seen c.run_line.new.out)) text
+    (subst (λ text. Stops g.D.Disk g.R.Draws (drawn_by g.P.Draws c.args.peers.now) (begun_by_text on text) stop was.group c.run_line.new.group
+    (seen c.args.out.now) (seen c.run_line.new.out)) text
     c.in_err-run_line.ensures.stops))
 
 pub returns-then-octet-eq10-clause-goes : goal.returns-then-octet-eq10-clause-goes
@@ -40,7 +43,8 @@ returns-then-octet-eq10-clause-goes g c =
     let was = c.args.self.now in
     GoesOn-ended on g.R.Draws was.group c.run_line.new.group was.line.items c.as_slice.result.now c.clear.new.self.items was.count c.args.octet
     (g.K.Sink.shows c.args.out.now) (g.K.Sink.shows c.run_line.new.out)
-    c.if-octet-eq10.true c.as_slice.ensures.value c.clear.ensures
+    (drawn_by g.P.Draws c.args.peers.now) (drawn_by g.P.Draws c.run_line.new.peers) c.run_line.ensures.blocks c.if-octet-eq10.true c.as_slice.ensures.value
+    c.clear.ensures
     (omega (arith, c.requires.ready.lines, c.if-self-eq-MOST_LINES.false)) c.in_ok-run_line.ensures.ok
 
 pub returns-then-is_full-clause-stops : goal.returns-then-is_full-clause-stops
@@ -49,7 +53,8 @@ returns-then-is_full-clause-stops g c = λ later few small start before so.
     let was = c.args.self.now in
     let ready = c.requires.ready in
     let full : length was.line.items ≡ 200 = search rules in
-    stopped_at_line on g.R.Draws start before (c.args.octet ∷ later) _ was.group was.line.items was.count (g.K.Sink.shows c.args.out.now) so ready.short
+    stopped_at_line on g.R.Draws start before (c.args.octet ∷ later) _ was.group was.line.items was.count (g.K.Sink.shows c.args.out.now)
+    (drawn_by g.P.Draws c.args.peers.now) so ready.short
     (omega (arith, few)) ready.begun
     (inr (inl (full, (c.args.octet, later, refl, c.if-octet-eq10.false))))
 
@@ -58,4 +63,4 @@ returns-clause-goes g c =
     let on = devices g.D.Disk g.G.Signer g.V.Verifier c.args.verifier.now in
     let was = c.args.self.now in
     GoesOn-kept on g.R.Draws was.group was.line.items c.push.new.self.items was.count c.args.octet (g.K.Sink.shows c.args.out.now)
-    (search rules) c.if-octet-eq10.false (search rules)
+    (drawn_by g.P.Draws c.args.peers.now) (search rules) c.if-octet-eq10.false (search rules)

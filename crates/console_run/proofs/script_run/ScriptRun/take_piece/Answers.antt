@@ -1,8 +1,8 @@
 use Rattle.std.proofs.Common.{◌∷◌, [], take, get_or, sym, subst, arith}
 use Rattle.std.proofs.lemmas.List.{take_all, take_more}
 use Rattle.console_run.specs.Private.Follows.{at}
-use Rattle.console_run.specs.Devices.{devices}
-use Rattle.console_run.specs.Private.Runs.{GoesOn}
+use Rattle.group_steps.specs.Devices.{devices}
+use Rattle.console_run.specs.Private.Runs.{drawn_by, GoesOn}
 use Rattle.console_run.proofs.CutLemmas.{small_octets}
 use Rattle.run_report.proofs.ErrorLemmas.{if_error}
 use Rattle.console_run.proofs.SoFarLemmas.{GoesOn-none, GoesOn-then}
@@ -14,7 +14,7 @@ loop-octet-init g c =
     let on = devices g.D.Disk g.G.Signer g.V.Verifier c.args.verifier.now in
     record {
       ready = c.requires.ready;
-      goes = GoesOn-none on g.R.Draws (at c.args.self.now (g.K.Sink.shows c.args.out.now));
+      goes = GoesOn-none on g.R.Draws (at c.args.self.now (g.K.Sink.shows c.args.out.now) (drawn_by g.P.Draws c.args.peers.now));
       nearer = omega arith;
     }
 
@@ -24,9 +24,9 @@ loop-octet-preserved g c =
     let seen = g.K.Sink.shows in
     let piece = c.args.piece.now in
     let place = c.loop-octet.octet-index in
-    let was = at c.args.self.now (seen c.args.out.now) in
-    let now = at c.loop-octet.self (seen c.loop-octet.out) in
-    let new = at c.take_octet.new.self (seen c.take_octet.new.out) in
+    let was = at c.args.self.now (seen c.args.out.now) (drawn_by g.P.Draws c.args.peers.now) in
+    let now = at c.loop-octet.self (seen c.loop-octet.out) (drawn_by g.P.Draws c.loop-octet.peers) in
+    let new = at c.take_octet.new.self (seen c.take_octet.new.out) (drawn_by g.P.Draws c.take_octet.new.peers) in
     record {
       ready = c.in_ok-take_octet.ensures.ready;
       goes = subst (λ octets. GoesOn on g.R.Draws octets was new) (sym (take_more piece place 0 c.loop-octet-test.true))
@@ -39,8 +39,10 @@ returns-in_err-take_octet-clause-stops g c =
     let on = devices g.D.Disk g.G.Signer g.V.Verifier c.args.verifier.now in
     let seen = g.K.Sink.shows in
     if_error _ _ _ c.from_residual.ensures.1
-    (StopsWithin-piece on g.R.Draws c.args.piece.now c.loop-octet.octet-index c.in_err-take_octet.field-0.0 (at c.args.self.now (seen c.args.out.now))
-    (at c.loop-octet.self (seen c.loop-octet.out)) (at c.take_octet.new.self (seen c.take_octet.new.out))
+    (StopsWithin-piece on g.R.Draws c.args.piece.now c.loop-octet.octet-index c.in_err-take_octet.field-0.0
+    (at c.args.self.now (seen c.args.out.now) (drawn_by g.P.Draws c.args.peers.now))
+    (at c.loop-octet.self (seen c.loop-octet.out) (drawn_by g.P.Draws c.loop-octet.peers))
+    (at c.take_octet.new.self (seen c.take_octet.new.out) (drawn_by g.P.Draws c.take_octet.new.peers))
     (small_octets c.args.piece.now c.type_inv.piece) c.requires.short c.loop-octet-test.true c.loop-octet.invariant.goes c.in_err-take_octet.ensures.stops)
 
 pub returns-clause-octets : goal.returns-clause-octets
@@ -53,5 +55,6 @@ pub returns-clause-goes : goal.returns-clause-goes
 returns-clause-goes g c =
     let on = devices g.D.Disk g.G.Signer g.V.Verifier c.args.verifier.now in
     let seen = g.K.Sink.shows in
-    subst (λ octets. GoesOn on g.R.Draws octets (at c.args.self.now (seen c.args.out.now)) (at c.loop-octet.self (seen c.loop-octet.out)))
+    subst (λ octets. GoesOn on g.R.Draws octets (at c.args.self.now (seen c.args.out.now) (drawn_by g.P.Draws c.args.peers.now))
+    (at c.loop-octet.self (seen c.loop-octet.out) (drawn_by g.P.Draws c.loop-octet.peers)))
     (take_all c.loop-octet.octet-index c.args.piece.now c.loop-octet-test.false) c.loop-octet.invariant.goes

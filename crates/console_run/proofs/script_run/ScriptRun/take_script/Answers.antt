@@ -7,7 +7,8 @@ use Rattle.std.proofs.KnownBytes.{Consumes-nil, Consumes-trans, Consumes-kept}
 use Rattle.group_terms.specs.Faults.{Rose}
 use Rattle.console_run.specs.Scripts.{are_octets}
 use Rattle.console_run.specs.Private.Follows.{at}
-use Rattle.console_run.specs.Devices.{devices}
+use Rattle.console_run.specs.Private.Runs.{drawn_by}
+use Rattle.group_steps.specs.Devices.{devices}
 use Rattle.run_report.proofs.ErrorLemmas.{if_error}
 use Rattle.console_run.proofs.SoFarLemmas.{GoesOn-none, GoesOn-then}
 use Rattle.console_run.proofs.StopLemmas.{StopsWithin-lost, StopsWithin-then, SourceFails-other}
@@ -27,7 +28,7 @@ pieces-init g c =
         [],
         Consumes-nil (g.S.Source.shows c.args.script.now).octets,
         refl,
-        GoesOn-none on g.R.Draws (at c.args.self.now (g.K.Sink.shows c.args.out.now)),
+        GoesOn-none on g.R.Draws (at c.args.self.now (g.K.Sink.shows c.args.out.now) (drawn_by g.P.Draws c.args.peers.now)),
       );
     }
 
@@ -48,8 +49,9 @@ pieces-preserved g c =
         before.0 ++ piece,
         Consumes-trans (left c.args.script.now).octets (left c.pieces.script).octets (left c.take.new.self).octets before.0 piece before.1 moved,
         both_small before.0 piece before.2 c.in_ok-take_piece.ensures.octets,
-        GoesOn-then on g.R.Draws before.0 piece (at c.args.self.now (seen c.args.out.now)) (at c.pieces.self (seen c.pieces.out))
-            (at c.take_piece.new.self (seen c.take_piece.new.out)) before.3 c.in_ok-take_piece.ensures.goes,
+        GoesOn-then on g.R.Draws before.0 piece (at c.args.self.now (seen c.args.out.now) (drawn_by g.P.Draws c.args.peers.now))
+            (at c.pieces.self (seen c.pieces.out) (drawn_by g.P.Draws c.pieces.peers))
+            (at c.take_piece.new.self (seen c.take_piece.new.out) (drawn_by g.P.Draws c.take_piece.new.peers)) before.3 c.in_ok-take_piece.ensures.goes,
       );
     }
 
@@ -66,8 +68,8 @@ returns-in-Err-clause-stops g c =
           (left c.take.new.self).octets before.0 before.1 c.in-Err.ensures.failed;
       small = before.2;
       source = subst (λ faults. Rose faults (left c.take.new.self).faults) c.pieces.invariant.stands c.in-Err.ensures.cause;
-      stops = StopsWithin-lost on g.R.Draws before.0 (at c.args.self.now (seen c.args.out.now))
-          (at c.pieces.self (seen c.pieces.out)) before.3 ready.short ready.begun;
+      stops = StopsWithin-lost on g.R.Draws before.0 (at c.args.self.now (seen c.args.out.now) (drawn_by g.P.Draws c.args.peers.now))
+          (at c.pieces.self (seen c.pieces.out) (drawn_by g.P.Draws c.pieces.peers)) before.3 ready.short ready.begun;
     }
 
 pub returns-in_err-take_piece-clause-stops : goal.returns-in_err-take_piece-clause-stops
@@ -87,6 +89,7 @@ returns-in_err-take_piece-clause-stops g c =
       small = both_small before.0 piece before.2 c.in_err-take_piece.ensures.octets;
       source = SourceFails-other stop _ _ (λ source. c.take_piece.ensures.other (c.in_err-take_piece.was ∙ ap Err source))
           (c.in-Ok.ensures.stands ∙ c.pieces.invariant.stands);
-      stops = StopsWithin-then on g.R.Draws before.0 piece stop (at c.args.self.now (seen c.args.out.now)) (at c.pieces.self (seen c.pieces.out))
-          (at c.take_piece.new.self (seen c.take_piece.new.out)) before.3 c.in_err-take_piece.ensures.stops;
+      stops = StopsWithin-then on g.R.Draws before.0 piece stop (at c.args.self.now (seen c.args.out.now) (drawn_by g.P.Draws c.args.peers.now))
+          (at c.pieces.self (seen c.pieces.out) (drawn_by g.P.Draws c.pieces.peers))
+          (at c.take_piece.new.self (seen c.take_piece.new.out) (drawn_by g.P.Draws c.take_piece.new.peers)) before.3 c.in_err-take_piece.ensures.stops;
     })

@@ -2,19 +2,19 @@ use Rattle.std.proofs.Common.{◌≡◌, true, ℕ, List}
 use Rattle.std.specs.Io.KnownBytes.{Consumes}
 use Rattle.console_run.specs.Scripts.{are_octets}
 use Rattle.console_run.specs.Private.Follows.{at}
-use Rattle.console_run.specs.Devices.{devices}
-use Rattle.console_run.specs.Private.Runs.{IsReady, GoesOn, room_left}
+use Rattle.group_steps.specs.Devices.{devices}
+use Rattle.console_run.specs.Private.Runs.{drawn_by, GoesOn, IsReady, room_left}
 use Rattle.console_run.proofs.script_run.ScriptRun.take_script.Given as goal
 
 -- what was taken so far was run
 abbrev pub invariant-pieces : goal.invariant-pieces
 invariant-pieces g l = record {
-  ready : IsReady (at l.self (g.K.Sink.shows l.out));
+  ready : IsReady (at l.self (g.K.Sink.shows l.out) (drawn_by g.P.Draws l.peers));
   stands : (g.S.Source.shows l.script).faults ≡ (g.S.Source.shows l.fn.script).faults;
   goes : (taken : List ℕ) × Consumes (g.S.Source.shows l.fn.script).octets (g.S.Source.shows l.script).octets taken × (are_octets taken ≡ true)
-      × GoesOn (devices g.D.Disk g.G.Signer g.V.Verifier l.verifier) g.R.Draws taken (at l.fn.self (g.K.Sink.shows l.fn.out))
-      (at l.self (g.K.Sink.shows l.out));
+      × GoesOn (devices g.D.Disk g.G.Signer g.V.Verifier l.verifier) g.R.Draws taken (at l.fn.self (g.K.Sink.shows l.fn.out) (drawn_by g.P.Draws l.fn.peers))
+      (at l.self (g.K.Sink.shows l.out) (drawn_by g.P.Draws l.peers));
 }
 
 abbrev pub decreases-pieces : goal.decreases-pieces
-decreases-pieces g l = room_left (at l.self (g.K.Sink.shows l.out))
+decreases-pieces g l = room_left (at l.self (g.K.Sink.shows l.out) (drawn_by g.P.Draws l.peers))

@@ -1,18 +1,19 @@
-use Rattle.std.proofs.Common.{◌≡◌, ◌∙◌, ap, subst, sym, Some, refl}
+use Rattle.std.proofs.Common.{◌≡◌, ◌∙◌, ap, subst, sym, Some, refl, get_or}
 use Rattle.std.specs.List.{position}
 use Rattle.group_terms.specs.Logs.{Recorded}
 use Rattle.group_peers.specs.declared.members.Peer.{Peer}
 use Rattle.group_peers.specs.Peers.{is_named}
-use Rattle.group_peers.specs.Private.Places.{store_at}
+use Rattle.group_peers.specs.Private.Places.{no_peer, store_at}
 use Rattle.group_peers.specs.Steps.{IsGiven, IsLeft}
-use Rattle.group_peers.proofs.PeerLemmas.{no_store}
-use Rattle.group_peers.proofs.StepLemmas.{gives_named, invariant_stays, left_named, left_nobody}
+use Rattle.group_peers.proofs.StepLemmas.{gives_named, invariant_stays, left_named, left_nobody, no_store}
 use Rattle.group_peers.proofs.peers.Peers.accept.Goals as goal
 
 pub invariant_of-self : goal.invariant_of-self
 invariant_of-self g c =
     let at = c.give_at.ensures.step in
-    invariant_stays c.self.inside.list.items c.give_at.new.peers.items c.in-Some.place at.kept c.self.inside.index at.is c.self.invariant
+    let was = c.self.inside.list.items in
+    let place = c.in-Some.place in
+    invariant_stays was c.give_at.new.peers.items place (record (get_or was place no_peer) { store = at.kept }) c.self.inside.index at.is refl c.self.invariant
 
 pub returns-in-Some-clause-step : goal.returns-in-Some-clause-step
 returns-in-Some-clause-step g c =

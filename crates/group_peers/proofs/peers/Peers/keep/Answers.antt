@@ -1,8 +1,9 @@
-use Rattle.std.proofs.Common.{◌≡◌, ◌∙◌, ap, subst, sym, Some}
+use Rattle.std.proofs.Common.{◌≡◌, ◌∙◌, ap, subst, sym, Some, refl, get_or}
 use Rattle.std.specs.List.{position}
 use Rattle.group_terms.specs.Logs.{Recorded}
 use Rattle.group_peers.specs.declared.members.Peer.{Peer}
 use Rattle.group_peers.specs.Peers.{is_named}
+use Rattle.group_peers.specs.Private.Places.{no_peer}
 use Rattle.group_peers.specs.Steps.{Keeps}
 use Rattle.group_peers.proofs.StepLemmas.{invariant_stays, keeps_named, some_place}
 use Rattle.group_peers.proofs.peers.Peers.keep.Goals as goal
@@ -13,7 +14,10 @@ unwrap-place-requires c = some_place c.args.self.now.items c.args.member.now c.p
 pub invariant_of-self : goal.invariant_of-self
 invariant_of-self c =
     let at = c.keep_at.ensures.keeps in
-    invariant_stays c.self.inside.list.items c.keep_at.new.peers.items c.unwrap-place.result (Some at.store) c.self.inside.index at.is c.self.invariant
+    let was = c.self.inside.list.items in
+    let place = c.unwrap-place.result in
+    invariant_stays was c.keep_at.new.peers.items place (record (get_or was place no_peer) { store = Some at.store }) c.self.inside.index at.is refl
+    c.self.invariant
 
 pub returns-clause-keeps : goal.returns-clause-keeps
 returns-clause-keeps c =

@@ -11,29 +11,29 @@ returns-in-Some g c =
     let last = c.in-Some.last in
     let view = c.args.self.now in
     let found = c.first_due.result in
-    subst (λ at. MatchOption found (NoneIsDue view.core.tree.holders view.members.all view.entries at)
-    (IsFirstDue view.core.tree.holders view.members.all view.entries at))
+    subst (λ at. MatchOption found (NoneIsDue view.server.core.tree.holders view.members.all view.entries at)
+    (IsFirstDue view.server.core.tree.holders view.members.all view.entries at))
     (sym c.in-Some.is)
     (subst (λ (view : View g.row.D.Denot g.row.G.Denot g.row.R.Denot).
-    MatchOption found (NoneIsDue view.core.tree.holders view.members.all view.entries (Some last))
-    (IsFirstDue view.core.tree.holders view.members.all view.entries (Some last)))
+    MatchOption found (NoneIsDue view.server.core.tree.holders view.members.all view.entries (Some last))
+    (IsFirstDue view.server.core.tree.holders view.members.all view.entries (Some last)))
     c.self.view_is
-    (next_later run.core.tree.holders run.members.members.all run.pushes.items run.entries.items c.self.invariant.noted c.self.invariant.sent_before last found
-    (subst (λ peers. MatchOption found (NoneIsFrom run.core.tree.holders peers run.pushes.items last.place last.number)
-    (IsFirstFrom run.core.tree.holders peers run.pushes.items last.place last.number)) c.all.ensures c.first_due.ensures)))
+    (next_later run.server.core.tree.holders run.members.all run.pushes.items run.entries.items c.self.invariant.noted c.self.invariant.sent_before last found
+    (subst (λ peers. MatchOption found (NoneIsFrom run.server.core.tree.holders peers run.pushes.items last.place last.number)
+    (IsFirstFrom run.server.core.tree.holders peers run.pushes.items last.place last.number)) c.all.ensures c.first_due.ensures)))
 
 pub returns-in-None : goal.returns-in-None
 returns-in-None g c =
     let run = c.self.inside in
     let view = c.args.self.now in
     let found = c.first_due-in-None.result in
-    subst (λ at. MatchOption found (NoneIsDue view.core.tree.holders view.members.all view.entries at)
-    (IsFirstDue view.core.tree.holders view.members.all view.entries at))
+    subst (λ at. MatchOption found (NoneIsDue view.server.core.tree.holders view.members.all view.entries at)
+    (IsFirstDue view.server.core.tree.holders view.members.all view.entries at))
     (sym c.in-None.is)
     (subst (λ (view : View g.row.D.Denot g.row.G.Denot g.row.R.Denot).
-    MatchOption found (NoneIsDue view.core.tree.holders view.members.all view.entries None)
-    (IsFirstDue view.core.tree.holders view.members.all view.entries None))
+    MatchOption found (NoneIsDue view.server.core.tree.holders view.members.all view.entries None)
+    (IsFirstDue view.server.core.tree.holders view.members.all view.entries None))
     c.self.view_is
-    (next_of_all run.core.tree.holders run.members.members.all run.pushes.items run.entries.items c.self.invariant.noted c.self.invariant.sent_before found
-    (subst (λ peers. MatchOption found (NoneIsFrom run.core.tree.holders peers run.pushes.items 0 0)
-    (IsFirstFrom run.core.tree.holders peers run.pushes.items 0 0)) c.all-in-None.ensures c.first_due-in-None.ensures)))
+    (next_of_all run.server.core.tree.holders run.members.all run.pushes.items run.entries.items c.self.invariant.noted c.self.invariant.sent_before found
+    (subst (λ peers. MatchOption found (NoneIsFrom run.server.core.tree.holders peers run.pushes.items 0 0)
+    (IsFirstFrom run.server.core.tree.holders peers run.pushes.items 0 0)) c.all-in-None.ensures c.first_due-in-None.ensures)))

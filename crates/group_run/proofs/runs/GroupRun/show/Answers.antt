@@ -1,17 +1,29 @@
 use Rattle.std.proofs.Common.{refl}
 use Rattle.group_model.specs.declared.entries.Asked.TheVariants.{Show}
 use Rattle.group_run.proofs.AddLemmas.{added}
-use Rattle.group_run.proofs.KeptLemmas.{kept_silent}
-use Rattle.group_run.proofs.MoveLemmas.{serves}
+use Rattle.group_run.proofs.KeptLemmas.{kept_silent, same_peers}
+use Rattle.group_run.proofs.MailLemmas.{mail_still, members_still}
+use Rattle.group_run.proofs.MoveLemmas.{mail_stays, rules_as, serves}
+use Rattle.group_run.proofs.ServedLemmas.{silent_show}
 use Rattle.group_run.proofs.runs.GroupRun.show.Goals as goal
 
 pub invariant_of-self-2 : goal.invariant_of-self-2
 invariant_of-self-2 g c =
-    kept_silent c.what_is_known_stays_known.ensures
-    (added c.in_ok-reserve.ensures.items c.draws_at-place.ensures c.entry.ensures c.add.ensures.items)
-    c.self.invariant.granted c.in_ok-answer.ensures.silent c.self.invariant
+    let kept = c.self.invariant in
+    let done = c.in_ok-answer.ensures in
+    kept_silent g.D.Disk g.R.Draws g.G.Signer c.what_is_known_stays_known.ensures
+    (added c.in_ok-reserve.ensures.items c.draws_at-place.ensures c.entry.ensures c.add.ensures.items) done
+    (same_peers c.self.inside.members.all) tt (silent_show (done.each kept.host kept.is_on).1.answered) kept
 
 pub returns-clause-ok : goal.returns-clause-ok
 returns-clause-ok g c =
-    serves g.D.Disk g.G.Signer g.R.Draws Show c.in_ok-answer.answer c.self.view_is
-    (added c.in_ok-reserve.ensures.items c.draws_at-place.ensures c.entry.ensures c.add.ensures.items) c.in_ok-answer.ensures.serves (λ next. refl)
+    let run = c.self.inside in
+    let is = added c.in_ok-reserve.ensures.items c.draws_at-place.ensures c.entry.ensures c.add.ensures.items in
+    serves g.D.Disk g.G.Signer g.R.Draws Show c.in_ok-answer.answer c.self.view_is is c.in_ok-answer.ensures
+    (members_still run.unread c.self.invariant.mail.within is run.members (record { none = refl }))
+
+pub returns-clause-stays : goal.returns-clause-stays
+returns-clause-stays g c =
+    let run = c.self.inside in
+    let is = added c.in_ok-reserve.ensures.items c.draws_at-place.ensures c.entry.ensures c.add.ensures.items in
+    mail_stays c.self.view_is (rules_as c.self.view_is) refl (mail_still run.unread c.self.invariant.mail.within is (record { none = refl }))

@@ -3,7 +3,7 @@ use Rattle.pull_sessions.specs.Fits.{AllFit}
 use Rattle.pull_sessions.specs.Sessions.{AreApart}
 use Rattle.server_steps.specs.Openings.{IsHead}
 use Rattle.server_steps.specs.Views.{View}
-use Rattle.group_server.specs.Invariants.{JoinsHaveSessions}
+use Rattle.server_steps.specs.Joining.{JoinsHaveSessions}
 use Rattle.group_server.proofs.servers.GroupServer.prove_sound.Goals as goal
 
 pub returns-clause-joins : goal.returns-clause-joins

@@ -1,0 +1,53 @@
+-- What is known of the datagrams that are on their way to members (RFC 6407 section 3.2).
+use Rattle.std.specs.Prelude.{◌≡◌, ℕ, List, All, Option, Some}
+use Rattle.group_terms.specs.Names.{Name}
+use Rattle.group_terms.specs.declared.signatures.SignKind.{SignKind}
+use Rattle.group_model.specs.declared.entries.Answer.TheVariants.{Batched, Datagram}
+use Rattle.group_model.specs.declared.entries.Asked.TheVariants.{Batch, Serve}
+use Rattle.group_model.specs.declared.entries.Entry.{Entry}
+use Rattle.group_model.specs.declared.entries.Output.{Output}
+use Rattle.group_model.specs.declared.entries.Outside.{Outside}
+use Rattle.group_model.specs.declared.entries.SentReply.{SentReply}
+use Rattle.group_model.specs.declared.entries.SymReply.{SymReply}
+use Rattle.group_peers.specs.Peers.{peer_of}
+use Rattle.group_peers.specs.declared.members.Peer.{Peer}
+use Rattle.server_steps.specs.Hosts.{Host}
+use Rattle.server_steps.specs.Messages.{IsMessageOf}
+use Rattle.member_steps.specs.Members.{Mail}
+use Rattle.group_steps.specs.Devices.{Devices, Keying}
+use Rattle.group_steps.specs.Runs.{Outset, Run, no_run}
+use Rattle.group_steps.specs.Steps.{IsHistory, IsRunStep}
+
+module _ {D : Type 0} (kind : SignKind) where
+  -- octets are a message of the group to a member: a second one, or a fourth one with the keys that the member had at an epoch
+  pub record IsSentTo (host : Host D) (peers : List Peer) (m : Name) (octets : List ℕ) (names : Option SymReply) : Type 0 where
+    pub peer : Peer
+    pub is_there : peer_of peers m ≡ Some peer
+    pub message : IsMessageOf kind 0 host peer.phase octets names
+
+  -- each datagram on its way is one to whom it goes
+  abbrev pub AreMessages : Run D → Type 0
+  AreMessages run = All (λ (mail : Mail). (names : Option SymReply) × IsSentTo run.host run.members.all mail.0 mail.1 names) run.members.mail
+
+-- So it is after each history, whatever its openings found.
+abbrev pub MailIsOfTheGroup : {D G V : Type 0} → Devices D G V → Keying G → Type 0
+MailIsOfTheGroup {D} on by =
+    (outset : Outset D) (entries : List Entry) (after : Run D)
+    → IsHistory on by (no_run outset) entries after → AreMessages (on.signers.kind_of by.signer) after
+
+-- And a datagram of a member is answered by a message to it, if by any.
+abbrev pub MembersAreAnswered : {D G V : Type 0} → Devices D G V → Keying G → Type 0
+MembersAreAnswered {D} on by =
+    (outset : Outset D) (before : List Entry) (run : Run D) (m : Name) (datagram octets : List ℕ)
+    (names : Option SymReply) (outside : Outside) (next : Run D) → IsHistory on by (no_run outset) before run
+    → IsRunStep on by before run (record { asked = Serve m datagram; outside = outside; answer = Datagram octets names }) next
+    → IsSentTo (on.signers.kind_of by.signer) next.host next.members.all m octets names
+
+-- And each reply of a batch is a fourth message to its member.
+abbrev pub RepliesAreMessages : {D G V : Type 0} → Devices D G V → Keying G → Type 0
+RepliesAreMessages {D} on by =
+    (outset : Outset D) (before : List Entry) (run : Run D) (output : Output) (outside : Outside) (next : Run D)
+    → IsHistory on by (no_run outset) before run
+    → IsRunStep on by before run (record { asked = Batch; outside = outside; answer = Batched output }) next
+    → All (λ (reply : SentReply). IsSentTo (on.signers.kind_of by.signer) next.host next.members.all reply.says.member reply.datagram (Some reply.says))
+    output.replies
