@@ -4,13 +4,12 @@
     bench/gate.py [--room FOLDER] [CRATE ..]
     bench/gate.py --read FOLDER
 
-It clones the commit that is checked out, gives the clone a copy of the kit that has kept nothing, and runs `rt ci` there; with names of
-crates it runs `rt ci` for these and those below them. Each call of the prover and compiler is timed on its way. It prints the table for
+It clones the commit that is checked out, and runs `rt ci` there with a copy of the kit; with names of crates the clone has these alone, and
+those below them. Each call of the prover and compiler is timed on its way. It prints the table for
 docs/PROOFS.md, and then whoever is above the budget. Its status is that of the gate.
 
 It takes what the gate takes from nothing, in one lane for each processor that it may use: `taskset -c 0,1` before it measures two. With
-`--room` the copy of the kit, what it kept and the times stay in that folder: a run that failed goes on there with what has changed, its times
-are added to those of the crates before, and `--read` prints its table again. No other gate uses what is kept there.
+`--room` the copy of the kit and the times stay in that folder, the times of a later run are added to them, and `--read` prints the table again.
 """
 import argparse
 import collections
@@ -45,7 +44,7 @@ EDITS, EDIT, LARGE_EDIT, LARGE, WITHOUT_EDITS = 4, 8, 12, 60, 100
 
 
 def timed_kit(room, log):
-    """Makes a kit in which each call is timed, and beside which nothing is kept, and returns where its `rt` is."""
+    """Makes a kit in which each call is timed, and returns where its `rt` is."""
     real = os.path.dirname(os.path.dirname(os.path.realpath(shutil.which("rt"))))
     kit = f"{room}/kit"
     if os.path.isdir(kit):
@@ -66,13 +65,32 @@ def timed_kit(room, log):
     return f"{kit}/bin/rt"
 
 
+def keep_alone(names, clone):
+    """Takes all crates out of a clone but these and those below them."""
+    with open(f"{clone}/crates.txt") as file:
+        lines = {it.split(":")[0].split()[0]: it for it in file if ":" in it and not it.startswith("#")}
+    left, kept = [*names], set()
+    while left:
+        name = left.pop()
+        if name in lines and name not in kept:
+            kept.add(name)
+            left += lines[name].split(":")[1].split()
+    with open(f"{clone}/crates.txt", "w") as file:
+        file.writelines(lines[it] for it in lines if it in kept)
+    for name in os.listdir(f"{clone}/crates"):
+        if name not in kept:
+            shutil.rmtree(f"{clone}/crates/{name}")
+
+
 def run_gate(names, room):
     """Runs the gate in a clone and adds a last line to the log: the whole time, and the status."""
     log = f"{room}/calls.log"
     shutil.rmtree(f"{room}/clone", ignore_errors=True)
     subprocess.run(["git", "clone", "--quiet", HERE, f"{room}/clone"], check=True)
+    if names:
+        keep_alone(names, f"{room}/clone")
     rt, begun = timed_kit(room, log), time.time()
-    ran = subprocess.run([rt, "ci", *names], cwd=f"{room}/clone", stdin=subprocess.DEVNULL)
+    ran = subprocess.run([rt, "ci"], cwd=f"{room}/clone", stdin=subprocess.DEVNULL)
     used = resource.getrusage(resource.RUSAGE_CHILDREN)
     with open(log, "a") as file:
         file.write(json.dumps(["all", used.ru_utime + used.ru_stime, begun, time.time(), ran.returncode]) + "\n")
