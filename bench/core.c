@@ -165,12 +165,15 @@ static uint8_t *put(uint8_t *at, const void *octets, size_t size)
     return at + size;
 }
 
-/* The draws: words of the key stream of ChaCha20 under a key of zeros, each with the high octet first. */
-static struct {
+/* Draws: words of the key stream of ChaCha20, each with the high octet first. Its key has zeros, and then the number of a stream. */
+struct draws {
     uint64_t blocks;
     unsigned used;
-    uint8_t octets[64];
-} draws;
+    uint8_t stream, octets[64];
+};
+
+/* those of the server */
+static struct draws draws;
 
 static uint32_t turned(uint32_t word, int by)
 {
@@ -185,11 +188,12 @@ static void quarter(uint32_t *a, uint32_t *b, uint32_t *c, uint32_t *d)
     *c += *d, *b = turned(*b ^ *c, 7);
 }
 
-static void next_block(void)
+static void next_block(struct draws *from)
 {
     uint32_t first[16] = {0x61707865, 0x3320646e, 0x79622d32, 0x6b206574}, x[16];
-    first[12] = draws.blocks;
-    first[13] = draws.blocks >> 32;
+    first[11] = (uint32_t)from->stream << 24;
+    first[12] = from->blocks;
+    first[13] = from->blocks >> 32;
     memcpy(x, first, sizeof x);
     for (int i = 0; i < 10; i++) {
         quarter(x, x + 4, x + 8, x + 12);
@@ -202,23 +206,29 @@ static void next_block(void)
         quarter(x + 3, x + 4, x + 9, x + 14);
     }
     for (int i = 0; i < 16; i++)
-        put4(draws.octets + 4 * i, x[i] + first[i]);
-    draws.blocks++;
-    draws.used = 0;
+        put4(from->octets + 4 * i, x[i] + first[i]);
+    from->blocks++;
+    from->used = 0;
 }
 
-static void start_draws(void)
+static void start_draws(struct draws *from, uint8_t stream)
 {
-    draws.blocks = 0;
-    next_block();
+    from->blocks = 0;
+    from->stream = stream;
+    next_block(from);
+}
+
+static void draw_from(struct draws *from, uint8_t *octets)
+{
+    if (from->used == sizeof from->octets)
+        next_block(from);
+    memcpy(octets, from->octets + from->used, 16);
+    from->used += 16;
 }
 
 static void draw(uint8_t *octets)
 {
-    if (draws.used == sizeof draws.octets)
-        next_block();
-    memcpy(octets, draws.octets + draws.used, 16);
-    draws.used += 16;
+    draw_from(&draws, octets);
 }
 
 /* Writes octets at a place, and waits until all is on the device. */
@@ -647,7 +657,7 @@ static void do_work(const char *path, unsigned depth, const char *kind, unsigned
     struct change change[CHANGES];
     struct work work = work_of(kind, 1u << depth);
     memset(&tally, 0, sizeof tally);
-    start_draws();
+    start_draws(&draws, 0);
     start_journal(path);
     start_group(depth);
     for (unsigned long number = 0; number < count; number++) {

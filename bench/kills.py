@@ -1,10 +1,10 @@
 """Kills the console at random moments, and opens its group again.
 
-    python3 bench/kills.py PROGRAM [RUNS]
+    python3 bench/kills.py PROGRAM [KILLS]
 
-Each run makes a group in a folder of its own, lets members in and out, and closes a batch after each change. It is killed by a signal at a random moment. Then the
-group is opened from the journal that is left: each batch whose report line came whole before the kill has to be there. A kill before the group was made may leave a file
-that is no journal.
+Each run makes a group in a folder of its own, lets members in by pulls and out, and closes a batch after each change. It is killed by a signal at a random moment.
+Then the group is opened from the journal that is left: each batch whose report line came whole before the kill has to be there. A kill before the group was made may
+leave a file that is no journal.
 """
 import os
 import random
@@ -24,7 +24,7 @@ def script(seed):
     """Changes of members, each with a batch after it."""
     rng = random.Random(seed)
     inside = set()
-    lines = []
+    lines = ["allow *"]
     for _ in range(ROUNDS):
         member = f"m{rng.randrange(MEMBERS)}"
         lines.append(f"{'leave' if member in inside else 'join'} {member}")
@@ -73,14 +73,15 @@ def opened(program, folder, seed):
 
 def main():
     program = os.path.abspath(sys.argv[1])
-    runs = int(sys.argv[2]) if len(sys.argv) > 2 else 200
+    kills = int(sys.argv[2]) if len(sys.argv) > 2 else 200
     with tempfile.TemporaryDirectory() as folder:
         begun = time.monotonic()
         subprocess.run([program, "--new", "4"], cwd=folder, input=script(0).encode(), stdout=subprocess.PIPE)
         whole = time.monotonic() - begun
     rng = random.Random(2627)
-    killed_runs = more = unmade = lost = 0
-    for seed in range(1, runs + 1):
+    seed = killed_runs = more = unmade = lost = 0
+    while killed_runs < kills:
+        seed += 1
         with tempfile.TemporaryDirectory() as folder:
             reported, was_killed = killed(program, folder, seed, rng.uniform(0, whole))
             killed_runs += was_killed
@@ -94,7 +95,7 @@ def main():
                 print(f"run {seed}: reported epoch {told}, then: {line}")
             else:
                 more += int(found.group(1)) > told
-    print(f"{runs} runs, {killed_runs} killed, {lost} lost a batch that was reported; {more} had one more than was reported, {unmade} were killed before the group was made")
+    print(f"{seed} runs, {killed_runs} killed, {lost} lost a batch that was reported; {more} had one more than was reported, {unmade} were killed before the group was made")
     sys.exit(lost > 0)
 
 

@@ -2,11 +2,11 @@
 
     python3 bench/power.py PROGRAM [RUNS [IMAGES]]
 
-Each run makes a group in a folder of its own, or in one that has an older journal, lets members in and out, and closes batches; `strace` notes its system calls. At moments
-between these calls, most of them with something that is not synced, the journal is made as a loss of power may leave it then: of what was written since the last sync each
-piece is missing, whole, torn, filled with ones or zeros, or has octets by chance; a cut is missing, whole or in part; and as long as the folder was not synced the file may
-be missing. The program opens each image. All that it had reported by that moment has to be there, members and the octets of the last pushes among it, and at most one batch
-more; where no group was reported as made, there is none, or the new one without a batch, or what is left of the older one. RUNS is 200, and IMAGES, of each run, 100. It
+Each run makes a group in a folder of its own, or in one that has an older journal, lets members in by pulls and out, and closes batches; `strace` notes its system calls. At
+moments between these calls, most of them with something that is not synced, the journal is made as a loss of power may leave it then: of what was written since the last sync
+each piece is missing, whole, torn, filled with ones or zeros, or has octets by chance; a cut is missing, whole or in part; and as long as the folder was not synced the file
+may be missing. The program opens each image. All that it had reported by that moment has to be there, members and the octets of the last pushes among it, and at most one
+batch more; where no group was reported as made, there is none, or the new one without a batch, or what is left of the older one. RUNS is 200, and IMAGES, of each run, 100. It
 needs `strace`.
 """
 import os
@@ -25,7 +25,7 @@ LINE = re.compile(r"(?:\d+ +)?(\w+)\((.*)\) += (-?\d+)")
 
 def script(rng):
     """Changes of members, and batches of one to three of them."""
-    inside, lines = set(), []
+    inside, lines = set(), ["allow *"]
     for _ in range(BATCHES):
         for member in rng.sample(range(MEMBERS), rng.randint(1, 3)):
             lines.append(f"{'leave' if member in inside else 'join'} m{member}")
@@ -167,7 +167,7 @@ def older_journal(program, rng, folder):
     """A journal that an earlier run left in the folder, in half of all runs."""
     if rng.random() < 0.5:
         return b""
-    subprocess.run([program, "--new", "2", "--seed", "9"], cwd=folder, input=b"join x\nbatch\njoin y\nbatch\n", stdout=subprocess.DEVNULL, check=True)
+    subprocess.run([program, "--new", "2", "--seed", "9"], cwd=folder, input=b"allow *\njoin x\nbatch\njoin y\nbatch\n", stdout=subprocess.DEVNULL, check=True)
     with open(f"{folder}/{JOURNAL}", "rb") as file:
         return file.read()
 

@@ -16,15 +16,20 @@ import tempfile
 
 NAMES = [*"abcdefgh", "m_1", "x_2", "abcdefghijklmnop"]
 # A request, and how often it is drawn.
-LINES = [("join", 30), ("leave", 14), ("batch", 22), ("deliver", 12), ("deliver-all", 6), ("key", 5), ("derive", 6), ("halt", 2), ("reopen", 3), ("show", 4), ("faulty", 1)]
-FAULTY = ["join", "join A", "join x-2", "batch now", "deliver a", "deliver a x", "derive 1", "", "leave a b", "join " + "a" * 300]
+LINES = [("join", 30), ("leave", 14), ("batch", 22), ("deliver", 12), ("deliver-all", 6), ("key", 5), ("derive", 6), ("halt", 2), ("reopen", 3), ("show", 4),
+         ("allow", 3), ("deny", 2), ("again", 8), ("lose", 5), ("faulty", 1)]
+PATTERNS = ["*", "a*", "x_*", "m_1*", *NAMES]
+FAULTY = ["join", "join A", "join x-2", "batch now", "deliver a", "deliver a x", "derive 1", "", "leave a b", "join " + "a" * 300, "allow", "allow a*b", "deny **",
+          "deny A", "again", "again a*", "lose a b"]
 
 
 def line(draw):
     word = draw.choices([it for it, _ in LINES], [n for _, n in LINES])[0]
     name = draw.choice(NAMES)
-    if word in ("join", "leave", "key"):
+    if word in ("join", "leave", "key", "again", "lose"):
         return f"{word} {name}"
+    if word in ("allow", "deny"):
+        return f"{word} {draw.choice(PATTERNS)}"
     if word == "deliver":
         return f"deliver {name} {draw.randrange(0, 12)}"
     if word == "derive":
@@ -33,7 +38,7 @@ def line(draw):
 
 
 def script(draw):
-    lines = [line(draw) for _ in range(draw.randrange(0, 40))]
+    lines = ["allow *"] * (draw.random() < 0.85) + [line(draw) for _ in range(draw.randrange(0, 50))]
     return "".join(f"{it}\n" for it in lines) + draw.choice(["", "", "", "batch"])
 
 

@@ -25,7 +25,7 @@ def main():
     with tempfile.TemporaryDirectory() as folder:
         journal = f"{folder}/group.journal"
         first = subprocess.Popen([program, "--new", "3"], cwd=folder, stdin=subprocess.PIPE, stdout=subprocess.PIPE, text=True)
-        asked(first, "join a\nbatch\n", "epoch 1 ")
+        asked(first, "allow *\njoin a\nbatch\n", "epoch 1 ")
         with open(journal, "rb") as file:
             before = file.read()
         rights = os.stat(journal).st_mode & 0o777
