@@ -5,6 +5,7 @@ mod DueLemmas
 mod EndingLemmas
 mod FaultyLineLemmas
 mod FollowLemmas
+mod FourthLemmas
 mod HistoryLemmas
 mod JoinLemmas
 mod LineLemmas

@@ -13,9 +13,8 @@ use Rattle.group_model.specs.Answers.{any_ran_out, ran_out}
 use Rattle.group_model.specs.declared.entries.Asked.{Asked}
 use Rattle.group_model.specs.declared.entries.Asked.TheVariants as requests
 use Rattle.group_model.specs.declared.entries.Entry.{Entry}
-use Rattle.group_run.specs.Pulls.{IsNotAsked}
 use Rattle.group_run.specs.Reads.{Ask, AsksAt, AsksBy as ReadsBy, AsksOf, ReadsMail}
-use Rattle.group_run.specs.Tells.{AllIsRead, KeepsNext, SendsNext}
+use Rattle.group_run.specs.Tells.{AllIsRead, HasReadSome, KeepsNext, SendsNext}
 use Rattle.group_run.specs.Views.{View}
 use Rattle.group_steps.specs.Devices.{Devices, Keying}
 use Rattle.group_steps.specs.Runs.{Run}
@@ -274,7 +273,7 @@ module _ {D G V R : Type 0} (on : Devices D G V) (draws : DrawGhosts R) (peers :
 
   module _ (old middle new : View D G R) (was seen now : Shown) (reading : IsReading old middle was seen) where
     -- there was no memory to read on
-    pub unread : IsNotAsked middle new → Stops on.disks draws peers (begun_by_mail on) Memory old new was seen
+    pub unread : HasReadSome middle new → Stops on.disks draws peers (begun_by_mail on) Memory old new was seen
     unread none = record {
       more = reading.more;
       grown = none.entries ∙ reading.grown;

@@ -2,6 +2,7 @@ pub mod Causes
 pub mod Following
 pub mod Lines
 pub mod Names
+pub mod OwnFourths
 pub mod Private
 pub mod Promises
 pub mod Scripts

@@ -17,7 +17,6 @@ use Rattle.group_model.specs.declared.entries.Asked.TheVariants.{Batch, Begin, C
 use Rattle.group_model.specs.declared.entries.Entry.{Entry}
 use Rattle.group_model.specs.declared.entries.Output.{Output}
 use Rattle.group_model.specs.declared.entries.Outside.{Outside}
-use Rattle.group_model.specs.declared.entries.SentReply.{SentReply}
 use Rattle.group_model.specs.declared.entries.SymReply.{SymReply}
 use Rattle.group_records.specs.declared.heads.Head.{Head}
 use Rattle.gcks_core.specs.Stored.{stored_list}
@@ -27,7 +26,7 @@ use Rattle.group_steps.specs.Crashes.{LeavesMoments}
 use Rattle.group_steps.specs.Devices.{Devices, Keying}
 use Rattle.group_steps.specs.Laws.{IsSure}
 use Rattle.group_steps.specs.Moments.{IsMoment, IsTrueMoment}
-use Rattle.group_steps.specs.Mails.{AreMessages, IsSentTo}
+use Rattle.group_steps.specs.Mails.{AnswersMember, AreMessages, RepliesToMember}
 use Rattle.group_steps.specs.Runs.{Run, no_run, outset_of}
 use Rattle.group_steps.specs.Steps.{AreRunSteps, IsHistory, IsRunStep}
 use Rattle.group_steps.specs.TrueSteps.{batches_in}
@@ -38,6 +37,7 @@ use Rattle.run_report.specs.declared.endings.Ending.{Ending}
 use Rattle.run_report.specs.declared.endings.Ending.TheVariants.{Whole, NoGroup, Memory}
 use Rattle.console_run.specs.Following.{KeepsReplies, StoresFollow}
 use Rattle.console_run.specs.Names.{console_name}
+use Rattle.console_run.specs.OwnFourths.{TakesOwnFourths}
 use Rattle.console_run.specs.Serving.{ServesAlong}
 use Rattle.console_run.specs.Scripts.{are_lines, script_lines}
 use Rattle.console_run.specs.Causes.{CameFrom, CauseOf, Given, IsInParts, SourceAt}
@@ -167,23 +167,26 @@ module _ {D G V : Type 0} (on : Devices D G V) (by : Keying G) where
     -- From any opening on, as long as each later one found the group that there was: what was sent since leads nobody but members to a traffic key, and
     -- leads there each who was sent a reply since and stayed.
     pub serves : ServesAlong on by (start_of command old place members_place) entries after
-    -- A datagram of a member is answered by a message to it, if by any: a second one, or a fourth one with the keys that it had at an epoch of the group.
+    -- A datagram of a member is answered by a message to it, if by any. One that its session took last is answered by what that keeps, word for word. Any
+    -- other is answered by a message of the present epoch: a second one with the present policies, or a fourth one with the keys that the member has now.
     pub pulls : (front : List Entry) (mid : Run D) (m : Name) (datagram octets : List ℕ) (names : Option SymReply) (outside : Outside) (next : Run D)
         → IsMoment on by (start_of command old place members_place) entries after front mid
         → IsRunStep on by front mid (record { asked = Serve m datagram; outside = outside; answer = Datagram octets names }) next
-        → IsSentTo (on.signers.kind_of by.signer) next.host next.members.all m octets names
-    -- Each reply of a batch is such a fourth message.
+        → AnswersMember (on.signers.kind_of by.signer) mid.host next.host next.members.all m datagram octets names
+    -- Each reply of a batch is such a fourth message, with the keys of the epoch that the batch made.
     pub batch_replies : (front : List Entry) (mid : Run D) (output : Output) (outside : Outside) (next : Run D)
         → IsMoment on by (start_of command old place members_place) entries after front mid
         → IsRunStep on by front mid (record { asked = Batch; outside = outside; answer = Batched output }) next
-        → All (λ (reply : SentReply). IsSentTo (on.signers.kind_of by.signer) next.host next.members.all reply.says.member reply.datagram (Some reply.says))
-        output.replies
-    -- At each moment each datagram that is on its way is such a message to whom it goes.
+        → All (RepliesToMember (on.signers.kind_of by.signer) next.host next.members.all) output.replies
+    -- At each moment each datagram that is on its way is a message to whom it goes: a second one with policies, or a fourth one with keys, of some epoch.
     pub mail : (front : List Entry) (mid : Run D) → IsMoment on by (start_of command old place members_place) entries after front mid
         → AreMessages (on.signers.kind_of by.signer) mid
     -- A datagram that a member takes went missing, or is a fourth message: then the member has its keys, unless its store has later ones. Supposed is that
     -- it has no store yet, or one of the group.
     pub replies : KeepsReplies on by (start_of command old place members_place) entries after
+    -- A member whose pull is in step with its session does not ignore the fourth message that the session keeps. It keeps its keys, unless its store has later
+    -- ones or the datagram goes missing. Supposed is that they are in step, and that it has no store yet, or one of the group.
+    pub own_fourths : TakesOwnFourths on by (start_of command old place members_place) entries after
     -- As long as each opening again found the group that there was, and where the verifier accepts what the signer signs: a store of the group takes the pushes
     -- that are due to it, and, where keys are apart, refuses all others that were sent.
     pub stores : Checks on.signers by.signer on.verifiers on.verifier → StoresFollow on by (start_of command old place members_place) entries after

@@ -27,7 +27,8 @@ use run_report::{Finished, end_script, end_unopened, end_without_group};
 use std::alloc::Global;
 use store_steps::{
     a_due_push_is_taken_in_a_history, a_reply_is_kept_in_a_history,
-    any_other_push_is_refused_in_a_history, each_store_is_one_of_the_group,
+    an_own_fourth_message_is_taken_in_a_history, any_other_push_is_refused_in_a_history,
+    each_store_is_one_of_the_group,
 };
 use sym_closure::{a_history_serves_its_members, members_derive, no_others_derive};
 use tree_store::a_file_has_one_group;
@@ -38,12 +39,12 @@ const MOST_PHASES: u32 = 1024;
 /// Runs a group (GDOI, RFC 6407) from a script, in its journal on the disk, and reports each entry of its history and then how the run ended.
 ///
 /// The words make a group, `--new DEPTH`, or open the one of the disk, `--open`; `--limit NUMBER` says how far epochs and sequence numbers of a group that is
-/// made may go; `--seed NUMBER` is for who makes the draws (`seed_of`); `--workers NUMBER` is for blocks of lines, which no script has yet, so that it changes
-/// nothing. Words of another form touch neither the source nor the disk. The script has lines of at most 200 octets, at most 16,384 of them; the lines before
-/// one of another form are run. A line past a limit ends the run at the first octet past it, and one of another form at its end; of what comes from there on at
-/// most 4,096 octets are taken. Where the source fails, the lines that came whole are run. Where the group is not opened, nothing of the script is taken. A
-/// request that runs out of memory ends the run; where something may have been done by then, it is in the history as refused for that, and else it has no
-/// entry.
+/// made may go; `--seed NUMBER` is for who makes the draws (`seed_of`); `--workers NUMBER` is for blocks of lines, which no script has yet, so that it
+/// changes nothing. Words of another form touch neither the source nor the disk, and draw nothing. The script has lines of at most 200 octets, at most 16,384
+/// of them; the lines before one of another form are run. A line past a limit ends the run at the first octet past it, and one of another form at its end; of
+/// what comes from there on at most 4,096 octets are taken. Where the source fails, the lines that came whole are run. Where the group is not opened, nothing
+/// of the script is taken. A request that runs out of memory ends the run; where something may have been done by then, it is in the history as refused for
+/// that, and else it has no entry.
 ///
 /// What is written is the report of the history and the last line of the ending that was due. Where the sink fails or memory runs out,
 /// it is a part of that from its start: all that the opening and the lines before the one begun last gave is reported.
@@ -75,6 +76,8 @@ pub fn console<
         (streams_of given (S.shows script.old) (S.shows script.new) (K.shows out.old) (K.shows out.new))
         (R.place_of draws) (P.place_of peers.old) result.ending result.history disk result.disk }
     ensures untouched { command_of (map string_bytes words.now) ≡ None → script.new ≡ script.old }
+    ensures undrawn { command_of (map string_bytes words.now) ≡ None → peers.new ≡ peers.old }
+    ensures blocks { (k : ℕ) → P.block_at peers.new k ≡ P.block_at peers.old k }
 {
     a_history_leaves_a_valid_list::<D, G, V>();
     each_moment_ends_a_history::<D, G, V>();
@@ -84,6 +87,7 @@ pub fn console<
     mail_is_of_the_group::<D, G, V>();
     each_store_is_one_of_the_group::<D, G, V>();
     a_reply_is_kept_in_a_history::<D, G, V>();
+    an_own_fourth_message_is_taken_in_a_history::<D, G, V>();
     a_due_push_is_taken_in_a_history::<D, G, V>();
     any_other_push_is_refused_in_a_history::<D, G, V>();
     a_file_has_one_group();
@@ -125,10 +129,11 @@ fn run_words<S: Source, K: Sink, D: Disk, G: Signer + Drop, V: Verifier, R: Draw
     peers: &mut P,
 ) -> Finished<D>
     requires { IsSome (command_of (map string_bytes words.now)) }
-    ensures { (command : Command) → command_of (map string_bytes words.now) ≡ Some command →
+    ensures runs { (command : Command) → command_of (map string_bytes words.now) ≡ Some command →
         RunsScript (devices D.Disk G.Signer V.Verifier verifier.now) (keying parts.signer (R.block_at parts.draws) (P.block_at peers.old) console_name)
         (request_of command.opening) (start_of command parts.disk (R.place_of parts.draws) (P.place_of peers.old))
         (S.shows script.old) (S.shows script.new) (K.shows out.old) (K.shows out.new) result.ending result.history result.disk }
+    ensures blocks { (k : ℕ) → P.block_at peers.new k ≡ P.block_at peers.old k }
 {
     match take_words(alloc, words) {
         Ok(command) => run_command(alloc, command, script, out, parts, verifier, peers),
@@ -155,9 +160,10 @@ fn run_command<
     peers: &mut P,
 ) -> Finished<D>
     requires { IsWithin command }
-    ensures { RunsScript (devices D.Disk G.Signer V.Verifier verifier.now) (keying parts.signer (R.block_at parts.draws) (P.block_at peers.old) console_name)
+    ensures runs { RunsScript (devices D.Disk G.Signer V.Verifier verifier.now) (keying parts.signer (R.block_at parts.draws) (P.block_at peers.old) console_name)
         (request_of command.opening) (start_of command parts.disk (R.place_of parts.draws) (P.place_of peers.old))
         (S.shows script.old) (S.shows script.new) (K.shows out.old) (K.shows out.new) result.ending result.history result.disk }
+    ensures blocks { (k : ℕ) → P.block_at peers.new k ≡ P.block_at peers.old k }
 {
     match open_group(alloc, command, parts, peers.place()) {
         Ok(group) => run_script(alloc, group, script, out, verifier, peers),
@@ -220,10 +226,11 @@ fn run_script<
     requires rest { group.members.mail ≡ [] }
     requires place { P.place_of peers.old ≡ group.members.place }
     requires rules { group.server.rules ≡ [] }
-    ensures { (start : Start D G) → start.was ≡ K.shows out.old → IsOpened (devices D.Disk G.Signer V.Verifier verifier.now) R.Draws
+    ensures runs { (start : Start D G) → start.was ≡ K.shows out.old → IsOpened (devices D.Disk G.Signer V.Verifier verifier.now) R.Draws
         (drawn_by P.Draws peers.old) start group →
         RunsScript (devices D.Disk G.Signer V.Verifier verifier.now) start.by start.request start.run
         (S.shows script.old) (S.shows script.new) (K.shows out.old) (K.shows out.new) result.ending result.history result.disk }
+    ensures blocks { (k : ℕ) → P.block_at peers.new k ≡ P.block_at peers.old k }
 {
     let mut run = ScriptRun::begin(group);
     let followed = run.follow(alloc, script, verifier, peers, out);

@@ -1,5 +1,5 @@
 //! Running a script, octet by octet.
-ghost use Rattle.std.specs.Prelude.{◌≡◌, ◌+◌, ◌<◌, ◌≤◌, [], ◌∷◌, length, true, Err, IfErr, OnOk};
+ghost use Rattle.std.specs.Prelude.{◌≡◌, ℕ, ◌+◌, ◌<◌, ◌≤◌, [], ◌∷◌, length, true, Err, IfErr, OnOk};
 ghost use Rattle.run_report.specs.declared.endings.Ending.TheVariants.{Whole};
 ghost use Rattle.console_run.specs.Scripts.{are_octets, longest_piece, most_lines};
 ghost use Rattle.console_run.specs.Private.Follows.{IsOpened, IsRunTo, IsRunUntil, TakesAndGoesOn, TakesAndStops, at};
@@ -70,6 +70,7 @@ impl<D: Disk, G: Signer, R: Draws> ScriptRun<D, G, R> {
         ensures stops { IfErr result (λ stop. StopsAt (devices D.Disk G.Signer V.Verifier verifier.now) R.Draws octet stop
             (at self.old (K.shows out.old) (drawn_by P.Draws peers.old)) (at self.new (K.shows out.new) (drawn_by P.Draws peers.new))) }
         ensures other { result ≡ Err Stop.Source → ⊥ }
+        ensures blocks { (k : ℕ) → P.block_at peers.new k ≡ P.block_at peers.old k }
     {
         if self.count == MOST_LINES {
             return Err(Stop::Line);
@@ -115,6 +116,7 @@ impl<D: Disk, G: Signer, R: Draws> ScriptRun<D, G, R> {
             (at self.old (K.shows out.old) (drawn_by P.Draws peers.old)) (at self.new (K.shows out.new) (drawn_by P.Draws peers.new))) }
         ensures other { result ≡ Err Stop.Source → ⊥ }
         ensures octets { are_octets piece.now ≡ true }
+        ensures blocks { (k : ℕ) → P.block_at peers.new k ≡ P.block_at peers.old k }
     {
         for octet in piece {
             self.take_octet(alloc, *octet, verifier, peers, out)?;
@@ -143,6 +145,7 @@ impl<D: Disk, G: Signer, R: Draws> ScriptRun<D, G, R> {
         ensures stops { IfErr result (λ stop. TakesAndStops (devices D.Disk G.Signer V.Verifier verifier.now) R.Draws stop
             (S.shows script.old) (S.shows script.new) (at self.old (K.shows out.old) (drawn_by P.Draws peers.old))
             (at self.new (K.shows out.new) (drawn_by P.Draws peers.new))) }
+        ensures blocks { (k : ℕ) → P.block_at peers.new k ≡ P.block_at peers.old k }
     {
         'pieces: loop {
             let n = match script.take(buffer) {
@@ -172,6 +175,7 @@ impl<D: Disk, G: Signer, R: Draws> ScriptRun<D, G, R> {
         ensures stops { IfErr result (λ stop. StopsAtEnd (devices D.Disk G.Signer V.Verifier verifier.now) R.Draws stop
             (at self.old (K.shows out.old) (drawn_by P.Draws peers.old)) (at self.new (K.shows out.new) (drawn_by P.Draws peers.new))) }
         ensures other { result ≡ Err Stop.Source → ⊥ }
+        ensures blocks { (k : ℕ) → P.block_at peers.new k ≡ P.block_at peers.old k }
     {
         if self.line.is_empty() {
             return Ok(());
@@ -210,6 +214,7 @@ impl<D: Disk, G: Signer, R: Draws> ScriptRun<D, G, R> {
             IsOpened (devices D.Disk G.Signer V.Verifier verifier.now) R.Draws (drawn_by P.Draws peers.old) start self.old.group →
             IsRunUntil (devices D.Disk G.Signer V.Verifier verifier.now) R.Draws stop start
             (S.shows script.old) (S.shows script.new) (at self.new (K.shows out.new) (drawn_by P.Draws peers.new))) }
+        ensures blocks { (k : ℕ) → P.block_at peers.new k ≡ P.block_at peers.old k }
     {
         report_last(alloc, &self.group, out)?;
         let mut buffer = vec![in alloc; 0; PIECE].map_err(NoMemory::from)?;

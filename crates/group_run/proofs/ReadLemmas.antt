@@ -1,6 +1,7 @@
 -- How members read what is on its way to them.
 use Rattle.std.proofs.Common.{◌≡◌, ◌∙◌, ℕ, ◌+◌, true, List, ◌∷◌, Some, sym, ap, subst}
 use Rattle.std.specs.List.{All}
+use Rattle.std.specs.Prelude.{OnErr, Result, Ok, Err}
 use Rattle.std.proofs.lemmas.List.Elements.{All-head, All-tail}
 use Rattle.group_terms.specs.Names.{Name}
 use Rattle.group_model.specs.declared.entries.Entry.{Entry}
@@ -19,6 +20,11 @@ use Rattle.group_run.specs.declared.unread.Unread.{Unread}
 use Rattle.group_run.proofs.KeptLemmas.{KeepsPeers, as_peers, mail_of_more, same_peers}
 use Rattle.group_run.proofs.MailLemmas.{after_one, rest_of, within_one}
 use Rattle.group_run.proofs.MemberLemmas.{AreSame, as_before, has_agreed, has_kept, ignored_same, ignores_more, keeps_same}
+
+-- what holds anyway holds of an error
+pub on_err : {A E : Type 0} (answer : Result A E) (P : Type 0) → P → OnErr answer P
+on_err (Ok done) P is = tt
+on_err (Err why) P is = is
 
 -- those who ignored some are the same
 pub same_names : (start now : Members) → Ignores start now → (all : List Peer) → AreSame now.all all → (name : Name)

@@ -1,5 +1,5 @@
 -- What is asked of a server for a member's pull (RFC 6407 section 3).
-use Rattle.std.specs.Prelude.{◌≡◌, ℕ, List, Option, None, Some}
+use Rattle.std.specs.Prelude.{◌≡◌, ◌⊎◌, ℕ, List, Option, None, Some}
 use Rattle.gd_disk.specs.declared.disks.Disk.{Ghosts as DiskGhosts}
 use Rattle.gd_edges.specs.declared.draws.Draws.{Ghosts as DrawGhosts}
 use Rattle.gd_edges.specs.declared.signers.Signer.{Ghosts as SignerGhosts}
@@ -13,10 +13,12 @@ use Rattle.member_steps.specs.Acts.{BeginsPull, IsUse}
 use Rattle.member_steps.specs.Members.{Members}
 use Rattle.member_steps.specs.Steps.{HasSentNothing}
 
--- nothing was asked: server and history stay; members may have drawn, or read what was on its way
-pub record IsNotAsked {D G R : Type 0} (old new : View D G R) : Type 0 where
+-- Memory ran out before anything was asked: server and history stay, and so do the members, or this one has begun its pull where the members' draws have these
+-- blocks.
+pub record HasBegunAtMost {D G R : Type 0} (block : ℕ → List ℕ) (group m : Name) (old new : View D G R) : Type 0 where
   pub server : new.server ≡ old.server
   pub entries : new.entries ≡ old.entries
+  pub members : (new.members ≡ old.members) ⊎ BeginsPull block group m old.members new.members
 
 module _ {D G R : Type 0} (d : DiskGhosts D) (g : SignerGhosts G) (draws : DrawGhosts R) where
   -- a member sends what it sent last once more; where it sent nothing, nothing happens

@@ -4,9 +4,9 @@ ghost use Rattle.group_model.specs.declared.entries.Asked.TheVariants as request
 ghost use Rattle.group_peers.specs.Peers.{phase_of, sent_by, was_introduced};
 ghost use Rattle.group_run.specs.Stays.{MailStays, RulesStay};
 ghost use Rattle.group_run.specs.Moves.{Acts, Serves};
-ghost use Rattle.group_run.specs.Pulls.{Introduces, IsNotAsked, Pulls, SendsAgain};
+ghost use Rattle.group_run.specs.Pulls.{HasBegunAtMost, Introduces, Pulls, SendsAgain};
 ghost use Rattle.group_run.specs.Reads.{left_to_read};
-ghost use Rattle.group_run.specs.Tells.{AllIsRead, KeepsNext, SendsNext};
+ghost use Rattle.group_run.specs.Tells.{AllIsRead, HasReadSome, KeepsNext, SendsNext};
 ghost use Rattle.member_steps.specs.Acts.{BeginsPull, IsUse};
 ghost use Rattle.member_steps.specs.Members.{Mail};
 ghost use Rattle.member_steps.specs.Steps.{IsLosing};
@@ -44,11 +44,11 @@ impl<D: Disk, G: Signer, R: Draws> GroupRun<D, G, R> {
     ) -> Result<(), NoMemory>
         requires place { P.place_of draws.old ≡ self.old.members.place }
         ensures ok { OnOk result (Introduces D.Disk G.Signer R.Draws (P.block_at draws.old) member.now self.old self.new) }
-        ensures place { OnOk result (P.place_of draws.new ≡ self.new.members.place) }
+        ensures place { P.place_of draws.new ≡ self.new.members.place }
         ensures blocks { (k : ℕ) → P.block_at draws.new k ≡ P.block_at draws.old k }
         ensures rules { OnOk result (self.new.server.rules ≡ self.old.server.rules) }
         ensures mail { OnOk result (self.new.members.mail ≡ self.old.members.mail) }
-        ensures err { OnErr result (IsNotAsked self.old self.new) }
+        ensures err { OnErr result (self.new ≡ self.old) }
     {
         what_is_known_stays_known();
         self.entries.reserve(1)?;
@@ -77,7 +77,7 @@ impl<D: Disk, G: Signer, R: Draws> GroupRun<D, G, R> {
         ensures place { OnOk result (P.place_of draws.new ≡ self.new.members.place) }
         ensures blocks { (k : ℕ) → P.block_at draws.new k ≡ P.block_at draws.old k }
         ensures rules { OnOk result (self.new.server.rules ≡ self.old.server.rules) }
-        ensures err { OnErr result (IsNotAsked self.old self.new) }
+        ensures err { OnErr result (HasBegunAtMost (P.block_at draws.old) group.now member.now self.old self.new) }
     {
         what_is_known_stays_known();
         self.entries.reserve(1)?;
@@ -96,7 +96,7 @@ impl<D: Disk, G: Signer, R: Draws> GroupRun<D, G, R> {
     pub fn again(&mut self, alloc: Global, member: &MemberName) -> Result<(), NoMemory>
         ensures ok { OnOk result (SendsAgain D.Disk G.Signer R.Draws (sent_by self.old.members.all member.now) member.now self.old self.new) }
         ensures stays { OnOk result (RulesStay self.old self.new) }
-        ensures err { OnErr result (IsNotAsked self.old self.new) }
+        ensures err { OnErr result (self.new ≡ self.old) }
     {
         what_is_known_stays_known();
         self.entries.reserve(1)?;
@@ -138,7 +138,7 @@ impl<D: Disk, G: Signer, R: Draws> GroupRun<D, G, R> {
             (AllIsRead D.Disk G.Signer R.Draws self.old self.new)) }
         ensures nearer { IfOk result (λ read. read ≡ true → left_to_read self.new.members < left_to_read self.old.members) }
         ensures stays { OnOk result (RulesStay self.old self.new) }
-        ensures err { OnErr result (IsNotAsked self.old self.new) }
+        ensures err { OnErr result (HasReadSome self.old self.new) }
     {
         what_is_known_stays_known();
         self.entries.reserve(1)?;

@@ -1,9 +1,10 @@
 //! How members read what is on its way to them.
-ghost use Rattle.std.specs.Prelude.{◌≡◌, IfOk};
+ghost use Rattle.std.specs.Prelude.{◌≡◌, IfOk, OnErr};
 ghost use Rattle.group_terms.specs.Names.{Name};
 ghost use Rattle.group_peers.specs.Peers.{is_peer};
 ghost use Rattle.group_run.specs.Private.Kept.{IsReadable, members_at};
 ghost use Rattle.group_run.specs.Private.Reading.{AreReading};
+ghost use Rattle.member_steps.specs.Acts.{Ignores};
 
 use crate::unread::Unread;
 use group_model::{Answer, Entry, MemberName, NoMemory};
@@ -30,6 +31,7 @@ pub(crate) fn read_mail(
 ) -> Result<Read, NoMemory>
     requires { IsReadable members.old.all entries.now unread.old }
     ensures reads { IfOk result (λ read. AreReading read (members_at members.old entries.now unread.old) (members_at members.new entries.now unread.new)) }
+    ensures err { OnErr result (Ignores (members_at members.old entries.now unread.old) (members_at members.new entries.now unread.new)) }
     ensures readable { IsReadable members.new.all entries.now unread.new }
     ensures peers { (name : Name) → is_peer members.new.all name ≡ is_peer members.old.all name }
 {

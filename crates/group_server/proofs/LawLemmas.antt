@@ -1,26 +1,30 @@
 -- What a server may not refuse.
 use Rattle.std.proofs.Common.{◌≡◌, ◌∙◌, ◌⊎◌, ℕ, true, false, List, Option, None, Some, Result, Ok, Err, refl, sym, ap, subst, inl, inr, arith}
-use Rattle.std.specs.Prelude.{MatchBool, IsSome, if◌then◌else◌}
+use Rattle.std.specs.Prelude.{◌==◌, ◌^◌, MatchBool, IsSome, if◌then◌else◌, length, nat_le, nat_lt}
+use Rattle.std.proofs.lemmas.Bool.{le-leb, lt-ltb, ne_eqb}
 use Rattle.std.specs.Str.{bytes_eq}
 use Rattle.gd_disk.specs.Moments.{shown}
 use Rattle.gd_disk.specs.declared.disks.Disk.{Ghosts as DiskGhosts}
 use Rattle.gd_edges.specs.declared.signers.Signer.{Ghosts as SignerGhosts}
 use Rattle.gd_wire.specs.declared.headers.Header.{Header}
+use Rattle.group_terms.specs.Changes.{is_pending}
 use Rattle.group_terms.specs.Names.{Name}
 use Rattle.group_terms.specs.declared.phases.Phase1.{Phase1}
 use Rattle.group_values.specs.Values.{batches_made}
 use Rattle.group_model.specs.Answers.{unless_refused}
 use Rattle.group_model.specs.Places.{is_member}
+use Rattle.group_model.specs.Refusals.{leaves_taken}
 use Rattle.group_model.specs.Seen.{seen_group}
-use Rattle.group_model.specs.Servers.{members_now, refusal_to_batch, refusal_to_join}
+use Rattle.group_model.specs.Servers.{coming_sequence, members_now, present_epoch, present_sequence, refusal_to_batch, refusal_to_join, refusal_to_leave}
 use Rattle.group_model.specs.declared.entries.Answer.TheVariants.{Batched, Datagram, Done, Queued, Refused}
 use Rattle.group_model.specs.declared.entries.Asked.{Asked}
 use Rattle.group_model.specs.declared.entries.Asked.TheVariants.{Batch, Leave, Reopen, Serve}
+use Rattle.group_model.specs.declared.entries.Counter.TheVariants.{Epoch, Sequence}
 use Rattle.group_model.specs.declared.entries.Entry.{Entry}
 use Rattle.group_model.specs.declared.entries.Output.{Output}
 use Rattle.group_model.specs.declared.entries.Outside.{Outside}
 use Rattle.group_model.specs.declared.entries.Refusal.{Refusal}
-use Rattle.group_model.specs.declared.entries.Refusal.TheVariants.{AlreadyPending, DiskFault, NeedsReopen, NoMemory, WrongGroup}
+use Rattle.group_model.specs.declared.entries.Refusal.TheVariants.{AlreadyPending, BatchFull, DiskFault, NeedsReopen, NoMemory, NotMember, Spent, TreeFull, WrongGroup}
 use Rattle.group_policy.specs.Judgements.{judgement}
 use Rattle.pull_msgs.specs.declared.faults.PullFault.{PullFault}
 use Rattle.pull_msgs.specs.declared.faults.PullFault.TheVariants as faults
@@ -43,7 +47,7 @@ use Rattle.server_steps.specs.Outsides.{Says, beside_refusal, failing}
 use Rattle.server_steps.specs.Pulls.{AnswersFirst, AnswersLook, AnswersThird, IsAnswering, Queues, Replies, reply_now}
 use Rattle.server_steps.specs.Refusals.{names_group, refusal_to_first, refusal_to_third, unless_denied, why_pending}
 use Rattle.server_steps.specs.Steps.{IsServed, IsServerStep}
-use Rattle.group_server.specs.Complete.{BatchIsMade, ComesFrom, FirstIsAnswered, IsFaultless, IsNewIn, IsWelcome, LeaveIsGranted, OrNoMemory, ReopeningIsMade, ThirdIsAnswered}
+use Rattle.group_server.specs.Complete.{BatchIsMade, ComesFrom, FirstIsAnswered, HasRoom, IsFaultless, IsNewIn, IsWelcome, LeaveIsGranted, MayBatch, MayLeave, OrNoMemory, ReopeningIsMade, ThirdIsAnswered}
 
 -- ---- what is found
 
@@ -117,6 +121,18 @@ module _ {D G : Type 0} (d : DiskGhosts D) (g : SignerGhosts G) (signer : G) (bl
       ap (λ verdict. unless_denied verdict (if is_member (members_now host.server) m then why_pending host.server m else refusal_to_join host.server m)) welcome.allowed
       ∙ (ap (λ b. if b then why_pending host.server m else refusal_to_join host.server m) stranger ∙ granted)
 
+  -- nor against the join of who is welcome, where there is room
+  may_join : (host : Host D) (m : Name) → IsWelcome host m → HasRoom host → refusal_to_join host.server m ≡ None
+  may_join host m welcome room =
+      let taken = leaves_taken host.server.depth (members_now host.server) host.server.queue in
+      let full = Some (BatchFull (length host.server.queue)) in
+      let fits = if nat_lt (length host.server.queue) 32 then None else full in
+      let seated = if taken == 2 ^ host.server.depth then Some (TreeFull taken) else fits in
+      ap (λ b. if b then Some NeedsReopen else (if is_pending host.server.queue m then Some AlreadyPending else seated)) welcome.open_now
+      ∙ ap (λ b. if b then Some AlreadyPending else seated) welcome.idle
+      ∙ ap (λ b. if b then Some (TreeFull taken) else fits) (ne_eqb taken (2 ^ host.server.depth) (λ same. omega (arith, same, room.leaf)))
+      ∙ ap (λ b. if b then None else full) (lt-ltb (length host.server.queue) 32 room.change)
+
   pub first_answered : FirstIsAnswered d g signer block
   first_answered host m asker datagram entry next welcome due asked step =
       let found = has_looked host asker datagram entry next welcome.open_now asked step in
@@ -158,11 +174,11 @@ module _ {D G : Type 0} (d : DiskGhosts D) (g : SignerGhosts G) (signer : G) (bl
           → (answer ≡ Err faults.NoMemory) ⊎ (answer ≡ Ok said)
           → (is_member (members_now host.server) m ≡ true →
           OrNoMemory entry.answer ((fourth : List ℕ) × (entry.answer ≡ Datagram fourth (Some (reply_now host.server m)))))
-          × (is_member (members_now host.server) m ≡ false → refusal_to_join host.server m ≡ None → OrNoMemory entry.answer (entry.answer ≡ Queued))
+          × (is_member (members_now host.server) m ≡ false → HasRoom host → OrNoMemory entry.answer (entry.answer ≡ Queued))
       by phase said answer looked finds own answers (inl out) =
           let says : Says (Refused NoMemory) host entry.answer entry.outside next =
           subst (λ looked. AnswersLook g signer block host datagram looked entry.answer entry.outside next) (finds ∙ ap (found_in 3 phase NextThird) out) answers in
-          (λ member. inr says.answers, λ stranger granted. inr says.answers)
+          (λ member. inr says.answers, λ stranger room. inr says.answers)
       by phase said answer looked finds own answers (inr is) =
           let at_phase : AnswersThird g signer block host (refusal_to_third host.rules host.server phase.member) phase.member said datagram
           entry.answer entry.outside next =
@@ -179,8 +195,8 @@ module _ {D G : Type 0} (d : DiskGhosts D) (g : SignerGhosts G) (signer : G) (bl
                       inl (replies.fourth, replies.becomes.answers)
                   | inr out ↦ inr out.answers
                 ],
-            λ stranger granted. elim (subst (λ reason. AnswersThird g signer block host reason m said datagram entry.answer entry.outside next)
-                (third_stranger host m welcome stranger granted) third) [
+            λ stranger room. elim (subst (λ reason. AnswersThird g signer block host reason m said datagram entry.answer entry.outside next)
+                (third_stranger host m welcome stranger (may_join host m welcome room)) third) [
                   | inl accepts ↦
                       let queues : Queues g signer block host m said datagram entry.answer entry.outside next =
                       subst (λ b. MatchBool b (Replies g signer block host m said datagram entry.answer entry.outside next)
@@ -190,10 +206,19 @@ module _ {D G : Type 0} (d : DiskGhosts D) (g : SignerGhosts G) (signer : G) (bl
                 ],
           )
 
+  may_leave : (host : Host D) (m : Name) → MayLeave host m → refusal_to_leave host.server m ≡ None
+  may_leave host m may =
+      let full = Some (BatchFull (length host.server.queue)) in
+      let fits = if nat_lt (length host.server.queue) 32 then None else full in
+      let idle = if is_pending host.server.queue m then Some AlreadyPending else fits in
+      ap (λ b. if b then Some NeedsReopen else (if is_member (members_now host.server) m then idle else Some NotMember)) may.open_now
+      ∙ ap (λ b. if b then idle else Some NotMember) may.member ∙ ap (λ b. if b then Some AlreadyPending else fits) may.idle
+      ∙ ap (λ b. if b then None else full) (lt-ltb (length host.server.queue) 32 may.change)
+
   pub leave_granted : LeaveIsGranted d g signer block
-  leave_granted host m entry next granted asked step =
+  leave_granted host m entry next may asked step =
       let leaving : IsLeaving m host entry.answer entry.outside next = served host (Leave m) entry next asked step in
-      leaving.answers ∙ ap (λ reason. unless_refused reason Done) granted
+      leaving.answers ∙ ap (λ reason. unless_refused reason Done) (may_leave host m may)
 
   -- where the disk counted no fault, none is told
   no_rise : (old new : D) → IsFaultless d g signer block old new → Counts d true old new → ⊥
@@ -206,8 +231,19 @@ module _ {D G : Type 0} (d : DiskGhosts D) (g : SignerGhosts G) (signer : G) (bl
       no_rise host.disk next.disk still
       (subst (λ failed. Counts d failed host.disk next.disk) (ap (λ (outside : Outside). outside.disk_failed) is ∙ failed) step.counts)
 
+  may_batch : (host : Host D) → MayBatch host → refusal_to_batch host.server ≡ None
+  may_batch host may =
+      let epoch = present_epoch host.server in
+      let coming = coming_sequence host.server in
+      let limit = host.server.limit in
+      let spent = Some (Spent Sequence (present_sequence host.server)) in
+      let within = if nat_le coming limit then None else spent in
+      ap (λ b. if b then Some NeedsReopen else (if nat_lt epoch limit then within else Some (Spent Epoch epoch))) may.open_now
+      ∙ ap (λ b. if b then within else Some (Spent Epoch epoch)) (lt-ltb epoch limit may.epoch)
+      ∙ ap (λ b. if b then None else spent) (le-leb coming limit may.number)
+
   pub batch_made : BatchIsMade d g signer block
-  batch_made host entry next granted still asked step = by (served host Batch entry next asked step)
+  batch_made host entry next may still asked step = by (served host Batch entry next asked step)
     where
       by : IsBatching d g signer block host entry.answer entry.outside next → OrNoMemory entry.answer ((output : Output) × (entry.answer ≡ Batched output))
       by (inl stored) = inl (stored.output, stored.answers)
@@ -215,7 +251,7 @@ module _ {D G : Type 0} (d : DiskGhosts D) (g : SignerGhosts G) (signer : G) (bl
       by (inr (inr (inl refused))) = absurd (clash refused.why refused.reason)
         where
           clash : (why : Refusal) → refusal_to_batch host.server ≡ Some why → ⊥
-          clash why some = cc (granted, some)
+          clash why some = let granted : refusal_to_batch host.server ≡ None = may_batch host may in cc (granted, some)
       by (inr (inr (inr out))) = inr out.answers
 
   pub reopening_made : ReopeningIsMade d g signer block

@@ -1,5 +1,5 @@
 -- What a key server may not refuse. It follows from its steps.
-use Rattle.std.specs.Prelude.{◌≡◌, ◌⊎◌, ◌<◌, ◌^◌, ◌-◌, ℕ, true, false, List, Option, None, Some, IsSome, Result, Ok}
+use Rattle.std.specs.Prelude.{◌≡◌, ◌⊎◌, ◌<◌, ◌≤◌, ◌^◌, ◌-◌, ℕ, true, false, List, length, Option, None, Some, IsSome, Result, Ok}
 use Rattle.std.specs.Str.{bytes_eq}
 use Rattle.gd_disk.specs.Moments.{shown}
 use Rattle.gd_disk.specs.declared.disks.Disk.{Ghosts as DiskGhosts}
@@ -10,7 +10,8 @@ use Rattle.gd_wire.specs.declared.headers.Header.{Header}
 use Rattle.group_terms.specs.Changes.{is_pending}
 use Rattle.group_terms.specs.Names.{Name}
 use Rattle.group_model.specs.Places.{is_member}
-use Rattle.group_model.specs.Servers.{members_now, refusal_to_batch, refusal_to_join, refusal_to_leave}
+use Rattle.group_model.specs.Refusals.{leaves_taken}
+use Rattle.group_model.specs.Servers.{coming_sequence, members_now, present_epoch}
 use Rattle.group_model.specs.declared.entries.Answer.{Answer}
 use Rattle.group_model.specs.declared.entries.Answer.TheVariants.{Batched, Datagram, Done, Opened, Queued, Refused}
 use Rattle.group_model.specs.declared.entries.Asked.TheVariants.{Batch, Leave, Reopen, Serve}
@@ -81,6 +82,24 @@ pub record IsDueThird {D : Type 0} (host : Host D) (m : Name) (datagram : List �
   pub reads : (answer : Result Third PullFault) → IsAnswer sa.phase (third_awaited session.message session.iv session.ni session.nr) datagram answer
       → ReadsAs answer (Ok third)
 
+-- After the next batch a leaf will be free for one more, and that batch, which has at most 32 changes, has room for one more.
+pub record HasRoom {D : Type 0} (host : Host D) : Type 0 where
+  pub leaf : leaves_taken host.server.depth (members_now host.server) host.server.queue < 2 ^ host.server.depth
+  pub change : length host.server.queue < 32
+
+-- The group does not have to be opened again, this is a member, no change of it waits, and the next batch has room for one more change.
+pub record MayLeave {D : Type 0} (host : Host D) (m : Name) : Type 0 where
+  pub open_now : host.server.need ≡ false
+  pub member : is_member (members_now host.server) m ≡ true
+  pub idle : is_pending host.server.queue m ≡ false
+  pub change : length host.server.queue < 32
+
+-- The group does not have to be opened again, and neither the next epoch nor the number of the last push passes the limit then.
+pub record MayBatch {D : Type 0} (host : Host D) : Type 0 where
+  pub open_now : host.server.need ≡ false
+  pub epoch : present_epoch host.server < host.server.limit
+  pub number : coming_sequence host.server ≤ host.server.limit
+
 module _ {D G : Type 0} (d : DiskGhosts D) (g : SignerGhosts G) (signer : G) (block : ℕ → List ℕ) where
   -- The first message of somebody who is welcome is answered by the second one.
   abbrev pub FirstIsAnswered : Type 0
@@ -89,19 +108,19 @@ module _ {D G : Type 0} (d : DiskGhosts D) (g : SignerGhosts G) (signer : G) (bl
       → entry.asked ≡ Serve asker datagram → IsServerStep d g signer block host entry next
       → OrNoMemory entry.answer ((second : List ℕ) × (entry.answer ≡ Datagram second None))
 
-  -- The third message of a member is answered by the fourth one; of anybody else the join waits, where tree and batch have room.
+  -- The third message of a member is answered by the fourth one; of anybody else the join waits, where tree and batch have room for it.
   abbrev pub ThirdIsAnswered : Type 0
   ThirdIsAnswered =
       (host : Host D) (m asker : Name) (datagram : List ℕ) (entry : Entry) (next : Host D) → IsWelcome host m → IsDueThird host m datagram
       → entry.asked ≡ Serve asker datagram → IsServerStep d g signer block host entry next
       → (is_member (members_now host.server) m ≡ true →
       OrNoMemory entry.answer ((fourth : List ℕ) × (entry.answer ≡ Datagram fourth (Some (reply_now host.server m)))))
-      × (is_member (members_now host.server) m ≡ false → refusal_to_join host.server m ≡ None → OrNoMemory entry.answer (entry.answer ≡ Queued))
+      × (is_member (members_now host.server) m ≡ false → HasRoom host → OrNoMemory entry.answer (entry.answer ≡ Queued))
 
-  -- A leave against which there is no reason is granted.
+  -- The leave of a member of whom no change waits is granted, where the batch has room for it.
   abbrev pub LeaveIsGranted : Type 0
   LeaveIsGranted =
-      (host : Host D) (m : Name) (entry : Entry) (next : Host D) → refusal_to_leave host.server m ≡ None
+      (host : Host D) (m : Name) (entry : Entry) (next : Host D) → MayLeave host m
       → entry.asked ≡ Leave m → IsServerStep d g signer block host entry next → entry.answer ≡ Done
 
   -- the disk counted no fault, and its count is not at its last value
@@ -109,10 +128,10 @@ module _ {D G : Type 0} (d : DiskGhosts D) (g : SignerGhosts G) (signer : G) (bl
     pub same : d.faults new ≡ d.faults old
     pub countable : d.faults old < 2 ^ 64 - 1
 
-  -- A batch against which there is no reason is made, unless the disk counts a fault.
+  -- A batch within the group's limit is made, unless the disk counts a fault.
   abbrev pub BatchIsMade : Type 0
   BatchIsMade =
-      (host : Host D) (entry : Entry) (next : Host D) → refusal_to_batch host.server ≡ None → IsFaultless host.disk next.disk
+      (host : Host D) (entry : Entry) (next : Host D) → MayBatch host → IsFaultless host.disk next.disk
       → entry.asked ≡ Batch → IsServerStep d g signer block host entry next
       → OrNoMemory entry.answer ((output : Output) × (entry.answer ≡ Batched output))
 

@@ -18,12 +18,13 @@ use Rattle.group_model.specs.declared.entries.SentReply.{SentReply}
 use Rattle.group_peers.specs.Peers.{is_named, sent_by}
 use Rattle.member_steps.specs.Members.{Mail, Members}
 use Rattle.pull_sessions.specs.Sessions.{sa_of, sessions_ended}
+use Rattle.pull_sessions.specs.declared.sas.Sa.{Sa}
 use Rattle.server_steps.specs.Batches.{IsBatching, list_next}
 use Rattle.server_steps.specs.Fourths.{IsFourthReply}
 use Rattle.server_steps.specs.Hosts.{Host}
-use Rattle.server_steps.specs.Messages.{MessagesAreOfTheGroup, MessagesStay}
+use Rattle.server_steps.specs.Messages.{KeepsMessage, MessagesAreOfTheGroup, MessagesStay}
 use Rattle.group_steps.specs.Devices.{Devices, Keying}
-use Rattle.group_steps.specs.Mails.{IsSentTo, MailIsOfTheGroup, MembersAreAnswered, RepliesAreMessages}
+use Rattle.group_steps.specs.Mails.{AnswersMember, MailIsOfTheGroup, MembersAreAnswered, RepliesAreMessages, RepliesToMember, SessionsKeepMessages}
 use Rattle.group_steps.specs.Runs.{Outset, Run, no_run, run_of, with_members}
 use Rattle.group_steps.specs.Steps.{AreRunSteps, IsAnswered, IsHistory, IsRunStep}
 use Rattle.group_steps.proofs.ActLemmas.{PeerFits, it_has, keeps_acts}
@@ -142,6 +143,15 @@ module _ {D G V : Type 0} (laws : Laws) (stay : MessagesStay) (on : Devices D G 
   pub mail_of_group : MailIsOfTheGroup on by
   mail_of_group outset entries after history = (is_after outset entries after history).kept.mail
 
+  pub sessions_keep : SessionsKeepMessages on by
+  sessions_keep outset entries after history = elim (is_after outset entries after history).host [
+    | inl order ↦ order.kept
+    | inr empty ↦ subst (All KeepsOne) (sym empty) (All-nil KeepsOne)
+  ]
+    where
+      KeepsOne : Sa → Type 0
+      KeepsOne = KeepsMessage kind 0 after.host.server.depth after.host.head.spi after.host.server.list
+
   pub members_answered : MembersAreAnswered on by
   members_answered outset before run m datagram octets names outside next history step =
       let after = is_after outset before run history in
@@ -150,7 +160,7 @@ module _ {D G V : Type 0} (laws : Laws) (stay : MessagesStay) (on : Devices D G 
       let kept = kept_acted kind run step.acted (keeps_acts by.members_block by.group run.members step.acted step.acts) after.kept in
       elim after.host [
         | inl order ↦
-            subst (λ (members : Members). IsSentTo kind next.host members.all m octets names) (sym serving.gets)
+            subst (λ (members : Members). AnswersMember kind run.host next.host members.all m datagram octets names) (sym serving.gets)
             (answered_by laws stay on by messages acted order kept m datagram octets names outside next.host step.ready
             (record { answered = serving.served; keeps = step.answered.keeps; counts = step.answered.counts }))
         | inr empty ↦ absurd (none_sends kind acted kept empty m datagram step.ready)
@@ -164,12 +174,9 @@ module _ {D G V : Type 0} (laws : Laws) (stay : MessagesStay) (on : Devices D G 
       let kept = kept_acted kind run step.acted (keeps_acts by.members_block by.group run.members step.acted step.acts) after.kept in
       elim after.host [
         | inl order ↦
-            subst (λ (members : Members).
-            All (λ (reply : SentReply). IsSentTo kind next.host members.all reply.says.member reply.datagram (Some reply.says)) output.replies)
-            (sym serving.gets)
+            subst (λ (members : Members). All (RepliesToMember kind next.host members.all) output.replies) (sym serving.gets)
             (replied_by laws stay on by messages acted order kept output outside next.host
             (record { answered = serving.served; keeps = step.answered.keeps; counts = step.answered.counts }))
         | inr empty ↦
-            none_replied run.host output outside next.host empty serving.served
-            (λ (reply : SentReply). IsSentTo kind next.host next.members.all reply.says.member reply.datagram (Some reply.says))
+            none_replied run.host output outside next.host empty serving.served (RepliesToMember kind next.host next.members.all)
       ]

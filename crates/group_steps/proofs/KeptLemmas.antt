@@ -33,20 +33,21 @@ use Rattle.pull_sessions.specs.declared.sas.Sa.{Sa}
 use Rattle.server_steps.specs.Batches.{made_next}
 use Rattle.server_steps.specs.Disks.{Counts}
 use Rattle.server_steps.specs.Hosts.{Host}
-use Rattle.server_steps.specs.Messages.{IsMessageOf, IsMessageTo, MessagesAreOfTheGroup, MessagesStay, RepliesToPeer}
+use Rattle.server_steps.specs.Messages.{IsAnswerNow, IsMessageOf, IsMessageTo, MessagesAreOfTheGroup, MessagesStay, RepliesToPeer}
 use Rattle.server_steps.specs.Pulls.{IsIntroducing, answer_introduced}
 use Rattle.server_steps.specs.Steps.{IsServerStep}
 use Rattle.group_steps.specs.Devices.{Devices, Keying}
 use Rattle.group_steps.specs.Gets.{get, introduced_by, mail_by, mail_of, mail_to}
 use Rattle.group_steps.specs.Kinds.{IsOfAKind}
 use Rattle.group_steps.specs.Laws.{asks_again}
-use Rattle.group_steps.specs.Mails.{AreMessages, IsSentTo}
+use Rattle.group_steps.specs.Mails.{AnswersMember, AreMessages, RepliesToMember}
 use Rattle.group_steps.specs.Runs.{Run, run_of, with_members}
 use Rattle.group_steps.specs.Steps.{IsActing, IsAnswered, IsRunStep, push_sent}
 use Rattle.group_steps.proofs.ActLemmas.{MembersKeep, PeerFits, changed_fits, it_has, keeps_acting, keeps_acts}
 use Rattle.group_steps.proofs.HeadLemmas.{cookies_read}
 use Rattle.group_steps.proofs.KindLemmas.{kind_of}
-use Rattle.group_steps.proofs.MailLemmas.{IsMail, StayMessages, given_is, given_there, mail_on, own_cookies, sa_there, sender, sent_under}
+use Rattle.group_steps.proofs.MailLemmas.{IsMail, StayMessages, answered_under, given_is, given_there, mail_on, own_cookies, sa_there, sender}
+use Rattle.group_steps.proofs.MailLemmas.{sent_under}
 use Rattle.group_steps.proofs.PeerLemmas.{changed_phases, found_has, given_at, only}
 use Rattle.group_steps.proofs.PhaseLemmas.{HaveSamePhases, free_to_take, introduces, one_more, sa_phase, stays_served}
 use Rattle.group_steps.proofs.SoundLemmas.{IsInOrder}
@@ -119,7 +120,7 @@ module _ {D G V : Type 0} (laws : Laws) (stay : MessagesStay) (on : Devices D G 
     -- a datagram of a member is answered by a message to it
     pub answered_by : (m : Name) (datagram octets : List ℕ) (names : Option SymReply) (outside : Outside) (next : Host D)
         → sent_by run.members.all m ≡ Some datagram → Serves run.host (entry_of (Serve m datagram) (Datagram octets names) outside) next
-        → IsSentTo kind next run.members.all m octets names
+        → AnswersMember kind run.host next run.members.all m datagram octets names
     answered_by m datagram octets names outside next sent step =
         let sas = run.host.sessions.sas in
         let peer = sender run.members.all m datagram sent in
@@ -132,25 +133,29 @@ module _ {D G V : Type 0} (laws : Laws) (stay : MessagesStay) (on : Devices D G 
         ∙ sym (ap (λ (phase : Phase1). phase.cookies) sa.2) in
         let one : answers.sa ≡ sa.0 = only (sym answers.is_there ∙ ap (sa_with sas) cookies
         ∙ own_cookies sas m sa.0 order.sound.apart.cookies sa.1) in
-        sent_under kind next run.members.all m octets names peer.0.phase (ap (option_map (λ (peer : Peer). peer.phase)) peer.1)
-        (subst (λ phase. IsMessageOf kind 0 next phase octets names) (ap (λ (sa : Sa). sa.phase) one ∙ sa.2) answers.message)
+        answered_under kind run.host next run.members.all m datagram octets names sa.0 sa.1
+        (ap (option_map (λ (peer : Peer). peer.phase)) peer.1 ∙ ap Some (sym sa.2))
+        (subst (λ (sa : Sa). IsMessageOf kind 0 next sa.phase octets names) one answers.message)
+        (subst (λ (sa : Sa). IsAnswerNow kind next sa.session sa.phase datagram octets names) one answers.now)
 
     -- a reply of a batch is a fourth message to its member
     pub replied_by : (output : Output) (outside : Outside) (next : Host D) → Serves run.host (entry_of Batch (Batched output) outside) next
-        → All (λ (reply : SentReply). IsSentTo kind next run.members.all reply.says.member reply.datagram (Some reply.says)) output.replies
+        → All (RepliesToMember kind next run.members.all) output.replies
     replied_by output outside next step =
         let goes = messages 0 run.host (entry_of Batch (Batched output) outside) next order.sound order.late order.kept step in
-        All-weaker (RepliesToPeer kind 0 run.host (entry_of Batch (Batched output) outside) next)
-        (λ (reply : SentReply). IsSentTo kind next run.members.all reply.says.member reply.datagram (Some reply.says))
-        each output.replies (goes.3.replies output refl)
+        All-weaker (RepliesToPeer kind 0 run.host (entry_of Batch (Batched output) outside) next) (RepliesToMember kind next run.members.all) each
+        output.replies (goes.3.replies output refl)
       where
         each : (reply : SentReply) → RepliesToPeer kind 0 run.host (entry_of Batch (Batched output) outside) next reply
-            → IsSentTo kind next run.members.all reply.says.member reply.datagram (Some reply.says)
+            → RepliesToMember kind next run.members.all reply
         each reply to =
             let m = reply.says.member in
             let peer = given_there run.members.all m to.sa.phase (sym (kept.same m) ∙ ap (option_map (λ (sa : Sa). sa.phase)) to.is_there) in
-            sent_under kind next run.members.all m reply.datagram (Some reply.says) to.sa.phase
-            (ap (option_map (λ (peer : Peer). peer.phase)) peer.1 ∙ ap Some peer.2) to.message
+            record {
+              message = sent_under kind next run.members.all m reply.datagram (Some reply.says) to.sa.phase
+                  (ap (option_map (λ (peer : Peer). peer.phase)) peer.1 ∙ ap Some peer.2) to.message;
+              now = to.now;
+            }
 
     -- ---- the request that introduces somebody
 
@@ -214,7 +219,7 @@ module _ {D G V : Type 0} (laws : Laws) (stay : MessagesStay) (on : Devices D G 
         by_answer : (answer : Answer) → Serves run.host (entry_of (Serve m datagram) answer outside) next
             → All (IsMail kind next run.members.all) (mail_to m answer)
         by_answer (Datagram octets names) step =
-            All-cons (IsMail kind next run.members.all) (m, octets) [] (names, answered_by m datagram octets names outside next ready step)
+            All-cons (IsMail kind next run.members.all) (m, octets) [] (names, (answered_by m datagram octets names outside next ready step).message)
             (All-nil (IsMail kind next run.members.all))
         by_answer answer step = All-nil (IsMail kind next run.members.all)
     kept_served Batch answer outside next ready step =
@@ -225,8 +230,8 @@ module _ {D G V : Type 0} (laws : Laws) (stay : MessagesStay) (on : Devices D G 
         by_answer : (answer : Answer) → Serves run.host (entry_of Batch answer outside) next → All (IsMail kind next run.members.all) (mail_by answer)
         by_answer (Batched output) step =
             All-map (IsMail kind next run.members.all) mail_of output.replies
-            (All-weaker (λ (reply : SentReply). IsSentTo kind next run.members.all reply.says.member reply.datagram (Some reply.says))
-            (λ (reply : SentReply). IsMail kind next run.members.all (mail_of reply)) (λ reply sent. (Some reply.says, sent)) output.replies
+            (All-weaker (RepliesToMember kind next run.members.all) (λ (reply : SentReply). IsMail kind next run.members.all (mail_of reply))
+            (λ reply told. (Some reply.says, told.message)) output.replies
             (replied_by output outside next step))
         by_answer answer step = All-nil (IsMail kind next run.members.all)
     kept_served Reopen answer outside next ready step = record {

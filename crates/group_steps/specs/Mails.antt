@@ -1,5 +1,5 @@
 -- What is known of the datagrams that are on their way to members (RFC 6407 section 3.2).
-use Rattle.std.specs.Prelude.{◌≡◌, ℕ, List, All, Option, Some}
+use Rattle.std.specs.Prelude.{◌≡◌, ℕ, List, length, All, Option, Some}
 use Rattle.group_terms.specs.Names.{Name}
 use Rattle.group_terms.specs.declared.signatures.SignKind.{SignKind}
 use Rattle.group_model.specs.declared.entries.Answer.TheVariants.{Batched, Datagram}
@@ -11,8 +11,9 @@ use Rattle.group_model.specs.declared.entries.SentReply.{SentReply}
 use Rattle.group_model.specs.declared.entries.SymReply.{SymReply}
 use Rattle.group_peers.specs.Peers.{peer_of}
 use Rattle.group_peers.specs.declared.members.Peer.{Peer}
+use Rattle.pull_sessions.specs.Sessions.{session_of}
 use Rattle.server_steps.specs.Hosts.{Host}
-use Rattle.server_steps.specs.Messages.{IsMessageOf}
+use Rattle.server_steps.specs.Messages.{IsAnswerNow, IsMessageOf, KeptAreMessages}
 use Rattle.member_steps.specs.Members.{Mail}
 use Rattle.group_steps.specs.Devices.{Devices, Keying}
 use Rattle.group_steps.specs.Runs.{Outset, Run, no_run}
@@ -25,6 +26,17 @@ module _ {D : Type 0} (kind : SignKind) where
     pub is_there : peer_of peers m ≡ Some peer
     pub message : IsMessageOf kind 0 host peer.phase octets names
 
+  -- From one host to the next a member's datagram was answered by a message of the group to it. That is what its session keeps, if it took this datagram last,
+  -- and else a message of the present epoch.
+  pub record AnswersMember (host next : Host D) (peers : List Peer) (m : Name) (datagram octets : List ℕ) (names : Option SymReply) : Type 0 where
+    pub message : IsSentTo next peers m octets names
+    pub now : IsAnswerNow kind next (session_of host.sessions.sas m) message.peer.phase datagram octets names
+
+  -- a reply of a batch, by which the host is this one, is a fourth message to its member, with the keys of the epoch that the batch made
+  pub record RepliesToMember (next : Host D) (peers : List Peer) (reply : SentReply) : Type 0 where
+    pub message : IsSentTo next peers reply.says.member reply.datagram (Some reply.says)
+    pub now : reply.says.keyed_epoch ≡ length next.server.list
+
   -- each datagram on its way is one to whom it goes
   abbrev pub AreMessages : Run D → Type 0
   AreMessages run = All (λ (mail : Mail). (names : Option SymReply) × IsSentTo run.host run.members.all mail.0 mail.1 names) run.members.mail
@@ -35,19 +47,24 @@ MailIsOfTheGroup {D} on by =
     (outset : Outset D) (entries : List Entry) (after : Run D)
     → IsHistory on by (no_run outset) entries after → AreMessages (on.signers.kind_of by.signer) after
 
--- And a datagram of a member is answered by a message to it, if by any.
+-- And what sessions keep are messages to their members, a fourth message that of the session's own pull.
+abbrev pub SessionsKeepMessages : {D G V : Type 0} → Devices D G V → Keying G → Type 0
+SessionsKeepMessages {D} on by =
+    (outset : Outset D) (entries : List Entry) (after : Run D)
+    → IsHistory on by (no_run outset) entries after → KeptAreMessages (on.signers.kind_of by.signer) 0 after.host
+
+-- And a datagram of a member is answered by a message to it, if by any: of the present epoch, or as kept for the datagram that came last.
 abbrev pub MembersAreAnswered : {D G V : Type 0} → Devices D G V → Keying G → Type 0
 MembersAreAnswered {D} on by =
     (outset : Outset D) (before : List Entry) (run : Run D) (m : Name) (datagram octets : List ℕ)
     (names : Option SymReply) (outside : Outside) (next : Run D) → IsHistory on by (no_run outset) before run
     → IsRunStep on by before run (record { asked = Serve m datagram; outside = outside; answer = Datagram octets names }) next
-    → IsSentTo (on.signers.kind_of by.signer) next.host next.members.all m octets names
+    → AnswersMember (on.signers.kind_of by.signer) run.host next.host next.members.all m datagram octets names
 
--- And each reply of a batch is a fourth message to its member.
+-- And each reply of a batch is a fourth message to its member, with its keys since that batch.
 abbrev pub RepliesAreMessages : {D G V : Type 0} → Devices D G V → Keying G → Type 0
 RepliesAreMessages {D} on by =
     (outset : Outset D) (before : List Entry) (run : Run D) (output : Output) (outside : Outside) (next : Run D)
     → IsHistory on by (no_run outset) before run
     → IsRunStep on by before run (record { asked = Batch; outside = outside; answer = Batched output }) next
-    → All (λ (reply : SentReply). IsSentTo (on.signers.kind_of by.signer) next.host next.members.all reply.says.member reply.datagram (Some reply.says))
-    output.replies
+    → All (RepliesToMember (on.signers.kind_of by.signer) next.host next.members.all) output.replies

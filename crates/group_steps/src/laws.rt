@@ -6,7 +6,7 @@ ghost use Rattle.group_steps.specs.Devices.{Keying, devices};
 ghost use Rattle.group_steps.specs.Kinds.{EachStepIsOfAKind};
 ghost use Rattle.group_steps.specs.Laws.{LeavesValidList};
 ghost use Rattle.group_steps.specs.Moments.{MomentsEndHistories};
-ghost use Rattle.group_steps.specs.Mails.{MailIsOfTheGroup, MembersAreAnswered, RepliesAreMessages};
+ghost use Rattle.group_steps.specs.Mails.{MailIsOfTheGroup, MembersAreAnswered, RepliesAreMessages, SessionsKeepMessages};
 ghost use Rattle.group_steps.specs.Served.{CrashesLeaveServed, ServedAreRunSteps, ServedCountFaults, ServedReachMembers};
 ghost use Rattle.group_steps.specs.TrueSteps.{SureStepsAreTrue, TrueStepsGrow};
 
@@ -70,10 +70,11 @@ pub fn what_is_served_are_steps_of_a_run<D: Disk, G: Signer, V: Verifier>()
     a_crash_leaves_a_moment_of_the_history::<D, G, V>();
 }
 
-/// After each history each datagram that is on its way to a member is a message to it; so is what its own datagrams are answered by, and so is
-/// each reply of a batch.
+/// After each history each datagram that is on its way to a member is a message to it; so is what its session keeps, what its own datagrams are
+/// answered by, and each reply of a batch.
 pub fn mail_is_of_the_group<D: Disk, G: Signer, V: Verifier>()
     ensures mail { (verifier : V) (by : Keying G) → MailIsOfTheGroup (devices D.Disk G.Signer V.Verifier verifier) by }
+    ensures kept { (verifier : V) (by : Keying G) → SessionsKeepMessages (devices D.Disk G.Signer V.Verifier verifier) by }
     ensures answers { (verifier : V) (by : Keying G) → MembersAreAnswered (devices D.Disk G.Signer V.Verifier verifier) by }
     ensures replies { (verifier : V) (by : Keying G) → RepliesAreMessages (devices D.Disk G.Signer V.Verifier verifier) by }
 {

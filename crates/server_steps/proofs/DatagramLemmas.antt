@@ -2,6 +2,7 @@
 use Rattle.std.proofs.Common.{◌≡◌, ◌∙◌, ◌≤◌, ◌<◌, ℕ, zero, suc, Bool, true, false, List, [], ◌∷◌, length, get_or, Option, None, Some, Result, Ok, Err}
 use Rattle.std.proofs.Common.{refl, sym, ap, subst, inl, inr, arith}
 use Rattle.std.specs.Prelude.{Contains, IfSome, MatchBool, if◌then◌else◌}
+use Rattle.std.specs.Str.{bytes_eq}
 use Rattle.std.proofs.Math.Seq.{take-length}
 use Rattle.std.proofs.lemmas.Bool.{cases_Bool}
 use Rattle.gd_edges.specs.declared.signers.Signer.{Ghosts as SignerGhosts}
@@ -45,8 +46,8 @@ use Rattle.pull_sessions.specs.declared.refusals.SessionRefusal.{SessionRefusal}
 use Rattle.pull_sessions.specs.declared.sas.Sa.{Sa}
 use Rattle.pull_sessions.specs.declared.sas.Session.{Session}
 use Rattle.server_steps.specs.Hosts.{Host, with_server, with_sessions}
-use Rattle.server_steps.specs.Messages.{AnswersPeer, IsFourthTo, IsKeptTo, IsMessageOf, IsSecondTo, IsSound, KeepsMessage, KeptAreMessages}
-use Rattle.server_steps.specs.Messages.{SendsMessages}
+use Rattle.server_steps.specs.Messages.{AnswersPeer, IsAnswerNow, IsFourthTo, IsKeptTo, IsMessageNow, IsMessageOf, IsSecondTo, IsSound, KeepsMessage}
+use Rattle.server_steps.specs.Messages.{KeptAreMessages, SendsMessages}
 use Rattle.server_steps.specs.Outsides.{Says}
 use Rattle.server_steps.specs.Pulls.{AnswersFirst, AnswersFound, AnswersLook, AnswersThird, Begins, IsAnswering, Queues, Replies}
 use Rattle.server_steps.specs.Pulls.{nonce_next, present_policy, reply_now}
@@ -54,10 +55,10 @@ use Rattle.server_steps.specs.Refusals.{refusal_of, refusal_to_first, refusal_to
 use Rattle.server_steps.proofs.FitLemmas.{fits_joined}
 use Rattle.server_steps.proofs.GoesLemmas.{Goes, IsGood, IsWritten, no_item, not_opened, quiet, refused, same_sound, still}
 use Rattle.server_steps.proofs.GoesLemmas.{silent_queued, silent_refused}
-use Rattle.server_steps.proofs.LookLemmas.{IsPeer, its_peer}
+use Rattle.server_steps.proofs.LookLemmas.{IsPeer, its_peer, took_last}
 use Rattle.server_steps.proofs.SasLemmas.{IsOwn, each_own, found_has, put_keeps, put_phase, same_sa, same_session, still_apart}
 use Rattle.server_steps.proofs.SentLemmas.{has_begun, member_now, reply_of}
-use Rattle.server_steps.proofs.WaitLemmas.{its_name}
+use Rattle.server_steps.proofs.WaitLemmas.{its_name, same_self}
 
 -- the laws of lower crates that are needed
 pub record Needs : Type 0 where
@@ -104,6 +105,23 @@ allowed_later (Denied rule) later is = absurd (cc)
 pub not_queued : {step : Step} → is_queued step ≡ false → step ≡ steps.Queued → ⊥
 not_queued off is = cc (sym off ∙ ap is_queued is)
 
+-- of a message to a member, which answers a datagram
+module _ {D : Type 0} (kind : SignKind) (next : Host D) (phase : Phase1) (datagram octets : List ℕ) (names : Option SymReply) where
+  -- one of the present epoch answers what the session did not take last
+  fresh_answer : (session : Option Session) → false ≡ took_last session datagram → IsMessageNow kind next phase octets names
+      → IsAnswerNow kind next session phase datagram octets names
+  fresh_answer None new is = is
+  fresh_answer (Some session) new is =
+      subst (λ b. MatchBool b (session.kept ≡ kept.Datagram octets names) (IsMessageNow kind next phase octets names)) new is
+
+  -- what a session keeps answers what it took last
+  kept_answer : (held : Option Session) (session : Session) → held ≡ Some session → datagram ≡ session.last → kept.Datagram octets names ≡ session.kept
+      → IsAnswerNow kind next held phase datagram octets names
+  kept_answer held session has last is =
+      let same : bytes_eq datagram session.last ≡ true = ap (bytes_eq datagram) (sym last) ∙ same_self datagram in
+      subst (λ held. IsAnswerNow kind next held phase datagram octets names) (sym has)
+      (subst (λ b. MatchBool b (session.kept ≡ kept.Datagram octets names) (IsMessageNow kind next phase octets names)) (sym same) (sym is))
+
 module _ {D G : Type 0} (needs : Needs) (g : SignerGhosts G) (signer : G) (block : ℕ → List ℕ) {first : ℕ} {host : Host D} (entry : Entry)
     (good : IsGood (g.kind_of signer) first host) where
   abbrev kind : SignKind
@@ -121,7 +139,8 @@ module _ {D G : Type 0} (needs : Needs) (g : SignerGhosts G) (signer : G) (block
   module _ (asker : Name) (datagram : List ℕ) (asked : entry.asked ≡ Serve asker datagram) where
     -- a message is the answer to the peer whose cookies the datagram has
     module _ (made : Host D) (octets : List ℕ) (names : Option SymReply) (same : entry.answer ≡ Datagram octets names) (looked : Looked)
-        (peer : IsPeer sas datagram looked) (message : IsMessageOf kind first made peer.sa.phase octets names) (deep : 1 ≤ made.server.depth) where
+        (peer : IsPeer sas datagram looked) (message : IsMessageOf kind first made peer.sa.phase octets names)
+        (now : IsAnswerNow kind made peer.sa.session peer.sa.phase datagram octets names) (deep : 1 ≤ made.server.depth) where
       one_answer : (m : Name) (given sent : List ℕ) (says : Option SymReply) → entry.asked ≡ Serve m given → entry.answer ≡ Datagram sent says
           → AnswersPeer kind first host entry made given sent says
       one_answer m given sent says asks is =
@@ -129,7 +148,7 @@ module _ {D G : Type 0} (needs : Needs) (g : SignerGhosts G) (signer : G) (block
           let two : octets ≡ sent = those_octets (sym same ∙ is) in
           let three : names ≡ says = those_names (sym same ∙ is) in
           subst (λ (x : List ℕ × List ℕ × Option SymReply). AnswersPeer kind first host entry made x.0 x.1 x.2) (λ i. (one i, two i, three i))
-          (record { head = peer.head; has_header = peer.has_header; sa = peer.sa; is_there = peer.there; message = message })
+          (record { head = peer.head; has_header = peer.has_header; sa = peer.sa; is_there = peer.there; message = message; now = now })
 
       one_told : (says : Option SymReply) → IsMessageOf kind first made peer.sa.phase octets says → (reply : SymReply)
           → Contains (reply_in says) reply → IsReplyOf made.server.depth first (batches_made made.server.list) reply
@@ -162,12 +181,18 @@ module _ {D G : Type 0} (needs : Needs) (g : SignerGhosts G) (signer : G) (block
     -- ---- the answer is given again
 
     kept_by : (m : Name) (given : Kept) (from : IsAgainOf sas m datagram given)
-        → IsKeptTo kind first host.server.depth host.head.spi host.server.list from.sa.phase given
+        → IsKeptTo kind first host.server.depth host.head.spi host.server.list from.sa.phase from.session given
     kept_by m given from =
         let all : Keeps from.sa = found_has (is_of m) Keeps sas from.sa good.keeps from.has.is_there in
-        subst (IsKeptTo kind first host.server.depth host.head.spi host.server.list from.sa.phase) (sym from.answered)
+        subst (IsKeptTo kind first host.server.depth host.head.spi host.server.list from.sa.phase from.session) (sym from.answered)
         (subst (λ (session : Option Session). IfSome session (λ (one : Session).
-        IsKeptTo kind first host.server.depth host.head.spi host.server.list from.sa.phase one.kept)) from.has.has all)
+        IsKeptTo kind first host.server.depth host.head.spi host.server.list from.sa.phase one one.kept)) from.has.has all)
+
+    kept_message : (phase : Phase1) (session : Session) (octets : List ℕ) (names : Option SymReply)
+        → IsKeptTo kind first host.server.depth host.head.spi host.server.list phase session (kept.Datagram octets names)
+        → IsMessageOf kind first host phase octets names
+    kept_message phase session octets None is = is
+    kept_message phase session octets (Some says) is = is.message
 
     again : (next : Host D) (outside : Outside) (m : Name) (given : Kept) → IsLook sas datagram (Ok (record { member = m; what = Repeat given }))
         → AnswersFound g signer block host (Repeat given) m datagram entry.answer outside next → GoesTo next
@@ -177,7 +202,10 @@ module _ {D G : Type 0} (needs : Needs) (g : SignerGhosts G) (signer : G) (block
         let from = needs.again_found sas m datagram (kept.Datagram octets names) good.sound.apart look in
         let same : from.sa ≡ peer.sa = same_sa sas m from.has.is_there (peer_there looked peer) in
         answered host octets names says.answers looked peer
-        (subst (λ (sa : Sa). IsMessageOf kind first host sa.phase octets names) same (kept_by m (kept.Datagram octets names) from))
+        (subst (λ (sa : Sa). IsMessageOf kind first host sa.phase octets names) same
+        (kept_message from.sa.phase from.session octets names (kept_by m (kept.Datagram octets names) from)))
+        (kept_answer kind host peer.sa.phase datagram octets names peer.sa.session from.session (ap (λ (sa : Sa). sa.session) (sym same) ∙ from.has.has)
+        from.same from.answered)
         good.sound.deep next says.stays good.sound good.keeps
     again next outside m kept.Queued look says = still entry good next Queued says.stays says.answers silent_queued refl
 
@@ -194,24 +222,28 @@ module _ {D G : Type 0} (needs : Needs) (g : SignerGhosts G) (signer : G) (block
         let nr : List ℕ = nonce_next g signer block host in
         let begun : Session = begun_session said nr datagram (kept.Datagram step.second None) in
         let made : Host D = record host { server = after_draws host.server 1; sessions = with_session host.sessions m begun } in
+        let text : IsSomeSecond step.sa.phase nr (present_policy host.head.spi kind host.server.list) step.second = record {
+          message = said.message;
+          iv = said.next_iv;
+          ni = said.ni;
+          message_size = sizes.0;
+          iv_size = sizes.1;
+          nr_fits = step.nonce_fits;
+          policies_fit = step.policy_fits;
+          is_text = step.is_text;
+        } in
         let second : IsSecondTo kind first host.server.depth host.head.spi host.server.list step.sa.phase step.second = record {
           epoch = length host.server.list;
           within = omega arith;
           nr = nr;
           is_text = subst (λ front. IsSomeSecond step.sa.phase nr (present_policy host.head.spi kind front) step.second)
-              (sym (take-length host.server.list)) (record {
-                message = said.message;
-                iv = said.next_iv;
-                ni = said.ni;
-                message_size = sizes.0;
-                iv_size = sizes.1;
-                nr_fits = step.nonce_fits;
-                policies_fit = step.policy_fits;
-                is_text = step.is_text;
-              });
+              (sym (take-length host.server.list)) text;
         } in
         answered made step.second None step.becomes.answers looked peer
-        (subst (λ (sa : Sa). IsMessageOf kind first host sa.phase step.second None) same second) good.sound.deep next step.becomes.now
+        (subst (λ (sa : Sa). IsMessageOf kind first host sa.phase step.second None) same second)
+        (fresh_answer kind made peer.sa.phase datagram step.second None peer.sa.session peer.repeats
+        (subst (λ (sa : Sa). IsMessageNow kind host sa.phase step.second None) same (nr, text)))
+        good.sound.deep next step.becomes.now
         (record {
           deep = good.sound.deep;
           valid = good.sound.valid;
@@ -268,7 +300,9 @@ module _ {D G : Type 0} (needs : Needs) (g : SignerGhosts G) (signer : G) (block
             is_text = step.is_text;
           } in
           answered made step.fourth (Some says) step.becomes.answers looked peer
-          (subst (λ (sa : Sa). IsMessageOf kind first host sa.phase step.fourth (Some says)) same fourth) good.sound.deep next step.becomes.now
+          (subst (λ (sa : Sa). IsMessageOf kind first host sa.phase step.fourth (Some says)) same fourth)
+          (fresh_answer kind made peer.sa.phase datagram step.fourth (Some says) peer.sa.session peer.repeats refl)
+          good.sound.deep next step.becomes.now
           (record {
             deep = good.sound.deep;
             valid = good.sound.valid;
@@ -277,7 +311,7 @@ module _ {D G : Type 0} (needs : Needs) (g : SignerGhosts G) (signer : G) (block
             written = put_keeps IsWritten sas m (Some session) step.sa good.sound.apart step.has.is_there (λ is. absurd (not_queued refl is))
                 good.sound.written;
           })
-          (put_keeps Keeps sas m (Some session) step.sa good.sound.apart step.has.is_there fourth good.keeps)
+          (put_keeps Keeps sas m (Some session) step.sa good.sound.apart step.has.is_there (record { message = fourth; own = step.is_text }) good.keeps)
 
       queues : (next : Host D) (outside : Outside) → is_member (members_now host.server) m ≡ false → refusal_to_third host.rules host.server m ≡ None
           → Queues g signer block host m third datagram entry.answer outside next → GoesTo next

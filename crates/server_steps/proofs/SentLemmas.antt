@@ -23,6 +23,7 @@ use Rattle.group_model.specs.declared.entries.SymReply.{SymReply}
 use Rattle.pull_msgs.specs.Sent.{IsSomeSecond}
 use Rattle.pull_sessions.specs.declared.answers.Kept.{Kept}
 use Rattle.pull_sessions.specs.declared.answers.Kept.TheVariants as kept
+use Rattle.pull_sessions.specs.declared.sas.Session.{Session}
 use Rattle.server_steps.specs.Messages.{IsFourthTo, IsKeptTo, IsSecondTo}
 use Rattle.server_steps.specs.Pulls.{present_policy}
 
@@ -129,10 +130,12 @@ module _ (laws : Laws) (kind : SignKind) (first depth : ℕ) (spi : List ℕ) (l
         is_text = is.is_text;
       }
 
-  pub kept_more : (given : Kept) → IsKeptTo kind first depth spi list phase given → IsKeptTo kind first depth spi (list ++ later) phase given
-  kept_more (kept.Datagram octets None) is = second_more octets is
-  kept_more (kept.Datagram octets (Some says)) is = fourth_more octets says is
-  kept_more kept.Queued is = tt
+  pub kept_more : (session : Session) (given : Kept) → IsKeptTo kind first depth spi list phase session given
+      → IsKeptTo kind first depth spi (list ++ later) phase session given
+  unfolding fourth_more
+  kept_more session (kept.Datagram octets None) is = second_more octets is
+  kept_more session (kept.Datagram octets (Some says)) is = record { message = fourth_more octets says is.message; own = is.own }
+  kept_more session kept.Queued is = tt
 
 -- a fourth message tells a member its keys
 pub reply_of : (kind : SignKind) (first depth : ℕ) (spi : List ℕ) (list : List Made) (phase : Phase1) (octets : List ℕ) (says : SymReply) → 1 ≤ depth

@@ -25,13 +25,15 @@ use Rattle.group_model.specs.declared.entries.Output.{Output}
 use Rattle.group_model.specs.declared.entries.Outside.{Outside}
 use Rattle.group_model.specs.declared.entries.SentReply.{SentReply}
 use Rattle.group_model.specs.declared.entries.SymReply.{SymReply}
+use Rattle.pull_sessions.specs.Builds.{IsFourthOf, settled_session}
 use Rattle.pull_sessions.specs.Sessions.{is_of, is_queued, sa_of}
+use Rattle.pull_sessions.specs.declared.answers.Kept.TheVariants as kept
 use Rattle.pull_sessions.specs.declared.sas.Sa.{Sa}
 use Rattle.pull_sessions.specs.declared.sas.Session.{Session}
 use Rattle.server_steps.specs.Batches.{IsStored, drawn_next, list_next, made_next}
 use Rattle.server_steps.specs.Fourths.{IsFourthReply, reply_to, settle, settled, settled_by, settled_in}
 use Rattle.server_steps.specs.Hosts.{Host}
-use Rattle.server_steps.specs.Messages.{HasSizes, IsFourthTo, IsKeptTo, IsSound, KeepsMessage, KeptAreMessages}
+use Rattle.server_steps.specs.Messages.{HasSizes, IsFourthTo, IsKeptTo, IsOwnFourth, IsSound, KeepsMessage, KeptAreMessages}
 use Rattle.server_steps.specs.Messages.{RepliesToPeer, SendsMessages}
 use Rattle.server_steps.proofs.DatagramLemmas.{Needs, no_other, not_queued}
 use Rattle.server_steps.proofs.FitLemmas.{fit_more}
@@ -121,6 +123,10 @@ module _ {D G : Type 0} (needs : Needs) (d : DiskGhosts D) (g : SignerGhosts G) 
       sa : Sa
       there : sa_of sas reply.says.member ≡ Some sa
       message : IsFourthTo kind first host.server.depth host.head.spi list_after sa.phase reply.datagram reply.says
+      now : reply.says.keyed_epoch ≡ length list_after
+      session : Session
+      has : sa.session ≡ Some session
+      own : IsFourthOf sa.phase session session.iv message.keyed reply.datagram
 
     to_peer : (reply : SentReply) → IsSaid reply.says → IsFourthReply host.server.depth host.head.spi list_after sas reply → IsToPeer reply
     to_peer reply said is =
@@ -149,6 +155,10 @@ module _ {D G : Type 0} (needs : Needs) (d : DiskGhosts D) (g : SignerGhosts G) 
             iv_size = sizes.1;
             is_text = is.is_text;
           };
+          now = epoch;
+          session = is.session;
+          has = is.has.has;
+          own = is.is_text;
         }
 
     all_to_peers : All IsToPeer stored.output.replies
@@ -164,37 +174,49 @@ module _ {D G : Type 0} (needs : Needs) (d : DiskGhosts D) (g : SignerGhosts G) 
 
     module _ (sa : Sa) (own : IsOwn sas sa) where
       abbrev IsKeptAfter : Session → Type 0
-      IsKeptAfter session = IsKeptTo kind first host.server.depth host.head.spi list_after sa.phase session.kept
+      IsKeptAfter session = IsKeptTo kind first host.server.depth host.head.spi list_after sa.phase session session.kept
 
-      replied : (session : Session) (found : Option SentReply) → reply_to stored.output.replies sa.phase.member ≡ found → IsKeptAfter session
-          → IsKeptAfter (settled_by session found)
-      replied session None is was = was
-      replied session (Some reply) is was =
+      -- what the session of a reply's SA keeps that is settled by it
+      settled_keeps : (reply : SentReply) (peer : IsToPeer reply) (session : Session) → peer.sa.session ≡ Some session
+          → IsOwnFourth kind first host.server.depth host.head.spi list_after peer.sa.phase
+          (settled_session session (kept.Datagram reply.datagram (Some reply.says))) reply.datagram reply.says
+      settled_keeps reply peer session has = record {
+        message = peer.message;
+        own = subst (λ (session : Session). IsFourthOf peer.sa.phase session session.iv peer.message.keyed reply.datagram) (only (sym peer.has ∙ has)) peer.own;
+      }
+
+      replied : (session : Session) (found : Option SentReply) → sa.session ≡ Some session → reply_to stored.output.replies sa.phase.member ≡ found
+          → IsKeptAfter session → IsKeptAfter (settled_by session found)
+      replied session None has is was = was
+      replied session (Some reply) has is was =
           let peer = found_has (λ (reply : SentReply). same_name reply.says.member sa.phase.member) IsToPeer stored.output.replies reply all_to_peers is in
           let its : reply.says.member ≡ sa.phase.member =
           is_same reply.says.member sa.phase.member
           (found_passes (λ (reply : SentReply). same_name reply.says.member sa.phase.member) stored.output.replies reply is) in
           let same : peer.sa ≡ sa = only (sym peer.there ∙ ap (sa_of sas) its ∙ own) in
-          subst (λ (one : Sa). IsFourthTo kind first host.server.depth host.head.spi list_after one.phase reply.datagram reply.says) same peer.message
+          subst (λ (one : Sa). IsOwnFourth kind first host.server.depth host.head.spi list_after one.phase
+          (settled_session session (kept.Datagram reply.datagram (Some reply.says))) reply.datagram reply.says) same
+          (settled_keeps reply peer session (ap (λ (sa : Sa). sa.session) same ∙ has))
 
-      one_kept : (session : Session) → IsKeptAfter session → IsKeptAfter (settled_in stored.output.replies sa.phase.member session)
-      one_kept session was = elim (cases_Bool (is_queued session.step)) [
+      one_kept : (session : Session) → sa.session ≡ Some session → IsKeptAfter session
+          → IsKeptAfter (settled_in stored.output.replies sa.phase.member session)
+      one_kept session has was = elim (cases_Bool (is_queued session.step)) [
         | inl waits ↦
             subst IsKeptAfter
             (sym (cond-true (is_queued session.step) (settled_by session (reply_to stored.output.replies sa.phase.member)) session waits))
-            (replied session (reply_to stored.output.replies sa.phase.member) refl was)
+            (replied session (reply_to stored.output.replies sa.phase.member) has refl was)
         | inr rests ↦
             subst IsKeptAfter
             (sym (cond-false (is_queued session.step) (settled_by session (reply_to stored.output.replies sa.phase.member)) session rests)) was
       ]
 
-      keeps_after : (session : Option Session)
-          → IfSome session (λ (one : Session). IsKeptTo kind first host.server.depth host.head.spi host.server.list sa.phase one.kept)
+      keeps_after : (session : Option Session) → sa.session ≡ session
+          → IfSome session (λ (one : Session). IsKeptTo kind first host.server.depth host.head.spi host.server.list sa.phase one one.kept)
           → IfSome (option_map (settled_in stored.output.replies sa.phase.member) session) IsKeptAfter
-      keeps_after None was = tt
-      keeps_after (Some session) was =
-          one_kept session
-          (kept_more needs.laws kind first host.server.depth host.head.spi host.server.list (made_after ∷ []) sa.phase session.kept was)
+      keeps_after None has was = tt
+      keeps_after (Some session) has was =
+          one_kept session has
+          (kept_more needs.laws kind first host.server.depth host.head.spi host.server.list (made_after ∷ []) sa.phase session session.kept was)
 
     replied_sizes : (session : Session) (found : Option SentReply) → HasSizes session → HasSizes (settled_by session found)
     replied_sizes session None was = was
@@ -215,7 +237,7 @@ module _ {D G : Type 0} (needs : Needs) (d : DiskGhosts D) (g : SignerGhosts G) 
     stored_kept : KeptAreMessages kind first host_after
     stored_kept =
         All-map KeepsAfter (settle stored.output.replies) sas
-        (λ k d less. keeps_after (get_or sas k d) (each_own sas good.sound.apart.members k d less) (get_or sas k d).session (good.keeps k d less))
+        (λ k d less. keeps_after (get_or sas k d) (each_own sas good.sound.apart.members k d less) (get_or sas k d).session refl (good.keeps k d less))
 
     stored_sound : IsSound host_after
     stored_sound = record {
@@ -234,7 +256,7 @@ module _ {D G : Type 0} (needs : Needs) (d : DiskGhosts D) (g : SignerGhosts G) 
       answers = λ m datagram octets names asks is. absurd (no_other (sym is ∙ stored.answers));
       replies = λ output is.
           subst (λ (given : Output). All (RepliesToPeer kind first host entry host_after) given.replies) (that_output (sym stored.answers ∙ is))
-          (λ k d less. let peer = all_to_peers k d less in record { sa = peer.sa; is_there = peer.there; message = peer.message });
+          (λ k d less. let peer = all_to_peers k d less in record { sa = peer.sa; is_there = peer.there; message = peer.message; now = peer.now });
       tells = λ reply c.
           (All-contains IsSaid (says_of stored.output.replies) reply replies_said (subst (λ told. Contains told reply) (ap replies_in stored.answers) c)).tells;
     }

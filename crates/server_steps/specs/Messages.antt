@@ -1,5 +1,6 @@
 -- The messages that a key server sends in its sessions, and keeps so as to send them again (RFC 6407 section 3.2).
-use Rattle.std.specs.Prelude.{◌≡◌, ◌≤◌, ℕ, true, List, ◌++◌, length, take, All, Contains, IfSome, Option, None, Some, Ok}
+use Rattle.std.specs.Prelude.{◌≡◌, ◌≤◌, ℕ, MatchBool, true, List, ◌++◌, length, take, All, Contains, IfSome, Option, None, Some, Ok}
+use Rattle.std.specs.Str.{bytes_eq}
 use Rattle.gd_disk.specs.declared.disks.Disk.{Ghosts as DiskGhosts}
 use Rattle.gd_edges.specs.declared.signers.Signer.{Ghosts as SignerGhosts}
 use Rattle.gd_wire.specs.Headers.{header}
@@ -25,6 +26,7 @@ use Rattle.group_model.specs.declared.entries.SentReply.{SentReply}
 use Rattle.group_model.specs.declared.entries.SymReply.{SymReply}
 use Rattle.pull_msgs.specs.Sent.{IsSomeSecond}
 use Rattle.pull_msgs.specs.Texts.{IsPullText, fourth_message, pull_exchange}
+use Rattle.pull_sessions.specs.Builds.{IsFourthOf}
 use Rattle.pull_sessions.specs.Sessions.{AreApart, sa_of, sa_with}
 use Rattle.pull_sessions.specs.declared.answers.Kept.{Kept}
 use Rattle.pull_sessions.specs.declared.answers.Kept.TheVariants as kept
@@ -69,14 +71,21 @@ module _ (kind : SignKind) (first depth : ℕ) (spi : List ℕ) (list : List Mad
   IsMessageTo phase octets None = IsSecondTo phase octets
   IsMessageTo phase octets (Some says) = IsFourthTo phase octets says
 
-  -- an answer that is kept is one, if it is a datagram
-  abbrev pub IsKeptTo : Phase1 → Kept → Type 0
-  IsKeptTo phase (kept.Datagram octets names) = IsMessageTo phase octets names
-  IsKeptTo phase kept.Queued = Unit {0}
+  -- A session keeps the fourth message of its own pull: it has that one's message id and nonces, and is written under the IV that its third message left (RFC
+  -- 2409 appendix B).
+  pub record IsOwnFourth (phase : Phase1) (session : Session) (octets : List ℕ) (says : SymReply) : Type 0 where
+    pub message : IsFourthTo phase octets says
+    pub own : IsFourthOf phase session session.iv message.keyed octets
+
+  -- what a session keeps is such a message, if it is a datagram
+  abbrev pub IsKeptTo : Phase1 → Session → Kept → Type 0
+  IsKeptTo phase session (kept.Datagram octets None) = IsSecondTo phase octets
+  IsKeptTo phase session (kept.Datagram octets (Some says)) = IsOwnFourth phase session octets says
+  IsKeptTo phase session kept.Queued = Unit {0}
 
   -- an SA's session keeps one
   abbrev pub KeepsMessage : Sa → Type 0
-  KeepsMessage sa = IfSome sa.session (λ (session : Session). IsKeptTo sa.phase session.kept)
+  KeepsMessage sa = IfSome sa.session (λ (session : Session). IsKeptTo sa.phase session session.kept)
 
 -- A message of a group stays one while batches come.
 abbrev pub MessagesStay : Type 0
@@ -108,6 +117,19 @@ module _ {D : Type 0} (kind : SignKind) (first : ℕ) (host : Host D) where
   abbrev pub KeptAreMessages : Type 0
   KeptAreMessages = All (KeepsMessage kind first host.server.depth host.head.spi host.server.list) host.sessions.sas
 
+-- by the batches that a server has now
+module _ {D : Type 0} (kind : SignKind) (host : Host D) where
+  -- a message of the present epoch: a second one has the present policies, a fourth one the keys of that epoch
+  abbrev pub IsMessageNow : Phase1 → List ℕ → Option SymReply → Type 0
+  IsMessageNow phase octets None = (nr : List ℕ) × IsSomeSecond phase nr (present_policy host.head.spi kind host.server.list) octets
+  IsMessageNow phase octets (Some says) = says.keyed_epoch ≡ length host.server.list
+
+  -- By the session that there was: the datagram that it took last is answered by what it keeps, word for word, and any other by a message of the present epoch.
+  abbrev pub IsAnswerNow : Option Session → Phase1 → List ℕ → List ℕ → Option SymReply → Type 0
+  IsAnswerNow None phase datagram octets names = IsMessageNow phase octets names
+  IsAnswerNow (Some session) phase datagram octets names =
+      MatchBool (bytes_eq datagram session.last) (session.kept ≡ kept.Datagram octets names) (IsMessageNow phase octets names)
+
 -- what a server sent since an epoch where it answered so, by which its host is this one then
 module _ {D : Type 0} (kind : SignKind) (first : ℕ) (host : Host D) (entry : Entry) (next : Host D) where
   -- a datagram was answered by a message to the member of the SA whose cookies it has
@@ -117,12 +139,14 @@ module _ {D : Type 0} (kind : SignKind) (first : ℕ) (host : Host D) (entry : E
     pub sa : Sa
     pub is_there : sa_with host.sessions.sas head.cookies ≡ Some sa
     pub message : IsMessageOf kind first next sa.phase octets names
+    pub now : IsAnswerNow kind next sa.session sa.phase datagram octets names
 
-  -- a reply of a batch is a fourth message to the member of an SA
+  -- a reply of a batch is a fourth message to the member of an SA, with the keys of the epoch that the batch made
   pub record RepliesToPeer (reply : SentReply) : Type 0 where
     pub sa : Sa
     pub is_there : sa_of host.sessions.sas reply.says.member ≡ Some sa
     pub message : IsMessageOf kind first next sa.phase reply.datagram (Some reply.says)
+    pub now : reply.says.keyed_epoch ≡ length next.server.list
 
   -- each datagram that was sent is such a message, and each reply tells a member its keys
   pub record SendsMessages : Type 0 where

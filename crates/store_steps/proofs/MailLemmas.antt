@@ -12,6 +12,7 @@ use Rattle.group_terms.specs.declared.signatures.SignKind.{SignKind}
 use Rattle.group_values.specs.Values.{Made, batches_made}
 use Rattle.group_keys.specs.Replies.{IsKeyedOf}
 use Rattle.group_model.specs.Places.{holders_at, is_member}
+use Rattle.group_model.specs.Stayed.{sequence_at}
 use Rattle.group_model.specs.declared.entries.Answer.{Answer}
 use Rattle.group_model.specs.declared.entries.Entry.{Entry}
 use Rattle.group_model.specs.declared.entries.SymReply.{SymReply}
@@ -64,6 +65,7 @@ pub record TellsLaws : Type 0 where
 -- what a message tells a member: its keys of an epoch
 pub record Tells {D : Type 0} (kind : SignKind) (run : Run D) (m : Name) (octets : List ℕ) (keyed : Keyed) : Type 0 where
   pub says : SymReply
+  pub number : says.sequence ≡ sequence_at run.host.server.depth (batches_made run.host.server.list) says.keyed_epoch
   pub sent : IsSentTo kind run.host run.members.all m octets (Some says)
   pub early : says.keyed_epoch ≤ length run.host.server.list
   pub member : is_member (holders_in run says.keyed_epoch) m ≡ true
@@ -71,7 +73,7 @@ pub record Tells {D : Type 0} (kind : SignKind) (run : Run D) (m : Name) (octets
 
 module _ (laws : TellsLaws) where
   -- what a member is told can be written
-  reply_fits : (depth epoch : ℕ) (spi : List ℕ) (list : List Made) (m : Name) (keyed : Keyed) → IsKeyedGroup depth spi list → epoch ≤ length list
+  pub reply_fits : (depth epoch : ℕ) (spi : List ℕ) (list : List Made) (m : Name) (keyed : Keyed) → IsKeyedGroup depth spi list → epoch ≤ length list
       → is_member (holders_at depth (batches_made list) epoch) m ≡ true → IsKeyedOf depth spi (take epoch list) m keyed → ReplyFits keyed
   reply_fits depth epoch spi list m keyed group early member keys =
       let reply = (laws.reply depth epoch spi list m keyed group early member keys).0 in
@@ -120,6 +122,7 @@ module _ (laws : TellsLaws) where
         laws.as_written old ended octets message.keyed taken fits (subst (λ phase. IsSomeFourth phase message.keyed octets) (sym under) written) fourth in
         record {
           says = says;
+          number = ap (λ (reply : SymReply). reply.sequence) message.names;
           sent = sent;
           early = message.within;
           member = member;

@@ -17,6 +17,7 @@ use Rattle.member_pull.specs.Views.{Pull}
 use Rattle.member_pull.specs.declared.pulls.Step.{Step}
 use Rattle.member_pull.specs.declared.pulls.Step.TheVariants as steps
 use Rattle.member_pull.specs.declared.refusals.PullRefusal.{PullRefusal}
+use Rattle.member_store.specs.Stores.{Store, store_of as store_made}
 use Rattle.group_steps.specs.ChainLaws.{along_keeps}
 use Rattle.group_steps.specs.Devices.{Devices, Keying}
 use Rattle.group_steps.specs.Runs.{Outset, Run, no_run, with_members}
@@ -115,24 +116,30 @@ module _ (laws : PullsFit) where
     told = fit_told;
   }
 
-  -- ---- after each history
+-- ---- after each history
 
+-- what each peer keeps, whatever store it has
+module _ (Q : Peer → Type 0) (kept : IsKept Q) (any_store : (peer : Peer) (store : Store) → Q peer → Q (record peer { store = Some store })) where
   module _ {D G V : Type 0} (on : Devices D G V) (by : Keying G) where
-    abbrev AreFit : List Entry → Run D → Type 0
-    AreFit before run = All IsFit run.members.all
+    abbrev AreSo : List Entry → Run D → Type 0
+    AreSo before run = All Q run.members.all
 
-    fit_step : (before : List Entry) (run : Run D) (entry : Entry) (next : Run D) → AreFit before run → IsRunStep on by before run entry next
-        → AreFit (before) next
-    fit_step before run entry next fit step =
-        all_answered IsFit fit_kept on by before (with_members run step.acted) entry.answer entry.outside next
-        (λ m all keeping. all_kept IsFit fit_kept m step.acted entry.answer next.members all
-        (λ fourth peer named fit. record { phase = fit.phase; pull = fit.pull }) keeping)
-        (λ m number all given. all_delivered IsFit fit_kept on.verifiers on.verifier m step.acted entry.answer next.members _ _ all
-        (λ store push now result had is accepts peer named fit. record { phase = fit.phase; pull = fit.pull }) given)
-        (all_after IsFit fit_kept by.members_block by.group run.members step.acted fit step.acts) entry.asked step.answered.answered
+    step_keeps : (before : List Entry) (run : Run D) (entry : Entry) (next : Run D) → AreSo before run → IsRunStep on by before run entry next
+        → AreSo before next
+    step_keeps before run entry next so step =
+        all_answered Q kept on by before (with_members run step.acted) entry.answer entry.outside next
+        (λ m all keeping. all_kept Q kept m step.acted entry.answer next.members all (λ fourth peer named so. any_store peer (store_made fourth.keyed) so)
+        keeping)
+        (λ m number all given. all_delivered Q kept on.verifiers on.verifier m step.acted entry.answer next.members _ _ all
+        (λ store push now result had is accepts peer named so. any_store peer now so) given)
+        (all_after Q kept by.members_block by.group run.members step.acted so step.acts) entry.asked step.answered.answered
 
-    pub fit_after : (outset : Outset D) (entries : List Entry) (after : Run D) → IsHistory on by (no_run outset) entries after
-        → All IsFit after.members.all
-    fit_after outset entries after history =
-        along_keeps (IsRunStep on by) AreFit (λ before run entry next fit step. fit_step before run entry next fit step) [] (no_run outset) entries after
-        (All-nil IsFit) history.steps
+    pub each_after : (outset : Outset D) (entries : List Entry) (after : Run D) → IsHistory on by (no_run outset) entries after → All Q after.members.all
+    each_after outset entries after history =
+        along_keeps (IsRunStep on by) AreSo (λ before run entry next so step. step_keeps before run entry next so step) [] (no_run outset) entries after
+        (All-nil Q) history.steps
+
+module _ (laws : PullsFit) {D G V : Type 0} (on : Devices D G V) (by : Keying G) where
+  pub fit_after : (outset : Outset D) (entries : List Entry) (after : Run D) → IsHistory on by (no_run outset) entries after
+      → All IsFit after.members.all
+  fit_after = each_after IsFit (fit_kept laws) (λ peer store fit. record { phase = fit.phase; pull = fit.pull }) on by

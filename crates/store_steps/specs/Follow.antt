@@ -67,17 +67,22 @@ module _ {D : Type 0} where
 
 -- ---- what a member is told
 
+-- what is told is older than what a store has: by the last number, and then by the epoch of the root
+abbrev pub IsOlder : Store → SymReply → Type 0
+IsOlder store says = (says.sequence < store.sequence) ⊎ ((says.sequence ≡ store.sequence) × (says.keyed_epoch < root_epoch store))
+
 module _ {D : Type 0} where
   -- the store of a member is what it was
   abbrev pub KeepsItsStore : Run D → Name → Run D → Type 0
   KeepsItsStore run m next = store_of next.members.all m ≡ store_of run.members.all m
 
-  -- By the answer where a member is told the keys that it had at an epoch (RFC 6407 section 3.2): it has all of them then; or its store is at the root of a
-  -- later epoch, and stays.
-  abbrev pub IsKeptAt : Run D → ℕ → Name → Answer → Run D → Type 0
-  IsKeptAt run epoch m answer next =
-      ((answer ≡ Kept epoch) × HasThen next m (HasKeysThen run epoch m))
-      ⊎ ((last got : ℕ) × (answer ≡ Older last got) × KeepsItsStore run m next × HasThen next m (λ (now : Store). epoch < root_epoch now))
+  -- By the answer where a member is told the keys that it had at an epoch (RFC 6407 section 3.2): they are not older than what its store has, if it has one, and
+  -- it has all of them then; or they are older, its store is at the root of a later epoch, and stays.
+  abbrev pub IsKeptAt : Run D → SymReply → Name → Answer → Run D → Type 0
+  IsKeptAt run says m answer next =
+      ((answer ≡ Kept says.keyed_epoch) × (HasThen run m (λ (store : Store). IsOlder store says) → ⊥) × HasThen next m (HasKeysThen run says.keyed_epoch m))
+      ⊎ (KeepsItsStore run m next
+      × HasThen next m (λ (now : Store). (answer ≡ Older now.sequence says.sequence) × IsOlder now says × (says.keyed_epoch < root_epoch now)))
 
   -- a fourth message on its way to it tells it those of the epoch that this says
   pub record IsToldKeys (kind : SignKind) (run : Run D) (m : Name) (answer : Answer) (next : Run D) : Type 0 where
@@ -85,7 +90,7 @@ module _ {D : Type 0} where
     pub says : SymReply
     pub on_its_way : Contains run.members.mail (m, octets)
     pub sent : IsSentTo kind run.host run.members.all m octets (Some says)
-    pub kept : IsKeptAt run says.keyed_epoch m answer next
+    pub kept : IsKeptAt run says m answer next
 
   -- or the datagram went missing, and its store stays
   abbrev pub TakesOrLoses : SignKind → Run D → Name → Answer → Run D → Type 0

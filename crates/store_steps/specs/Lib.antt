@@ -1,2 +1,3 @@
 pub mod Follow
+pub mod Fourths
 pub mod Stores

@@ -2,6 +2,7 @@
 ghost use Rattle.group_steps.specs.Devices.{Keying, devices};
 ghost use Rattle.store_steps.specs.Follow.{MembershipPushesAreTaken, OpenedGroupsHaveKeys, OthersAreRefused, RepliesAreKept};
 ghost use Rattle.store_steps.specs.Follow.{StoresAreOfTheGroup, TrafficPushesAreTaken};
+ghost use Rattle.store_steps.specs.Fourths.{OwnFourthsAreTaken};
 
 use gd_disk::Disk;
 use gd_edges::{Signer, Verifier};
@@ -10,7 +11,9 @@ use group_steps::{
     a_history_leaves_a_valid_list, each_moment_ends_a_history, each_step_is_of_a_kind,
     mail_is_of_the_group,
 };
-use member_pull::{a_pull_always_fits, a_pull_takes_messages_as_they_were_written};
+use member_pull::{
+    a_pull_always_fits, a_pull_gives_the_keys, a_pull_takes_messages_as_they_were_written,
+};
 use member_roots::{
     a_due_push_is_taken, a_later_reply_is_not_older, a_member_that_left_finds_no_path,
     a_push_under_another_root_is_malformed, a_repeated_push_is_stale, a_reply_can_be_written,
@@ -42,13 +45,31 @@ pub fn each_store_is_one_of_the_group<D: Disk, G: Signer, V: Verifier>()
     a_sent_push_leaves_a_store_of_its_group::<G, V>();
 }
 
-/// After a history a member keeps what it is told, if it has no store yet or one of the group, unless that is at the root of a later epoch.
+/// After a history a member keeps what it is told, if it has no store yet or one of the group, unless that is older than what its store has, which is at the
+/// root of a later epoch then.
 pub fn a_reply_is_kept_in_a_history<D: Disk, G: Signer, V: Verifier>()
     ensures { (verifier : V) (by : Keying G) → RepliesAreKept (devices D.Disk G.Signer V.Verifier verifier) by }
 {
+    first_epochs_stay();
     an_opened_group_has_keys::<D, G, V>();
     mail_is_of_the_group::<D, G, V>();
     a_pull_always_fits();
+    a_pull_takes_messages_as_they_were_written();
+    a_reply_can_be_written();
+    a_reply_is_at_its_root();
+    a_later_reply_is_not_older();
+}
+
+/// After a history a member does not ignore the fourth message that its session keeps, where its pull is in step with that session, but keeps its
+/// keys, if it has no store yet or one of the group, unless that is at the root of a later epoch; or the datagram goes missing.
+pub fn an_own_fourth_message_is_taken_in_a_history<D: Disk, G: Signer, V: Verifier>()
+    ensures { (verifier : V) (by : Keying G) → OwnFourthsAreTaken (devices D.Disk G.Signer V.Verifier verifier) by }
+{
+    first_epochs_stay();
+    an_opened_group_has_keys::<D, G, V>();
+    mail_is_of_the_group::<D, G, V>();
+    a_pull_always_fits();
+    a_pull_gives_the_keys();
     a_pull_takes_messages_as_they_were_written();
     a_reply_can_be_written();
     a_reply_is_at_its_root();

@@ -7,6 +7,7 @@ use Rattle.console_run.specs.Causes.{Given}
 use Rattle.group_steps.specs.Devices.{devices, keying}
 use Rattle.console_run.specs.Promises.{Promises, most_phases, request_of, start_of, streams_of}
 use Rattle.console_run.specs.Names.{console_name}
+use Rattle.console_run.proofs.FourthLemmas.{takes_own_fourths}
 use Rattle.console_run.proofs.PromiseLemmas.{leaves_moments, opens_group, ran_history, ran_whole}
 use Rattle.console_run.proofs.ServeLemmas.{few_at, history_at, serves_along, true_at, valid_at}
 use Rattle.console_run.proofs.StoreLemmas.{keeps_replies, stores_follow}
@@ -19,7 +20,7 @@ returns-in-Some-clause-run g c =
     let place = g.R.Draws.place_of c.args.draws in
     let members_place = g.P.Draws.place_of c.args.peers.now in
     let command = c.in-Some.field-0 in
-    let ran = c.run_words.ensures command (sym c.in-Some.ensures.command) in
+    let ran = c.run_words.ensures.runs command (sym c.in-Some.ensures.command) in
     let had = g.S.Source.shows c.args.script.now in
     let left = g.S.Source.shows c.run_words.new.script in
     let was = g.K.Sink.shows c.args.out.now in
@@ -68,6 +69,8 @@ returns-in-Some-clause-run g c =
               (history_at on by ends lists outset entries ran.after history front mid moment);
           replies = keeps_replies on by ends outset entries ran.after history
               (c.a_reply_is_kept_in_a_history.ensures on.verifier by);
+          own_fourths = takes_own_fourths on by ends outset entries ran.after history
+              (c.an_own_fourth_message_is_taken_in_a_history.ensures on.verifier by);
           stores = stores_follow on by ends outset entries ran.after history
               (c.a_due_push_is_taken_in_a_history.ensures.membership on.verifier by)
               (c.a_due_push_is_taken_in_a_history.ensures.traffic on.verifier by)

@@ -5,8 +5,8 @@ use Rattle.console_run.specs.Private.Runs.{drawn_by}
 use Rattle.console_run.proofs.EndingLemmas.{ran_script}
 use Rattle.console_run.proofs.consoles.run_script.Goals as goal
 
-pub returns : goal.returns
-returns g c start same opened =
+pub returns-clause-runs : goal.returns-clause-runs
+returns-clause-runs g c start same opened =
     let on = devices g.D.Disk g.G.Signer g.V.Verifier c.args.verifier.now in
     let seen = g.K.Sink.shows in
     let followed = c.follow-followed in

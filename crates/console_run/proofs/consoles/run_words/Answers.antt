@@ -9,8 +9,8 @@ use Rattle.console_run.specs.Promises.{request_of, start_of}
 use Rattle.console_run.proofs.OpenedLemmas.{unopened_runs}
 use Rattle.console_run.proofs.consoles.run_words.Goals as goal
 
-pub returns-in-Ok : goal.returns-in-Ok
-returns-in-Ok g c command asked =
+pub returns-in-Ok-clause-runs : goal.returns-in-Ok-clause-runs
+returns-in-Ok-clause-runs g c command asked =
     let on = devices g.D.Disk g.G.Signer g.V.Verifier c.args.verifier.now in
     let by = keying c.args.parts.signer (g.R.Draws.block_at c.args.parts.draws) (g.P.Draws.block_at c.args.peers.now) console_name in
     let same : c.in-Ok.command ≡ command = same_Some c.in-Ok.command command (sym c.in-Ok.ensures.command ∙ asked) in
@@ -18,10 +18,10 @@ returns-in-Ok g c command asked =
     (start_of command c.args.parts.disk (g.R.Draws.place_of c.args.parts.draws) (g.P.Draws.place_of c.args.peers.now))
     (g.S.Source.shows c.args.script.now) (g.S.Source.shows c.run_command.new.script)
     (g.K.Sink.shows c.args.out.now) (g.K.Sink.shows c.run_command.new.out) c.run_command.result.ending
-    c.run_command.result.history c.run_command.result.disk) same c.run_command.ensures
+    c.run_command.result.history c.run_command.result.disk) same c.run_command.ensures.runs
 
-pub returns-in-Err : goal.returns-in-Err
-returns-in-Err g c command asked =
+pub returns-in-Err-clause-runs : goal.returns-in-Err-clause-runs
+returns-in-Err-clause-runs g c command asked =
     let on = devices g.D.Disk g.G.Signer g.V.Verifier c.args.verifier.now in
     let by = keying c.args.parts.signer (g.R.Draws.block_at c.args.parts.draws) (g.P.Draws.block_at c.args.peers.now) console_name in
     let was = g.K.Sink.shows c.args.out.now in

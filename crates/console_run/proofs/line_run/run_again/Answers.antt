@@ -11,7 +11,8 @@ returns-in_err-again-clause-runs g c peers =
     match_error _ _ _ Memory c.from_residual.ensures.1
     (Stops-unbegun (devices g.D.Disk g.G.Signer g.V.Verifier c.args.verifier.now) g.R.Draws peers (lines.Again c.args.member.now) c.args.group.now
     c.again.new.self
-    (g.K.Sink.shows c.args.out.now) c.in_err-again.ensures.err.server c.in_err-again.ensures.err.entries)
+    (g.K.Sink.shows c.args.out.now) (λ i. (c.in_err-again.ensures.err i).server)
+    (λ i. (c.in_err-again.ensures.err i).entries))
 
 pub returns-in_err-report_last-clause-runs : goal.returns-in_err-report_last-clause-runs
 returns-in_err-report_last-clause-runs g c peers =

@@ -14,8 +14,8 @@ pub returns-in_err-introduce-clause-runs : goal.returns-in_err-introduce-clause-
 returns-in_err-introduce-clause-runs g c =
     match_error _ _ _ Memory c.from_residual.ensures.1
     (Stops-unbegun (devices g.D.Disk g.G.Signer g.V.Verifier c.args.verifier.now) g.R.Draws (drawn_by g.P.Draws c.args.peers.now)
-    (lines.Join c.args.member.now) c.args.group.now c.introduce.new.self (g.K.Sink.shows c.args.out.now) c.in_err-introduce.ensures.err.server
-    c.in_err-introduce.ensures.err.entries)
+    (lines.Join c.args.member.now) c.args.group.now c.introduce.new.self (g.K.Sink.shows c.args.out.now) (λ i. (c.in_err-introduce.ensures.err i).server)
+    (λ i. (c.in_err-introduce.ensures.err i).entries))
 
 pub returns-in_err-report_last-clause-runs : goal.returns-in_err-report_last-clause-runs
 returns-in_err-report_last-clause-runs g c =

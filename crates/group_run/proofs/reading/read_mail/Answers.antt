@@ -1,12 +1,22 @@
-use Rattle.std.proofs.Common.{◌+◌, [], Ok, refl, ap, subst}
+use Rattle.std.proofs.Common.{◌≡◌, ◌+◌, [], Ok, refl, sym, ap, subst}
+use Rattle.member_steps.specs.Acts.{Ignores}
 use Rattle.member_steps.specs.Mails.{TakesMail}
-use Rattle.member_steps.specs.Views.{View as MemberView}
+use Rattle.member_steps.specs.Members.{Members}
+use Rattle.member_steps.specs.Views.{View as MemberView, members_with}
 use Rattle.member_steps.specs.declared.came.Came.{Came}
 use Rattle.group_run.specs.Mails.{mail_since}
 use Rattle.group_run.specs.Private.Kept.{members_at}
 use Rattle.group_run.proofs.MemberLemmas.{as_before}
-use Rattle.group_run.proofs.ReadLemmas.{ended_peers, ended_read, ended_readable, ignored_on, ignored_readable, readable_still, same_names, sends_peers, sends_read, sends_readable}
+use Rattle.group_run.proofs.ReadLemmas.{ended_peers, ended_read, ended_readable, ignored_on, ignored_readable, on_err, readable_still, same_names, sends_peers, sends_read, sends_readable}
 use Rattle.group_run.proofs.reading.read_mail.Goals as goal
+
+pub returns-in_err-came-clause-err : goal.returns-in_err-came-clause-err
+returns-in_err-came-clause-err c =
+    let start = members_at c.args.members.now c.args.entries.now c.args.unread.now in
+    let before = members_at c.loop-mail.members c.args.entries.now c.loop-mail.unread in
+    let now = members_at c.take.new.self c.args.entries.now c.next.new.self in
+    let stays : now ≡ before = λ i. members_with (c.in_err-came.ensures.takes [] i) (c.in-Some.ensures.same i) in
+    on_err _ _ (subst (λ (now : Members). Ignores start now) (sym stays) c.loop-mail.invariant.ignores)
 
 pub returns-in_err-came-clause-readable : goal.returns-in_err-came-clause-readable
 returns-in_err-came-clause-readable c =

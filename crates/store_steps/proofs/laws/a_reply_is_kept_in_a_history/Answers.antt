@@ -1,6 +1,8 @@
+use Rattle.std.proofs.Common.{◌∙◌, sym}
 use Rattle.group_steps.specs.Devices.{devices}
 use Rattle.store_steps.proofs.ActLemmas.{stay}
 use Rattle.store_steps.proofs.MailLemmas.{tells}
+use Rattle.store_steps.proofs.NumberLemmas.{told_number}
 use Rattle.store_steps.proofs.OpenedLemmas.{keyed_told}
 use Rattle.store_steps.proofs.ReplyLemmas.{takes_or_loses}
 use Rattle.store_steps.proofs.laws.a_reply_is_kept_in_a_history.Goals as goal
@@ -32,6 +34,7 @@ returns g c verifier by outset before run m answer outside next history ours ste
       (
         is,
         (c.a_reply_is_at_its_root.ensures depth is.says.keyed_epoch spi list m fourth.keyed group is.early is.member is.keys).1,
+        told_number c.first_epochs_stay.ensures.holders depth is.says.keyed_epoch spi list m fourth.keyed is.early is.keys ∙ sym is.number,
         λ store had later.
             c.a_later_reply_is_not_older.ensures depth is.says.keyed_epoch spi list m fourth.keyed store (ours store had) is.early later is.keys,
       ),

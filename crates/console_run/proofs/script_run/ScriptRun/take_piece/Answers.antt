@@ -1,4 +1,4 @@
-use Rattle.std.proofs.Common.{◌∷◌, [], take, get_or, sym, subst, arith}
+use Rattle.std.proofs.Common.{◌∙◌, ◌∷◌, [], take, get_or, refl, sym, subst, arith}
 use Rattle.std.proofs.lemmas.List.{take_all, take_more}
 use Rattle.console_run.specs.Private.Follows.{at}
 use Rattle.group_steps.specs.Devices.{devices}
@@ -13,6 +13,7 @@ pub loop-octet-init : goal.loop-octet-init
 loop-octet-init g c =
     let on = devices g.D.Disk g.G.Signer g.V.Verifier c.args.verifier.now in
     record {
+      blocks = λ k. refl;
       ready = c.requires.ready;
       goes = GoesOn-none on g.R.Draws (at c.args.self.now (g.K.Sink.shows c.args.out.now) (drawn_by g.P.Draws c.args.peers.now));
       nearer = omega arith;
@@ -28,6 +29,7 @@ loop-octet-preserved g c =
     let now = at c.loop-octet.self (seen c.loop-octet.out) (drawn_by g.P.Draws c.loop-octet.peers) in
     let new = at c.take_octet.new.self (seen c.take_octet.new.out) (drawn_by g.P.Draws c.take_octet.new.peers) in
     record {
+      blocks = λ k. c.take_octet.ensures.blocks k ∙ c.loop-octet.invariant.blocks k;
       ready = c.in_ok-take_octet.ensures.ready;
       goes = subst (λ octets. GoesOn on g.R.Draws octets was new) (sym (take_more piece place 0 c.loop-octet-test.true))
           (GoesOn-then on g.R.Draws (take place piece) (get_or piece place 0 ∷ []) was now new c.loop-octet.invariant.goes c.in_ok-take_octet.ensures.goes);

@@ -22,6 +22,7 @@ pub pieces-init : goal.pieces-init
 pieces-init g c =
     let on = devices g.D.Disk g.G.Signer g.V.Verifier c.args.verifier.now in
     record {
+      blocks = λ k. refl;
       ready = c.requires.ready;
       stands = refl;
       goes = (
@@ -43,6 +44,7 @@ pieces-preserved g c =
     subst (Consumes (left c.pieces.script).octets (left c.take.new.self).octets) {x = take c.in-Ok.n c.take.new.into}
     (sym {b = take c.in-Ok.n c.take.new.into} c.split_at.ensures.front) c.in-Ok.ensures.moved in
     record {
+      blocks = λ k. c.take_piece.ensures.blocks k ∙ c.pieces.invariant.blocks k;
       ready = c.in_ok-take_piece.ensures.ready;
       stands = c.in-Ok.ensures.stands ∙ c.pieces.invariant.stands;
       goes = (

@@ -9,6 +9,7 @@ use Rattle.console_run.proofs.script_run.ScriptRun.take_script.Given as goal
 -- what was taken so far was run
 abbrev pub invariant-pieces : goal.invariant-pieces
 invariant-pieces g l = record {
+  blocks : (k : ℕ) → g.P.Draws.block_at l.peers k ≡ g.P.Draws.block_at l.fn.peers k;
   ready : IsReady (at l.self (g.K.Sink.shows l.out) (drawn_by g.P.Draws l.peers));
   stands : (g.S.Source.shows l.script).faults ≡ (g.S.Source.shows l.fn.script).faults;
   goes : (taken : List ℕ) × Consumes (g.S.Source.shows l.fn.script).octets (g.S.Source.shows l.script).octets taken × (are_octets taken ≡ true)

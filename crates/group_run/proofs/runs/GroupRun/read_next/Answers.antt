@@ -1,9 +1,12 @@
-use Rattle.std.proofs.Common.{◌≡◌, ◌∙◌, inl, inr, IsSome, refl, sym, ap, subst}
+use Rattle.std.proofs.Common.{◌≡◌, ◌∙◌, inl, inr, IsSome, List, refl, sym, ap, subst}
 use Rattle.group_model.specs.declared.entries.Asked.TheVariants.{Keep, Serve}
+use Rattle.group_model.specs.declared.entries.Entry.{Entry}
+use Rattle.member_steps.specs.Acts.{Ignores}
 use Rattle.member_steps.specs.Members.{Members}
 use Rattle.group_run.specs.Private.Kept.{IsKept, IsReadable, members_at}
 use Rattle.group_run.specs.Private.Reading.{AreReading}
 use Rattle.group_run.specs.Reads.{AreAtRest}
+use Rattle.group_run.specs.Tells.{HasReadSome}
 use Rattle.group_run.specs.Views.{View}
 use Rattle.group_run.specs.declared.reading.Read.{Read}
 use Rattle.group_run.proofs.AddLemmas.{added}
@@ -12,6 +15,7 @@ use Rattle.group_run.proofs.LeftLemmas.{kept_left_nearer, sent_nearer}
 use Rattle.group_run.proofs.MailLemmas.{members_still}
 use Rattle.group_run.proofs.MemberLemmas.{has_agreed, has_kept, ignored_same, sender_peer}
 use Rattle.group_run.proofs.MoveLemmas.{held_as, keeps_next, rules_as, rules_quiet, rules_stay, sends_next, sent_from, serves_sent}
+use Rattle.group_run.proofs.ReadLemmas.{on_err}
 use Rattle.group_run.proofs.runs.GroupRun.read_next.Goals as goal
 
 pub invariant_of-self-in_err-read : goal.invariant_of-self-in_err-read
@@ -169,3 +173,42 @@ returns-in-Ended-clause-nearer g c =
     let is = added c.in_ok-reserve.ensures.items c.draws_at-place.ensures c.entry.ensures c.add.ensures.items in
     let readable = subst (λ entries. IsReadable c.read_mail.new.members.all entries c.read_mail.new.unread) same c.in_ok-read.ensures.readable in
     λ read. kept_left_nearer c.read_mail.new.members c.read_mail.new.unread readable.within reads.1 c.self.view_is is reads.2
+
+pub returns-in_err-reserve-clause-err : goal.returns-in_err-reserve-clause-err
+returns-in_err-reserve-clause-err g c =
+    let run = c.self.inside in
+    let items = c.in_err-reserve.ensures.items in
+    let held : View g.row.D.Denot g.row.G.Denot g.row.R.Denot =
+    record { server = run.server; members = members_at run.members c.reserve.new.self.items run.unread; entries = c.reserve.new.self.items } in
+    let reads : HasReadSome c.args.self.now held = record {
+      server = ap (λ (held : View g.row.D.Denot g.row.G.Denot g.row.R.Denot). held.server) c.self.view_is;
+      entries = items ∙ ap (λ (held : View g.row.D.Denot g.row.G.Denot g.row.R.Denot). held.entries) c.self.view_is;
+      read = held.members;
+      ignored = (
+        0,
+        (λ i. members_at run.members (items i) run.unread) ∙ ap (λ (held : View g.row.D.Denot g.row.G.Denot g.row.R.Denot). held.members) c.self.view_is,
+      );
+      rest = inl refl;
+    } in
+    on_err _ _ reads
+
+pub returns-in_err-read-clause-err : goal.returns-in_err-read-clause-err
+returns-in_err-read-clause-err g c =
+    let run = c.self.inside in
+    let items = c.in_ok-reserve.ensures.items in
+    let now = c.read_mail.new.members in
+    let unread = c.read_mail.new.unread in
+    let before : members_at run.members c.reserve.new.self.items run.unread ≡ c.args.self.now.members =
+    (λ i. members_at run.members (items i) run.unread) ∙ ap (λ (held : View g.row.D.Denot g.row.G.Denot g.row.R.Denot). held.members) c.self.view_is in
+    let held : View g.row.D.Denot g.row.G.Denot g.row.R.Denot =
+    record { server = run.server; members = members_at now c.reserve.new.self.items unread; entries = c.reserve.new.self.items } in
+    let reads : HasReadSome c.args.self.now held = record {
+      server = ap (λ (held : View g.row.D.Denot g.row.G.Denot g.row.R.Denot). held.server) c.self.view_is;
+      entries = items ∙ ap (λ (held : View g.row.D.Denot g.row.G.Denot g.row.R.Denot). held.entries) c.self.view_is;
+      read = held.members;
+      ignored = subst (λ (members : Members). Ignores members (members_at now c.reserve.new.self.items unread)) before
+          (subst (λ (entries : List Entry). Ignores (members_at run.members entries run.unread) (members_at now entries unread)) c.items.ensures
+          c.in_err-read.ensures.err);
+      rest = inl refl;
+    } in
+    on_err _ _ reads
