@@ -5,4 +5,5 @@ pub mod PartLemmas
 pub mod PushFacts
 pub mod PushLemmas
 pub mod RowLemmas
+pub mod TextLemmas
 pub mod WrittenLemmas

@@ -18,4 +18,5 @@ mod opening;
 mod reading;
 mod rooms;
 mod rows;
+mod texts;
 mod writers;

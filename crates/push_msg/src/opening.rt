@@ -1,6 +1,5 @@
 //! Opening a push.
-ghost use Rattle.std.specs.Prelude.{◌≡◌, ◌+◌, ◌%◌, ◌<◌, ◌≤◌, ℕ, List, [], length, Ok, Err, IsErr, IfOk, false, true};
-ghost use Rattle.gd_cipher.specs.Chains.{IsOpened};
+ghost use Rattle.std.specs.Prelude.{◌≡◌, ◌+◌, ◌<◌, ◌≤◌, ℕ, List, [], length, Ok, Err, IsErr, IfOk, false, true};
 ghost use Rattle.gd_wire.specs.Chains.{PartFits, body_of};
 ghost use Rattle.gd_wire.specs.Headers.{HasPayloads};
 ghost use Rattle.gd_wire.specs.declared.chains.Part.{Part};
@@ -15,9 +14,9 @@ use crate::digests::digest;
 use crate::kinds::{HEADER, PUSH};
 use crate::reading::read_push;
 use crate::rooms::Room;
-use gd_cipher::{Key128, a_text_is_opened_in_one_way, cbc_open};
+use gd_cipher::a_text_is_opened_in_one_way;
 use gd_edges::Verifier;
-use gd_wire::{Header, Part, Room as Octets, read_header};
+use gd_wire::{Header, Part, read_header};
 use group_terms::{NodeValue, PushRefusal};
 
 /// Opens a push for this SPI under this KEK (RFC 6407 section 4), where `last` is the number of the last one that was accepted. It takes no
@@ -56,8 +55,8 @@ pub fn open_push<V: Verifier>(
     room.start = 0;
     room.size = 0;
     let head = push_header(datagram, spi)?;
-    open_text(&datagram[HEADER..], kek, &mut room.octets);
-    let text = room.octets.text();
+    room.texts.open_text(&datagram[HEADER..], kek);
+    let text = room.texts.text();
     match examine(datagram, spi, head.next, text, last, verifier) {
         Ok((open, keys)) => {
             room.start = keys.start;
@@ -87,17 +86,6 @@ fn push_header(datagram: &[u8], spi: &[u8; 16]) -> Result<Header, PushRefusal>
         });
     }
     Ok(head)
-}
-
-/// Opens octets under a key, in a room for them.
-fn open_text(sealed: &[u8], kek: &NodeValue, room: &mut Octets)
-    requires whole { length sealed.now % 16 ≡ 0 }
-    requires room { length sealed.now ≤ room.old.room }
-    ensures opened { IsOpened kek.now.key kek.now.iv sealed.now room.new.octets }
-    ensures room { room.old.room ≤ room.new.room }
-{
-    room.fill(sealed);
-    cbc_open(&Key128::new(kek.key), &kek.iv, room.text_mut());
 }
 
 /// Reads the payloads of a push, whose header named the first one, and finds that its signature is accepted and its number greater; gives

@@ -1,18 +1,15 @@
 //! Room in which pushes are opened.
 ghost use Rattle.std.specs.Prelude.{◌≡◌, [], IfOk};
 
-use gd_wire::Room as Octets;
+use crate::texts::OpenTexts;
 use group_terms::NoMemory;
 use std::alloc::Global;
 use std::marker::Model;
 
-/// The most octets that UDP over IPv4 holds.
-const MOST: usize = 65_507;
-
 /// Room in which pushes are opened one after the other. It is reserved once, and serves for all stores of a process.
 #[derive(Drop)]
 pub struct Room {
-    pub(crate) octets: Octets,
+    pub(crate) texts: OpenTexts,
     /// Where the body of the key download is.
     pub(crate) start: usize,
     pub(crate) size: usize,
@@ -23,10 +20,9 @@ impl Model for Room {
 
     ghost Value = { List ℕ };
 
-    ghost view = { λ room. take room.size (drop room.start room.octets.octets) };
+    ghost view = { λ room. take room.size (drop room.start room.texts) };
 
-    ghost invariant = { λ room.
-        (65507 ≤ room.octets.room) × (room.start + room.size ≤ length room.octets.octets) };
+    ghost invariant = { λ room. room.start + room.size ≤ length room.texts };
 }
 
 impl Room {
@@ -35,7 +31,7 @@ impl Room {
         ensures { IfOk result (λ room. room ≡ []) }
     {
         Ok(Room {
-            octets: Octets::new(alloc, MOST)?,
+            texts: OpenTexts::new(alloc)?,
             start: 0,
             size: 0,
         })
@@ -46,6 +42,6 @@ impl Room {
     pub fn text(&self) -> &[u8]
         ensures { result.now ≡ self.now }
     {
-        &self.octets.text()[self.start..][..self.size]
+        &self.texts.text()[self.start..][..self.size]
     }
 }
