@@ -1,5 +1,5 @@
 -- What a desk's table was told.
-use Rattle.std.specs.Prelude.{◌≡◌, ℕ, ◌≤◌, List, [], Option}
+use Rattle.std.specs.Prelude.{◌≡◌, ℕ, ◌≤◌, List, [], length, Option}
 use Rattle.atomic_table.specs.Seated.{TableId}
 use Rattle.atomic_table.specs.declared.shared.Seat.{Seat}
 use Rattle.desk.specs.declared.views.View.{View}
@@ -13,12 +13,13 @@ abbrev pub terms_of : {K E G : Type 0} → (K → List E) → (K → G) → Open
 terms_of listed tag opening =
     record { start = listed opening.kept.value; passes = opening.passes; turns = opening.turns; tag = tag opening.kept.value }
 
--- what a desk keeps of its table: its size, and what the desk knows itself of what the table was told
-pub record IsDesk {E G : Type 0} (table : TableId) (terms : Terms E G) (passes turns : ℕ) : Type 0 where
+-- what a desk keeps of its table: its size, what the desk knows itself of what the table was told, and how many entries there were
+pub record IsDesk {E G : Type 0} (begun : G → ℕ) (table : TableId) (terms : Terms E G) (passes turns : ℕ) : Type 0 where
   pub sized : IsSized table terms
   pub passes_are : terms.passes ≡ passes
   pub turns_are : terms.turns ≡ turns
   pub some : 1 ≤ passes
+  pub counted : length terms.start ≡ begun terms.tag
 
 -- a table that was just made for this value, and the seat of its maker
 pub record IsLaid {K E G : Type 0} (listed : K → List E) (tag : K → G) (kept : K) (passes turns : ℕ)

@@ -3,6 +3,7 @@ ghost use Rattle.desk.specs.Opened.{terms_of};
 ghost use Rattle.desk.specs.Seats.{IsSized};
 
 use crate::Kept;
+use crate::bells::Bells;
 use crate::rules::Board;
 use std::marker::Model;
 
@@ -14,6 +15,7 @@ pub struct Desk<K: Kept> {
     pub(crate) table: Board<K>,
     pub(crate) passes: u32,
     pub(crate) turns: u64,
+    pub(crate) bells: Bells,
 }
 
 impl<K: Kept> Model for Desk<K> {
@@ -29,7 +31,7 @@ impl<K: Kept> Model for Desk<K> {
       terms = terms_of K.listed K.tag desk.table.shared.key;
     } };
 
-    ghost invariant = { λ desk. IsDesk desk.table.shared.table_id (terms_of K.listed K.tag desk.table.shared.key) desk.passes desk.turns };
+    ghost invariant = { λ desk. IsDesk K.begun desk.table.shared.table_id (terms_of K.listed K.tag desk.table.shared.key) desk.passes desk.turns };
 }
 
 impl<K: Kept> Desk<K> {
@@ -42,6 +44,7 @@ impl<K: Kept> Desk<K> {
             table,
             passes: _,
             turns: _,
+            bells: _,
         } = self;
         table
     }
@@ -53,6 +56,7 @@ impl<K: Kept + Drop> Drop for Desk<K> {
             table: _,
             passes: _,
             turns: _,
+            bells: _,
         } = self;
     }
 }

@@ -1,4 +1,4 @@
-ghost use Rattle.std.specs.Prelude.{◌≡◌, ℕ, ◌+◌, ◌<◌, ◌≤◌, List, [], ◌∷◌, ◌++◌, OnOk};
+ghost use Rattle.std.specs.Prelude.{◌≡◌, ℕ, ◌+◌, ◌<◌, ◌≤◌, List, [], ◌∷◌, ◌++◌, length, OnOk};
 ghost use Rattle.std.specs.Thread.{IsSync};
 
 use group_terms::NoMemory;
@@ -26,6 +26,12 @@ pub trait Kept {
 
     ghost tag: { Self → Self.Tag };
 
+    // How many entries a value of this tag had when its desk was made.
+    ghost begun: { Self.Tag → ℕ };
+
+    // Whether two values differ in their room alone.
+    ghost Same: { Self → Self → Type 0 };
+
     // Whether an event may be handed to a value of this tag.
     ghost Suits: { Self.Event → Self.Tag → Type 0 };
 
@@ -42,14 +48,16 @@ pub trait Kept {
     ) -> Self::Answer
         requires shared { IsSync R.row }
         requires room { 0 < spare self.old }
+        requires number { length (listed self.old) ≡ begun (tag self.old) + number }
         requires suits { Suits event (tag self.old) }
         ensures entry { (entry : Self.Entry) × (listed self.new ≡ listed self.old ++ entry ∷ [])
             × Relates (listed self.old) event entry result }
         ensures spare { spare self.old ≤ spare self.new + 1 }
         ensures tag { tag self.new ≡ tag self.old };
 
-    /// Makes room for so many entries.
+    /// Makes room for so many entries, and changes nothing else.
     fn reserve(&mut self, turns: u64) -> Result<(), NoMemory>
+        ensures same { Same self.old self.new }
         ensures listed { listed self.new ≡ listed self.old }
         ensures tag { tag self.new ≡ tag self.old }
         ensures spare { OnOk result (turns ≤ spare self.new) };

@@ -12,6 +12,7 @@ pub use makes::{DeskLost, DeskMade};
 pub use passes::Pass;
 pub use turns::LedgerFull;
 
+mod bells;
 mod calls;
 mod closes;
 mod desks;

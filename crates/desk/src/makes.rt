@@ -4,6 +4,7 @@ ghost use Rattle.desk.specs.Seats.{IsSized, IsSeatOf, IsAtRest};
 ghost use Rattle.desk.specs.Turned.{new_passes};
 ghost use Rattle.desk.specs.Turns.{blank_shares};
 
+use crate::bells::Bells;
 use crate::plays::HandOver;
 use crate::rules::{Board, Opening, Place, Top};
 use crate::{Desk, Kept, Pass};
@@ -108,9 +109,41 @@ fn hand_over<K: Kept>(
     List::from_vec(made)
 }
 
+/// A desk at a value that has room for all turns.
+fn made_at<K: Kept>(
+    alloc: Global,
+    kept: K,
+    passes: u32,
+    turns: u64,
+) -> Result<DeskMade<K>, DeskLost<K>>
+    requires passes { (1 ≤ passes) × (passes ≤ 64) }
+    requires turns { (1 ≤ turns) × (turns ≤ 4096) }
+    requires room { passes * turns ≤ K.spare kept }
+    requires begun { length (K.listed kept) ≡ K.begun (K.tag kept) }
+    ensures desk { IfOk result (λ made. made.desk.terms ≡
+        record { start = K.listed kept; passes = passes; turns = turns; tag = K.tag kept }) }
+    ensures passes { IfOk result (λ made. made.passes ≡ new_passes made.desk.id made.desk.terms) }
+    ensures own { IfOk result (λ made. All (λ pass. pass.desk ≡ made.desk.id) made.passes) }
+    ensures many { IfOk result (λ made. length made.passes ≡ passes) }
+    ensures lost { IfErr result (λ lost. lost.kept ≡ kept) }
+{
+    let Ok(room) = Vec::with_capacity(alloc, passes as usize) else {
+        return lost(kept);
+    };
+    let (table, maker) = lay(alloc, kept, passes, turns)?;
+    let held = hand_over(&table.shared, maker, room, passes);
+    let desk = Desk {
+        table,
+        passes,
+        turns,
+        bells: Bells::new(),
+    };
+    Ok(DeskMade { desk, passes: held })
+}
+
 impl<K: Kept> Desk<K> {
     /// A desk with 1 to 64 passes, of which each may make 1 to 4,096 turns. Room for all turns of all passes is reserved.
-    /// `DeskLost` gives the value back where there is no memory.
+    /// `DeskLost` gives the value back where there is no memory; it may have got room.
     pub fn new(
         alloc: Global,
         mut kept: K,
@@ -119,26 +152,18 @@ impl<K: Kept> Desk<K> {
     ) -> Result<DeskMade<K>, DeskLost<K>>
         requires passes { (1 ≤ passes) × (passes ≤ 64) }
         requires turns { (1 ≤ turns) × (turns ≤ 4096) }
+        requires begun { length (K.listed kept) ≡ K.begun (K.tag kept) }
         ensures desk { IfOk result (λ made. made.desk.terms ≡
             record { start = K.listed kept; passes = passes; turns = turns; tag = K.tag kept }) }
         ensures passes { IfOk result (λ made. made.passes ≡ new_passes made.desk.id made.desk.terms) }
         ensures own { IfOk result (λ made. All (λ pass. pass.desk ≡ made.desk.id) made.passes) }
         ensures many { IfOk result (λ made. length made.passes ≡ passes) }
-        ensures lost { IfErr result (λ lost. (K.listed lost.kept ≡ K.listed kept) × (K.tag lost.kept ≡ K.tag kept)) }
+        ensures lost { IfErr result (λ lost. K.Same kept lost.kept) }
+        ensures listed { IfErr result (λ lost. (K.listed lost.kept ≡ K.listed kept) × (K.tag lost.kept ≡ K.tag kept)) }
     {
-        let Ok(room) = Vec::with_capacity(alloc, passes as usize) else {
-            return lost(kept);
-        };
         if kept.reserve(u64::from(passes) * turns).is_err() {
             return lost(kept);
         }
-        let (table, maker) = lay(alloc, kept, passes, turns)?;
-        let held = hand_over(&table.shared, maker, room, passes);
-        let desk = Desk {
-            table,
-            passes,
-            turns,
-        };
-        Ok(DeskMade { desk, passes: held })
+        made_at(alloc, kept, passes, turns)
     }
 }

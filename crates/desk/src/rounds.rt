@@ -6,10 +6,12 @@ ghost use Rattle.desk.specs.Plays.{in_phase, TakesOut};
 ghost use Rattle.desk.specs.Seats.{IsSized, IsSeatOf, IsAtRest, IsPlayer, IsSeat, HasTaken, MayPutBack, HasPutBack, HasTurned};
 
 use crate::Kept;
+use crate::bells::{Bells, Patience};
 use crate::plays::{Count, Draw, Look, PassOn, Read};
 use crate::rules::{COUNT, Place, SERVED, TICKET, Top};
-use crossbeam_utils::Backoff;
+use crossbeam_utils::sync::EventCount;
 use std::sync::Wait;
+use std::sync::atomic::Ordering::SeqCst;
 use std::thread::Threads;
 
 fn draw<K: Kept>(top: &Top<K>, seat: &mut Place<K>) -> u64
@@ -22,8 +24,39 @@ fn draw<K: Kept>(top: &Top<K>, seat: &mut Place<K>) -> u64
     top.fetch_add::<Draw>(seat, TICKET, 1)
 }
 
+/// How many turns come before that of the ticket.
+fn turns_before<K: Kept>(top: &Top<K>, ticket: u64) -> u64
+    requires { IsSized top.now.table_id (terms_of K.listed K.tag top.now.key) }
+{
+    ticket.wrapping_sub(top.peek(SERVED))
+}
+
+/// Sleeps until the bell of the ticket is rung, unless it is served.
+fn sleep<K: Kept, R: Wait>(rt: &R, top: &Top<K>, bell: &EventCount, ticket: u64)
+    requires { IsSized top.now.table_id (terms_of K.listed K.tag top.now.key) }
+{
+    let key = bell.prepare_wait();
+    if turns_before(top, ticket) == 0 {
+        drop(key);
+    } else {
+        key.wait(rt);
+    }
+}
+
+/// Lets others go on. At first the thread stays ready to run, longer where few turns come before its own; then it sleeps.
+fn pause<K: Kept, R: Wait>(rt: &R, top: &Top<K>, bells: &Bells, patience: &Patience, ticket: u64)
+    requires { IsSized top.now.table_id (terms_of K.listed K.tag top.now.key) }
+{
+    if patience.lasts(turns_before(top, ticket)) {
+        return;
+    }
+    bells.sleepers.fetch_add(1, SeqCst);
+    sleep(rt, top, bells.of(ticket), ticket);
+    bells.sleepers.fetch_sub(1, SeqCst);
+}
+
 /// Waits until the ticket is served. The seat then has the slot in hand.
-fn wait_for<K: Kept, R: Wait>(rt: &R, top: &Top<K>, seat: &mut Place<K>, ticket: u64)
+fn wait_for<K: Kept, R: Wait>(rt: &R, top: &Top<K>, bells: &Bells, seat: &mut Place<K>, ticket: u64)
     requires table { IsSized top.now.table_id (terms_of K.listed K.tag top.now.key) }
     requires seat { IsSeatOf top.now.table_id (terms_of K.listed K.tag top.now.key) seat.old }
     requires waits { (own : ℕ) × (ticket ≡ own % 2 ^ 64) × (seat.old.me.0.phase ≡ Waits own) × (seat.old.me.1 ≡ []) }
@@ -31,18 +64,18 @@ fn wait_for<K: Kept, R: Wait>(rt: &R, top: &Top<K>, seat: &mut Place<K>, ticket:
     ensures { (own : ℕ) × TakesOut K.listed K.spare K.tag own seat.old.me seat.new.me
         × (seat.new.table_id ≡ seat.old.table_id) × (seat.new.id ≡ seat.old.id) }
 {
-    let backoff = Backoff::new();
+    let patience = Patience::new();
     for _ in rt.forever() {
         if top.load::<Look>(seat, SERVED) == ticket {
             return;
         }
-        backoff.snooze();
+        pause(rt, top, bells, &patience, ticket);
     }
     unreachable!()
 }
 
 /// Waits for its turn, and takes the value out. Answers the value, and the place of its next entry.
-fn take_out<K: Kept, R: Wait>(rt: &R, top: &Top<K>, seat: &mut Place<K>) -> (K, u64)
+fn take_out<K: Kept, R: Wait>(rt: &R, top: &Top<K>, bells: &Bells, seat: &mut Place<K>) -> (K, u64)
     requires table { IsSized top.now.table_id (terms_of K.listed K.tag top.now.key) }
     requires seat { IsSeatOf top.now.table_id (terms_of K.listed K.tag top.now.key) seat.old }
     requires rest { IsAtRest seat.old }
@@ -50,14 +83,14 @@ fn take_out<K: Kept, R: Wait>(rt: &R, top: &Top<K>, seat: &mut Place<K>) -> (K, 
     ensures { HasTaken K.listed K.spare K.tag (terms_of K.listed K.tag top.now.key) seat.old seat.new result.0 result.1 }
 {
     let ticket = draw(top, seat);
-    wait_for(rt, top, seat, ticket);
+    wait_for(rt, top, bells, seat, ticket);
     let kept = top.exchange(seat, 0, None).unwrap();
     let place = top.load::<Read>(seat, COUNT);
     (kept, place)
 }
 
-/// Puts the value back with its new entry, counts that, and passes the ticket on. Answers the place of the entry.
-fn put_back<K: Kept>(top: &Top<K>, seat: &mut Place<K>, kept: K) -> u64
+/// Puts the value back with its new entry, counts that, and passes the ticket on to whoever is next. Answers the place of the entry.
+fn put_back<K: Kept>(top: &Top<K>, bells: &Bells, seat: &mut Place<K>, kept: K) -> u64
     requires table { IsSized top.now.table_id (terms_of K.listed K.tag top.now.key) }
     requires seat { IsSeatOf top.now.table_id (terms_of K.listed K.tag top.now.key) seat.old }
     requires out { MayPutBack K.listed K.spare K.tag (terms_of K.listed K.tag top.now.key) seat.old kept }
@@ -67,7 +100,8 @@ fn put_back<K: Kept>(top: &Top<K>, seat: &mut Place<K>, kept: K) -> u64
     let hole = top.exchange(seat, 0, Some(kept));
     let None = hole else { unreachable!() };
     let place = top.fetch_add::<Count>(seat, COUNT, 1);
-    top.fetch_add::<PassOn>(seat, SERVED, 1);
+    let served = top.fetch_add::<PassOn>(seat, SERVED, 1);
+    bells.ring(served.wrapping_add(1));
     place
 }
 
@@ -75,6 +109,7 @@ fn put_back<K: Kept>(top: &Top<K>, seat: &mut Place<K>, kept: K) -> u64
 pub(crate) fn serve<K: Kept, R: Threads + Wait + Sync>(
     rt: &R,
     top: &Top<K>,
+    bells: &Bells,
     seat: &mut Place<K>,
     event: K::Event,
 ) -> K::Answer
@@ -82,12 +117,13 @@ pub(crate) fn serve<K: Kept, R: Threads + Wait + Sync>(
     requires seat { IsSeatOf top.now.table_id (terms_of K.listed K.tag top.now.key) seat.old }
     requires rest { IsAtRest seat.old }
     requires player { (made : ℕ) × (made < top.now.key.turns) × IsPlayer made seat.old }
+    requires begun { length (K.listed top.now.key.kept.value) ≡ K.begun (K.tag top.now.key.kept.value) }
     requires suits { K.Suits event (K.tag top.now.key.kept.value) }
     ensures { HasTurned K.Relates (terms_of K.listed K.tag top.now.key) seat.old seat.new event result }
 {
-    let (mut kept, number) = take_out(rt, top, seat);
+    let (mut kept, number) = take_out(rt, top, bells, seat);
     let answer = kept.take(rt, number, event);
-    let place = put_back(top, seat, kept);
+    let place = put_back(top, bells, seat, kept);
     prove!(number == place);
     answer
 }

@@ -31,7 +31,7 @@ impl<K: Kept> Desk<K> {
         if pass.made == self.turns {
             return Err(LedgerFull { held: pass.made });
         }
-        let answer = serve(rt, &self.table.shared, &mut pass.seat, event);
+        let answer = serve(rt, &self.table.shared, &self.bells, &mut pass.seat, event);
         pass.made += 1;
         Ok(answer)
     }

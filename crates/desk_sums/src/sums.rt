@@ -1,4 +1,4 @@
-ghost use Rattle.std.specs.Prelude.{◌≡◌};
+ghost use Rattle.std.specs.Prelude.{◌≡◌, []};
 ghost use Rattle.desk_sums.specs.Totals.{total_from};
 
 use desk::Kept;
@@ -16,7 +16,9 @@ pub struct Sum {
 }
 
 impl Sum {
-    pub fn new(alloc: Global) -> Self {
+    pub fn new(alloc: Global) -> Self
+        ensures { result.entries.items ≡ [] }
+    {
         Sum {
             entries: Log::of(List::new(alloc)),
             sum: 0,
@@ -45,6 +47,10 @@ impl Kept for Sum {
     ghost spare = { λ sum. sum.entries.spare };
 
     ghost tag = { λ _. tt };
+
+    ghost begun = { λ _. 0 };
+
+    ghost Same = { λ sum other. (other.entries.items ≡ sum.entries.items) × (other.sum ≡ sum.sum) };
 
     ghost Suits = { λ _ _. ⊤ };
 

@@ -3,6 +3,9 @@
 use Rattle.std.proofs.Common.{◌≡◌, zero, suc, ◌+◌, false, length, slice_index_or, arith, List, [], ◌∷◌, ◌++◌, refl, ap, subst, sym, ◌∙◌}
 use Rattle.std.proofs.lemmas.List.{append_assoc, append-nil, length-append, nil_from_length}
 use Rattle.epoch_board.specs.declared.pairs.Seen.{Seen}
+use Rattle.epoch_board.specs.declared.moments.Moment.{Moment}
+use Rattle.epoch_board.specs.declared.moments.Moment.TheVariants.{Published, Looked}
+use Rattle.epoch_board.specs.Moments.{pairs_in}
 use Rattle.epoch_board.specs.Pairs.{zero_pair, last_pair_after, last_pair, StartsWith, is_less, NeverFalls}
 
 pub last_pair_after-append : (pair : Seen) (pairs later : List Seen)
@@ -14,12 +17,23 @@ last_pair_after-append pair (next ∷ pairs) later = last_pair_after-append next
 pub last_pair-push : (pairs : List Seen) (pair : Seen) → last_pair (pairs ++ pair ∷ []) ≡ pair
 last_pair-push pairs pair = last_pair_after-append zero_pair pairs (pair ∷ [])
 
-pub StartsWith-itself : (pairs those : List Seen) → those ≡ pairs → StartsWith pairs those
-StartsWith-itself pairs those same = ([], sym (append-nil those ∙ same))
+module _ {X : Type 0} where
+  pub StartsWith-itself : (list that : List X) → that ≡ list → StartsWith list that
+  StartsWith-itself list that same = ([], sym (append-nil that ∙ same))
 
--- what begins with these pairs does so still, once more was published
-pub StartsWith-more : (pairs more those : List Seen) → StartsWith pairs those → StartsWith (pairs ++ more) those
-StartsWith-more pairs more those begins = (begins.0 ++ more, ap (λ all. all ++ more) begins.1 ∙ append_assoc those begins.0 more)
+  -- what a list begins with, it begins with still, once there is more of it
+  pub StartsWith-more : (list more that : List X) → StartsWith list that → StartsWith (list ++ more) that
+  StartsWith-more list more that begins = (begins.0 ++ more, ap (λ all. all ++ more) begins.1 ∙ append_assoc that begins.0 more)
+
+-- the pairs of one part of a history, and then those of the next
+pub pairs_in-append : (moments later : List Moment) → pairs_in (moments ++ later) ≡ pairs_in moments ++ pairs_in later
+pairs_in-append [] later = refl
+pairs_in-append (Published pair ∷ moments) later = ap (λ pairs. pair ∷ pairs) (pairs_in-append moments later)
+pairs_in-append (Looked ∷ moments) later = pairs_in-append moments later
+
+-- where a history begins with another one, so do its pairs
+pub pairs_in-begins : (moments those : List Moment) → StartsWith moments those → StartsWith (pairs_in moments) (pairs_in those)
+pairs_in-begins moments those begins = (pairs_in begins.0, ap pairs_in begins.1 ∙ pairs_in-append those begins.0)
 
 -- two lists that begin with each other are equal
 pub StartsWith-both : (published seen : List Seen) → StartsWith seen published → StartsWith published seen → seen ≡ published

@@ -1,3 +1,4 @@
+pub mod Moments
 pub mod Pairs
 pub mod Passes
 pub mod Private

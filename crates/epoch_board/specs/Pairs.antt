@@ -16,9 +16,10 @@ last_pair_after pair (next ∷ later) = last_pair_after next later
 abbrev pub last_pair : List Seen → Seen
 last_pair = last_pair_after zero_pair
 
--- these pairs begin with those
-abbrev pub StartsWith : List Seen → List Seen → Type 0
-StartsWith pairs those = (later : List Seen) × (pairs ≡ those ++ later)
+module _ {X : Type 0} where
+  -- this list begins with that one
+  abbrev pub StartsWith : List X → List X → Type 0
+  StartsWith list that = (later : List X) × (list ≡ that ++ later)
 
 -- a pair is less than another where its epoch is less, or where the epochs are equal and its sequence number is less
 abbrev pub is_less : Seen → Seen → Bool

@@ -1,4 +1,6 @@
 ghost use Rattle.std.specs.Prelude.{◌≡◌, [], ◌∷◌, ◌++◌, IfOk};
+ghost use Rattle.epoch_board.specs.declared.moments.Moment.TheVariants.{Published, Looked};
+ghost use Rattle.epoch_board.specs.Moments.{pairs_in, EndsWith};
 ghost use Rattle.epoch_board.specs.Pairs.{last_pair, StartsWith};
 
 use crate::pairs::{Seen, from_word, to_word};
@@ -42,8 +44,8 @@ pub struct BoardMade {
 impl EpochBoard {
     /// A board that shows 0, 0, its publisher, and a pass. `NoMemory` where there is none for them.
     pub fn new(alloc: Global) -> Result<BoardMade, NoMemory>
-        ensures publisher { IfOk result (λ made. made.publisher ≡ record { board = made.board; published = [] }) }
-        ensures reader { IfOk result (λ made. made.reader ≡ record { board = made.board; seen = [] }) }
+        ensures publisher { IfOk result (λ made. made.publisher ≡ record { board = made.board; published = []; moments = [] }) }
+        ensures reader { IfOk result (λ made. made.reader ≡ record { board = made.board; seen = []; moments = [] }) }
     {
         let (board, mut publisher) = EpochBoard::with_publisher(alloc)?;
         let reader = board.informed_pass(&mut publisher);
@@ -64,11 +66,13 @@ impl EpochBoard {
         BoardPass { seat }
     }
 
-    /// From now on the board shows this pair, whatever it showed before.
+    /// From now on the board shows this pair, whatever it showed before: a moment of the board's history, after all that the publisher knows of.
     pub fn publish(&self, publisher: &mut Publisher, epoch: u32, sequence: u32)
         requires { publisher.old.board ≡ self.now }
         ensures board { publisher.new.board ≡ publisher.old.board }
         ensures pair { publisher.new.published ≡ publisher.old.published ++ record { epoch = epoch; sequence = sequence } ∷ [] }
+        ensures moment { EndsWith (Published (record { epoch = epoch; sequence = sequence })) publisher.old.moments publisher.new.moments }
+        ensures published { publisher.new.published ≡ pairs_in publisher.new.moments }
     {
         let word = to_word(Seen { epoch, sequence });
         let shared = &self.table.shared;
@@ -76,11 +80,15 @@ impl EpochBoard {
     }
 
     /// The pair that the board shows, or 0, 0 where nothing was published yet. The pass has then seen all pairs up to this one.
+    ///
+    /// The look is a moment of the board's history, after all that the pass knows of, and what was published before it is what the pass has seen.
     pub fn now(&self, pass: &mut BoardPass) -> Seen
         requires { pass.old.board ≡ self.now }
         ensures board { pass.new.board ≡ pass.old.board }
         ensures seen { StartsWith pass.new.seen pass.old.seen }
         ensures pair { result ≡ last_pair pass.new.seen }
+        ensures moment { EndsWith Looked pass.old.moments pass.new.moments }
+        ensures shown { pass.new.seen ≡ pairs_in pass.new.moments }
     {
         let word = self.table.shared.load::<Look>(&mut pass.seat, 0);
         from_word(word)
@@ -90,40 +98,46 @@ impl EpochBoard {
     pub fn meet(&self, publisher: &mut Publisher, pass: &mut BoardPass)
         requires publisher { publisher.old.board ≡ self.now }
         requires pass { pass.old.board ≡ self.now }
-        ensures publisher { publisher.new ≡ publisher.old }
+        ensures publisher { (publisher.new.board ≡ publisher.old.board) × (publisher.new.published ≡ publisher.old.published) }
         ensures board { pass.new.board ≡ pass.old.board }
         ensures seen { pass.new.seen ≡ publisher.old.published }
         ensures before { StartsWith pass.new.seen pass.old.seen }
+        ensures moments { (pass.new.moments ≡ publisher.new.moments) × StartsWith pass.new.moments publisher.old.moments
+            × StartsWith pass.new.moments pass.old.moments }
+        ensures shown { pass.new.seen ≡ pairs_in pass.new.moments }
     {
         let informed = self.informed_pass(publisher);
         let before = mem::replace(pass, informed);
         self.compare(publisher, before);
+        *pass = self.informed_pass(publisher);
     }
 
     /// A board that has no pass yet.
     fn with_publisher(alloc: Global) -> Result<(EpochBoard, Publisher), NoMemory>
-        ensures { IfOk result (λ made. made.1 ≡ record { board = made.0; published = [] }) }
+        ensures { IfOk result (λ made. made.1 ≡ record { board = made.0; published = []; moments = [] }) }
     {
         let (table, seat) = Table::of_words(alloc, &[0], &())?;
         Ok((EpochBoard { table }, Publisher { seat }))
     }
 
-    /// A new pass, which has seen all that was published.
+    /// A new pass, which knows as much as the publisher.
     fn informed_pass(&self, publisher: &mut Publisher) -> BoardPass
         requires { publisher.old.board ≡ self.now }
-        ensures pass { result ≡ record { board = self.now; seen = publisher.old.published } }
+        ensures pass { result ≡ record { board = self.now; seen = publisher.old.published; moments = publisher.old.moments } }
+        ensures shown { publisher.old.published ≡ pairs_in publisher.old.moments }
         ensures publisher { publisher.new ≡ publisher.old }
     {
-        let seat = self.table.shared.split_seat::<Tell>(&mut publisher.seat);
-        BoardPass { seat }
+        let told = self.table.shared.split_seat::<Tell>(&mut publisher.seat);
+        BoardPass { seat: told }
     }
 
-    /// Takes in a pass: it has seen the first of what was published.
+    /// Takes in a pass: the publisher knows then of all that it knew of.
     fn compare(&self, publisher: &mut Publisher, pass: BoardPass)
         requires publisher { publisher.old.board ≡ self.now }
         requires pass { pass.board ≡ self.now }
-        ensures publisher { publisher.new ≡ publisher.old }
+        ensures publisher { (publisher.new.board ≡ publisher.old.board) × (publisher.new.published ≡ publisher.old.published) }
         ensures pass { StartsWith publisher.old.published pass.seen }
+        ensures moments { StartsWith publisher.new.moments publisher.old.moments × StartsWith publisher.new.moments pass.moments }
     {
         let BoardPass { seat } = pass;
         let shared = &self.table.shared;

@@ -1,17 +1,17 @@
 //! What each seat of a board's table knows, what holds of all of them together, and what a step tells.
-use crate::pairs::Seen;
+use crate::moments::Moment;
 use atomic_table::{Join, Play, Split, TableRule};
 use std::collections::LinkedList;
 
 /// What a seat knows. No value of it is made.
 pub enum View {
-    /// The publisher's: the pairs that it published, and those that it was told to compare with them.
-    Publishes(LinkedList<Seen>, LinkedList<Seen>),
-    /// That of a pass: the pairs that it has seen.
-    Follows(LinkedList<Seen>),
+    /// The publisher's: the history as far as it knows it, and another first part of it that it was told of.
+    Publishes(LinkedList<Moment>, LinkedList<Moment>),
+    /// That of a pass: the history as far as it knows it.
+    Follows(LinkedList<Moment>),
 }
 
-/// The word is the last published pair, and what each pass has seen begins what was published.
+/// There is one history, which begins with what each seat knows. The word is the pair that was published last in it.
 pub struct InOrder;
 
 impl TableRule<(), View, ()> for InOrder {
@@ -62,7 +62,7 @@ impl Split<View> for Tell {
     ghost right = { follower_of };
 }
 
-/// The publisher is told what a pass has seen.
+/// The publisher is told what a pass knows.
 pub struct TakeIn;
 
 impl Join<View> for TakeIn {

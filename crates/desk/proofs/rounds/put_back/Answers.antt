@@ -18,8 +18,8 @@ fetch_add-place-requires g c =
           (ap (λ m. m.0.shares) now ∙ player.one) (omega (arith, short, count)),
     )
 
-pub fetch_add-requires : goal.fetch_add-requires
-fetch_add-requires g c =
+pub fetch_add-served-requires : goal.fetch_add-served-requires
+fetch_add-served-requires g c =
     let out = c.requires.out in let words = c.requires.table.words in let roomy = out.roomy in
     let now : c.exchange-hole.new.seat.me ≡ (c.args.seat.now.me.0, (0, Some c.args.kept) ∷ []) = c.exchange-hole.ensures.3 ∙ ap (λ held. (c.args.seat.now.me.0, (0, Some c.args.kept) ∷ rest held)) out.hand in
     let done = c.fetch_add-place.ensures.2 c.args.kept out.ticket out.room out.entry (ap (λ m. m.1) now) (ap (λ m. m.0.phase) now ∙ out.serves) (out.entered ∙ ap (λ m. m.0.seen ++ out.entry ∷ []) (sym now)) in (
@@ -39,8 +39,8 @@ returns g c =
       entered = out.entered;
       placed = ap (λ m. length m.0.seen) (sym now) ∙ done.1 (terms_of g.K.Kept.listed g.K.Kept.tag c.args.top.now.key) (ap (λ m. m.0.terms) now ∙ c.requires.seat.told);
       is_seat = record {
-        table_stays = c.fetch_add.ensures.0 ∙ (c.fetch_add-place.ensures.0 ∙ c.exchange-hole.ensures.0);
-        same = c.fetch_add.ensures.1 ∙ (c.fetch_add-place.ensures.1 ∙ c.exchange-hole.ensures.1);
-        me_is = c.fetch_add.ensures.2 ∙ (ap (λ m. (in_phase Idle m.0, rest m.1)) done.0 ∙ ap (λ m. (in_phase Idle (counted_view g.K.Kept.listed place out.ticket out.room out.entry c.args.kept m.0), rest m.1)) now);
+        table_stays = c.fetch_add-served.ensures.0 ∙ (c.fetch_add-place.ensures.0 ∙ c.exchange-hole.ensures.0);
+        same = c.fetch_add-served.ensures.1 ∙ (c.fetch_add-place.ensures.1 ∙ c.exchange-hole.ensures.1);
+        me_is = c.fetch_add-served.ensures.2 ∙ (ap (λ m. (in_phase Idle m.0, rest m.1)) done.0 ∙ ap (λ m. (in_phase Idle (counted_view g.K.Kept.listed place out.ticket out.room out.entry c.args.kept m.0), rest m.1)) now);
       };
     }

@@ -1,8 +1,12 @@
-use Rattle.std.proofs.Common.{◌≡◌, [], ◌∷◌, ◌++◌, length, ap, sym, ◌∙◌}
+use Rattle.std.proofs.Common.{◌≡◌, [], ◌∷◌, ◌++◌, ◌+◌, length, ap, sym, ◌∙◌}
 use Rattle.std.proofs.lemmas.List.{append_cancel_left}
 use Rattle.desk.specs.Seats.{after_turn}
 use Rattle.desk.proofs.Steps.{last_is}
 use Rattle.desk.proofs.rounds.serve.Goals as goal
+
+pub take-answer-requires-clause-number : goal.take-answer-requires-clause-number
+take-answer-requires-clause-number g c = let taken = c.take_out-kept.ensures in
+    taken.next ∙ ap (λ begun. begun + c.take_out-kept.result.1) (c.requires.begun ∙ ap g.K.Kept.begun (sym taken.tagged))
 
 pub put_back-place-requires-clause-out : goal.put_back-place-requires-clause-out
 put_back-place-requires-clause-out g c = let taken = c.take_out-kept.ensures in let answered = c.take-answer.ensures in record {

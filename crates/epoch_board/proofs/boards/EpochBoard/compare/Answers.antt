@@ -1,5 +1,5 @@
 use Rattle.std.proofs.Common.{rules, []}
-use Rattle.epoch_board.specs.Private.Rule.{pairs_of}
+use Rattle.epoch_board.specs.Private.Rule.{moments_of}
 use Rattle.epoch_board.proofs.StepLemmas.{takes_in, compares}
 use Rattle.epoch_board.proofs.boards.EpochBoard.compare.Goals as goal
 
@@ -9,7 +9,7 @@ join_seat-requires c = (
   search rules,
   search rules,
   search rules,
-  takes_in _ _ _ _ (pairs_of c.publisher.inside.seat.me.0) [] (λ i. (c.publisher.invariant i).0),
+  takes_in _ _ _ _ (moments_of c.publisher.inside.seat.me.0) [] (λ i. (c.publisher.invariant i).0),
 )
 
 pub load-requires : goal.load-requires

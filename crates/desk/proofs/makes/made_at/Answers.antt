@@ -1,7 +1,7 @@
 use Rattle.std.proofs.Common.{List, length, ap, ◌∙◌}
 use Rattle.std.proofs.lemmas.List.FromFn.{length-map-range_with_len}
 use Rattle.desk.specs.Views.{Holder}
-use Rattle.desk.proofs.desks.Desk.new.Goals as goal
+use Rattle.desk.proofs.makes.made_at.Goals as goal
 
 pub returns-clause-many : goal.returns-clause-many
 returns-clause-many g c =
