@@ -5,8 +5,8 @@
 It builds `room_cases`, and prints for each row what that does in a second, what openssl does, and openssl's figure divided by ours.
 Rows: a key of 128 bits expanded and a text sealed or opened under it by cipher block chaining, of 18 KiB, in MiB/s, and of 64 octets, in
 thousands a second; a key expanded and two blocks encrypted, the work of one wrap, in thousands a second; the 286 update arrays that a batch
-may send in a tree of 512 leaves, in batches a second; the membership push with them, written and opened, in pushes a second; and HMAC with
-SHA-256 over pieces of 4,096 octets, in MiB/s.
+may send in a tree of 512 leaves, in batches a second; the membership push with them, written, and opened again in a room that keeps it,
+in pushes a second; and HMAC with SHA-256 over pieces of 4,096 octets, in MiB/s.
 """
 
 import os

@@ -1,5 +1,5 @@
-/* The works of `group_cases` (`work DISK DEPTH KIND COUNT`) in C with openssl's library: the same batches in a key tree that is changed in place,
-   with the same values, pushes and replies, and the same calls to the file. It prints the same. */
+/* The works of `room_cases` (`core work PATH DEPTH WORD ..`) in C with openssl's library: the same batches in a key tree that is changed in place, with the
+   same values, pushes and replies, and the same calls to the file. It has the kind of the batches and how many there are as words, and prints the same. */
 #define OPENSSL_SUPPRESS_DEPRECATED
 #include <fcntl.h>
 #include <openssl/aes.h>
@@ -97,7 +97,7 @@ struct work {
 };
 
 struct tally {
-    uint64_t batches, wraps, pushes, octets, replies, keys, sum;
+    uint64_t wraps, octets, keys, sum;
 };
 
 static const uint8_t sa_head[] = {0, 0, 0, 2, 0, 0, 0, 0, 0};
@@ -114,7 +114,7 @@ static struct tally tally;
 static struct reply reply[CHANGES];
 static uint8_t piece[PIECE];
 static uint8_t push[MOST];
-/* the file, if there is one, and the place of its closed gate */
+/* the file, and the place of its closed gate */
 static int file;
 static off_t gate;
 static EVP_CIPHER_CTX *cipher;
@@ -241,8 +241,6 @@ static void write_through(off_t at, const void *octets, size_t size)
 /* Writes a piece after a closed gate, and then opens that gate. */
 static void write_gated(off_t at, const void *octets, size_t size)
 {
-    if (file < 0)
-        return;
     write_through(at + 1, octets, size);
     write_through(at, "\1", 1);
 }
@@ -273,10 +271,7 @@ static void sync_folder(const char *path)
 /* An empty journal on the file at a path, or on none. */
 static void start_journal(const char *path)
 {
-    file = -1;
     gate = FIRST;
-    if (strcmp(path, "-") == 0)
-        return;
     file = open(path, O_RDWR | O_CREAT | O_CLOEXEC, 0666);
     must(file >= 0);
     sync_folder(path);
@@ -513,7 +508,6 @@ static void finish_push(uint8_t *at, const struct value *kek)
     memset(at, 0, payloads + size - at);
     must(EVP_CipherInit_ex2(cipher, NULL, kek->key, kek->iv, 1, NULL));
     must(EVP_CipherUpdate(cipher, payloads, &written, payloads, size) && written == size);
-    tally.pushes++;
     tally.octets += HEADER + size;
     add_end(payloads + size);
 }
@@ -565,7 +559,6 @@ static void write_reply(struct reply *told, unsigned leaf, const struct traffic 
 
 static void tally_reply(const struct reply *told)
 {
-    tally.replies++;
     tally.keys += told->keys;
     for (int i = 0; i < told->keys; i++)
         add_end(told->path[i].value.key + 16);
@@ -611,7 +604,6 @@ static void close_batch(const struct change *change, int count)
     append(at);
     for (int i = 0; i < comes; i++)
         tally_reply(reply + i);
-    tally.batches++;
 }
 
 /* The work of this name in a tree of so many leaves. */
@@ -643,13 +635,10 @@ static void make_changes(struct change *change, const struct work *work, unsigne
     }
 }
 
-static void print_tally(const char *kind)
+static void print_tally(void)
 {
-    printf("%s: %llu batches, epoch %u, sequence number %u, %u members\n", kind, (unsigned long long)tally.batches, tree.epoch, tree.sequence,
-           tree.members);
-    printf("%llu wraps, %llu pushes with %llu octets, %llu replies with %llu keys, sum %016llx\n", (unsigned long long)tally.wraps,
-           (unsigned long long)tally.pushes, (unsigned long long)tally.octets, (unsigned long long)tally.replies, (unsigned long long)tally.keys,
-           (unsigned long long)tally.sum);
+    printf("worked %u %u %u %llu %llu %llu %llu\n", tree.epoch, tree.sequence, tree.members, (unsigned long long)tally.wraps,
+           (unsigned long long)tally.octets, (unsigned long long)tally.keys, (unsigned long long)tally.sum);
 }
 
 static void do_work(const char *path, unsigned depth, const char *kind, unsigned long count)
@@ -664,9 +653,8 @@ static void do_work(const char *path, unsigned depth, const char *kind, unsigned
         make_changes(change, &work, number);
         close_batch(change, work.changes);
     }
-    if (file >= 0)
-        must(close(file) == 0);
-    print_tally(kind);
+    must(close(file) == 0);
+    print_tally();
 }
 
 int main(int words, char **word)

@@ -2,12 +2,12 @@
 
     python3 bench/core.py [FOLDER]        at the top of the repository
 
-It builds `group_cases` and `bench/core.c`, which each make a group in a tree of 512 leaves and close batches: they queue the changes, find what a
+It builds `room_cases` and `bench/core.c`, which each make a group in a tree of 512 leaves and close batches: they queue the changes, find what a
 batch renews, draw its keys, seal its pushes, find what its newcomers are told, and store it. For each work it prints the middle one of the times that
 each takes in runs by turns, our time divided by that of C, and the most memory that each had. The works are 512 members of whom 32 then go out at
-once; many batches of 32 changes; and many of four. On no disk they show the sealing and the planning alone. The files lie in a new folder in FOLDER,
-or else in /var/tmp, which has to be on a device. The processor's AES is switched off for openssl. Before that it sees that both print the same and
-leave the same file, and counts their calls to the system with strace: a batch is two writes and two syncs, and calls for memory apart no other.
+once; many batches of 32 changes; and many of four. On a file in memory they show the sealing and the planning alone. The other files lie in a new folder
+in FOLDER, or else in /var/tmp, which has to be on a device. The processor's AES is switched off for openssl. Before that it sees that both print the same
+and leave the same file, and counts their calls to the system with strace: a batch is two writes and two syncs, and calls for memory apart no other.
 """
 
 import collections
@@ -22,20 +22,24 @@ import tempfile
 import time
 import typing
 
+import works
+
 TOP = pathlib.Path(__file__).resolve().parent.parent
-CRATE = TOP / "crates" / "group_cases"
-PROGRAM = CRATE / "out" / "group_cases"
+CRATE = TOP / "crates" / "room_cases"
+PROGRAM = CRATE / "out" / "room_cases"
 # the processor's AES and carry-less products off, and nothing else
 NO_HARDWARE = dict(os.environ, OPENSSL_ia32cap="~0x200000200000000:~0x0")
-DEPTH = "9"
-# the name of each work, the kind of its batches, how many there are, and whether a file keeps them
+DEPTH = 9
+# a folder in memory
+MEMORY = "/dev/shm"
+# the name of each work, the kind of its batches, how many there are, and whether a device keeps them
 WORKS = [
     ("512 come, 32 go, on a file", "large", 17, True),
     ("32 changes each, on a file", "large", 2_000, True),
     ("4 changes each, on a file", "small", 10_000, True),
-    ("32 changes each, no disk", "large", 2_000, False),
-    ("4 changes each, no disk", "small", 1_000, False),
-    ("4 changes each, no disk", "small", 10_000, False),
+    ("32 changes each, in memory", "large", 2_000, False),
+    ("4 changes each, in memory", "small", 1_000, False),
+    ("4 changes each, in memory", "small", 10_000, False),
 ]
 # the works of the runs that are compared, and the batches of which calls are counted
 COMPARED = [("large", 100), ("small", 1_000)]
@@ -57,11 +61,11 @@ def run(command):
         command.words, input=command.given, check=True, capture_output=True, text=True, env=NO_HARDWARE).stdout
 
 
-def work(program, disk, *works):
+def work(program, disk, *pairs):
     """What has a program do works, each a kind of batches and how many there are: ours reads a line for each, and that in C has them as words."""
     if program == PROGRAM:
-        return Command([program], "".join(f"work {disk} {DEPTH} {kind} {count}\n" for kind, count in works))
-    return Command([program, disk, DEPTH, *(str(word) for pair in works for word in pair)])
+        return Command([program], "".join(works.line(disk, kind, DEPTH, count) for kind, count in pairs))
+    return Command([program, disk, str(DEPTH), *(str(word) for pair in pairs for word in pair)])
 
 
 def seconds(command):
@@ -148,8 +152,8 @@ def on_disk(call, command, disk):
 def print_row(programs, folder, row):
     """Times a work by turns, and prints what each program took."""
     name, kind, count, keeps = row
-    disk = folder / "timed"
-    commands = {program: work(program, disk if keeps else "-", (kind, count)) for program in programs}
+    disk = (folder if keeps else pathlib.Path(MEMORY)) / f"timed-{os.getpid()}"
+    commands = {program: work(program, disk, (kind, count)) for program in programs}
     times = {program: [] for program in programs}
     for _ in range(RUNS):
         for program in programs:

@@ -19,9 +19,10 @@ ROUNDS = {1: 40, 2: 20, 4: 10, 16: 10}
 
 
 def run(program, threads, rounds):
-    """What a program prints: ours reads a line, and that in Rust has words."""
-    words, given = ([program], f"turns {threads} {rounds}\n") if program == PROGRAM else ([program, str(threads), str(rounds)], "")
-    return subprocess.run(words, input=given, check=True, capture_output=True, text=True).stdout
+    """The sum of all turns that a program prints: ours reads a line for each round and prints the sum of that, and that in Rust has words."""
+    words, given = ([program], f"turns {threads}\n" * rounds) if program == PROGRAM else ([program, str(threads), str(rounds)], "")
+    printed = subprocess.run(words, input=given, check=True, capture_output=True, text=True).stdout
+    return sum(map(int, printed.split()))
 
 
 def seconds(program, threads, rounds):

@@ -49,6 +49,6 @@ int main(int words, char **word)
         write_gated(file, gate, piece, sizeof piece);
         gate += sizeof piece;
     }
-    printf("%lu records\n", count);
+    printf("append %lu\n", count);
     return 0;
 }

@@ -1,6 +1,6 @@
-/* The work of `group_cases` (`read FILE`) in C with openssl's library: gives each push of the file to the stores of 16 members, and makes a store of each
+/* The lines of `room_cases` that begin with `store`, in C with openssl's library: gives each push to the stores of 16 members, and makes a store of each
    reply. A store does for each datagram what RFC 6407 section 4 asks of a member: it looks at the header, decrypts the rest under the root's key, reads all
-   payloads, checks the signature and the number, and opens the keys of its path. It prints the same. */
+   payloads, checks the signature and the number, and opens the keys of its path. It prints the same, without what a refusal says besides its kind. */
 #define OPENSSL_SUPPRESS_DEPRECATED
 #include <openssl/aes.h>
 #include <openssl/crypto.h>
@@ -14,7 +14,7 @@
 #define STORES 16
 #define PATH 16
 #define MOST 65507
-#define RECORD 65536
+#define LINE (2 * MOST + 100)
 #define SPI 16
 #define HASH 32
 #define HEADER 28
@@ -92,11 +92,11 @@ static const char hash_key[] = "gdoi test signer";
 
 static struct store store[STORES];
 static unsigned stores;
-static uint8_t record[RECORD], room[MOST];
+static char line[LINE];
+static uint8_t octets[MOST], room[MOST];
 static struct push push;
-static struct {
-    unsigned long long replies, older, pushes, octets, answers[ANSWERS], sum;
-} tally;
+/* what a store answers, in words */
+static const char *const words[ANSWERS] = {"root", "traffic", "OtherSpi", "Malformed", "BadSignature", "Stale", "NoPath"};
 static EVP_CIPHER_CTX *cipher;
 static EVP_MD_CTX *hash;
 static EVP_MAC_CTX *mac;
@@ -460,16 +460,14 @@ static enum answer accept(struct store *store, const uint8_t *datagram, size_t s
     return TRAFFIC;
 }
 
-/* A reply: the epoch, the last number, and the key download of a registration, as the server writes it. */
+/* A reply: the key download of a registration, as the server writes it. */
 static void read_reply(struct store *told, struct text text)
 {
-    const uint8_t *head = take(&text, 8 + 69), *lkh = take(&text, 5 + SPI + 8), *key = NULL;
+    const uint8_t *head = take(&text, 69), *lkh = take(&text, 5 + SPI + 8), *key = NULL;
     must(head != NULL && lkh != NULL);
-    told->traffic_epoch = get4(head);
-    told->sequence = get4(head + 4);
-    memcpy(told->traffic.spi, head + 17, 4);
-    memcpy(told->traffic.cipher_key, head + 25, 16);
-    memcpy(told->traffic.integrity_key, head + 45, 32);
+    memcpy(told->traffic.spi, head + 9, 4);
+    memcpy(told->traffic.cipher_key, head + 17, 16);
+    memcpy(told->traffic.integrity_key, head + 37, 32);
     memcpy(told->spi, lkh + 5, SPI);
     told->keys = lkh[5 + SPI + 6];
     must(2 <= told->keys && told->keys <= PATH);
@@ -480,88 +478,74 @@ static void read_reply(struct store *told, struct text text)
         memcpy(told->path[i].iv, key + 16, 16);
         memcpy(told->path[i].key, key + 32, 16);
     }
-    must(text.at == text.end && get2(key) == 1 && get4(key + 12) == told->traffic_epoch);
+    must(text.at == text.end && get2(key) == 1);
+    told->traffic_epoch = get4(key + 12);
+}
+
+/* What came of it, and where a store is. */
+static void print_store(unsigned number, const char *answer)
+{
+    const struct store *of = store + number;
+    printf(" / m%u %s %u %u %u", number, answer, of->path[of->keys - 1].made, of->traffic_epoch, of->sequence);
 }
 
 /* Makes a store, or makes it anew by what is not older than what it has. */
-static void tell(unsigned number, struct text text)
+static void tell(unsigned number, uint32_t last, struct text text)
 {
-    struct store told, *old = store + number - 1;
+    struct store told, *old = store + number;
+    int is_new = number == stores, is_older = 0;
+    told.sequence = last;
     read_reply(&told, text);
-    tally.replies++;
-    if (number <= stores) {
-        if (told.sequence < old->sequence || (told.sequence == old->sequence && told.traffic_epoch < old->path[old->keys - 1].made)) {
-            tally.older++;
-            return;
-        }
-    } else
-        must(number == ++stores && number <= STORES);
-    *old = told;
-}
-
-static void add_end(const uint8_t *octets, size_t size)
-{
-    tally.sum += (uint64_t)get4(octets + size - 8) << 32 | get4(octets + size - 4);
-}
-
-static void add_traffic(const struct traffic *traffic)
-{
-    add_end(traffic->cipher_key, sizeof traffic->cipher_key);
-    add_end(traffic->integrity_key, sizeof traffic->integrity_key);
+    if (is_new)
+        must(++stores <= STORES);
+    else {
+        must(number < stores);
+        is_older = told.sequence < old->sequence || (told.sequence == old->sequence && told.traffic_epoch < old->path[old->keys - 1].made);
+    }
+    if (!is_older)
+        *old = told;
+    printf("tell");
+    print_store(number, is_new ? "made" : is_older ? "Older" : "renewed");
+    printf("\n");
 }
 
 /* Gives a push to all stores. */
 static void give(const uint8_t *datagram, size_t size)
 {
-    tally.pushes++;
-    tally.octets += size;
-    for (unsigned i = 0; i < stores; i++) {
-        enum answer answer = accept(store + i, datagram, size);
-        if (answer == TRAFFIC)
-            add_traffic(&store[i].traffic);
-        tally.answers[answer]++;
-    }
-}
-
-static void add_store(const struct store *store)
-{
-    add_traffic(&store->traffic);
-    tally.sum += (uint64_t)store->traffic_epoch + store->path[store->keys - 1].made + store->sequence + store->path[0].id;
-}
-
-static void print_tally(void)
-{
-    const unsigned long long *answers = tally.answers;
-    unsigned long long given = 0;
-    for (int i = 0; i < ANSWERS; i++)
-        given += answers[i];
-    printf("%llu replies, %llu pushes with %llu octets, %llu times read\n", tally.replies, tally.pushes, tally.octets, given);
-    printf("taken: %llu roots, %llu traffic keys; refused: %llu other SPI, %llu malformed, %llu bad signature, %llu stale, %llu no path\n",
-           answers[ROOT], answers[TRAFFIC], answers[OTHER_SPI], answers[MALFORMED], answers[BAD_SIGNATURE], answers[STALE], answers[NO_PATH]);
-    printf("%llu replies refused, sum %016llx\n", tally.older, tally.sum);
-}
-
-int main(int words, char **word)
-{
-    uint8_t head[4];
-    FILE *file;
-    size_t size;
-    must(words == 2);
-    file = made(fopen(word[1], "rb"));
-    start_ciphers();
-    for (;;) {
-        must(fread(head, 1, sizeof head, file) == sizeof head);
-        size = get2(head + 2);
-        must(fread(record, 1, size, file) == size);
-        if (get2(head) > 0)
-            tell(get2(head), (struct text){record, record + size});
-        else if (size > 0)
-            give(record, size);
-        else
-            break;
-    }
+    printf("push");
     for (unsigned i = 0; i < stores; i++)
-        add_store(store + i);
-    print_tally();
+        print_store(i, words[accept(store + i, datagram, size)]);
+    printf("\n");
+}
+
+static unsigned digit(char letter)
+{
+    return letter <= '9' ? letter - '0' : letter - 'a' + 10;
+}
+
+/* The octets that a word is in hexadecimal, up to the end of the line. */
+static struct text octets_of(const char *word)
+{
+    uint8_t *at = octets;
+    for (; *word > ' '; word += 2)
+        *at++ = digit(word[0]) << 4 | digit(word[1]);
+    return (struct text){octets, at};
+}
+
+int main(void)
+{
+    unsigned number, last;
+    int at;
+    start_ciphers();
+    while (fgets(line, sizeof line, stdin) != NULL) {
+        at = 0;
+        if (sscanf(line, "store tell m%u %u %n", &number, &last, &at) == 2 && at > 0)
+            tell(number, last, octets_of(line + at));
+        else {
+            must(strncmp(line, "store push ", 11) == 0);
+            struct text text = octets_of(line + 11);
+            give(octets, text.end - octets);
+        }
+    }
     return 0;
 }

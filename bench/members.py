@@ -2,16 +2,16 @@
 
     python3 bench/members.py        at the top of the repository
 
-It builds `group_cases` and `bench/members.c`, and has the first make a group and leave its pushes in a file. Both then give each push of that file to
-the stores of 16 members: a store decrypts the push under its root's key, reads its payloads, checks its signature and its number, and takes the keys of
-its path or the traffic key. A member that went out finds no path, and its reply makes its store anew when it comes back. For each group the script prints
-how often a store read a push, the middle one of the processor times that each program takes in runs by turns, our time divided by that of C, and the
-most memory that each had. The processor's AES and carry-less products are switched off for openssl. Before that it sees that both print the same, for
-whole files and for such as were changed.
+It builds `room_cases` and `bench/members.c`. Both read lines with the pushes of a group, which `bench/reference.py` makes, and give each push to the
+stores of 16 members: a store decrypts the push under its root's key, reads its payloads, checks its signature and its number, and takes the keys of its
+path or the traffic key. A member that went out finds no path, and its reply makes its store anew when it comes back. For each group the script prints how
+often a store read a push, the middle one of the processor times that each program takes in runs by turns, our time divided by that of C, and the most
+memory that each had. The processor's AES and carry-less products are switched off for openssl. Before that it sees that both print the same, for whole
+lines and for such as were changed. It needs the Python package cryptography.
 """
 
 import collections
-import contextlib
+import fcntl
 import os
 import pathlib
 import random
@@ -19,12 +19,15 @@ import re
 import statistics
 import subprocess
 import tempfile
+import termios
 import time
 import typing
 
+import reference
+
 TOP = pathlib.Path(__file__).resolve().parent.parent
-CRATE = TOP / "crates" / "group_cases"
-PROGRAM = CRATE / "out" / "group_cases"
+CRATE = TOP / "crates" / "room_cases"
+PROGRAM = CRATE / "out" / "room_cases"
 # the processor's AES and carry-less products off, and nothing else
 NO_HARDWARE = dict(os.environ, OPENSSL_ia32cap="~0x200000200000000:~0x0")
 # the name of each group, the depth of its tree, how many go out with a batch, and how many batches there are
@@ -32,7 +35,12 @@ GROUPS = [
     ("16 members, 1 goes, 1 comes back", 4, 1, 13_320),
     ("512 members, 16 go, 16 come back", 9, 16, 1_032),
 ]
-# the group whose file is changed, and how often
+# how a line begins that gives a push
+PUSH = "store push "
+# how many members have a store, and the most who come in with a batch
+STORES = 16
+AT_ONCE = 16
+# the group whose lines are changed, and how often
 COMPARED = (4, 1, 40)
 CHANGES = 300
 # an odd number, so that one is in the middle
@@ -69,79 +77,103 @@ def seconds(command):
     return used.ru_utime + used.ru_stime
 
 
-def full_pipe():
-    """The two ends of a pipe into which nothing more goes."""
-    out, into = os.pipe()
-    os.set_blocking(into, False)
-    with contextlib.suppress(BlockingIOError):
-        while True:
-            os.write(into, bytes(4096))
-    os.set_blocking(into, True)
-    return out, into
+def waits(process):
+    """Whether a program has read all that it was given, and waits for more."""
+    left = fcntl.ioctl(process.stdin, termios.FIONREAD, bytes(4))
+    return left == bytes(4) and pathlib.Path(f"/proc/{process.pid}/syscall").read_text().split()[:2] == ["0", "0x0"]
 
 
 def peak(command):
-    """The most memory that a run had at once, in KiB. The system is asked while the program waits to print, which is the last it does."""
-    out, into = full_pipe()
-    with started(command, into) as process:
-        told = pathlib.Path(f"/proc/{process.pid}")
-        while (told / "syscall").read_text().split()[1:2] != ["0x1"]:
+    """The most memory that a run had at once, in KiB. The system is asked once the program waits for more lines than there are."""
+    with subprocess.Popen(command.words, stdin=subprocess.PIPE, stdout=subprocess.DEVNULL, text=True, env=NO_HARDWARE) as process:
+        process.stdin.write(command.given)
+        process.stdin.flush()
+        while not waits(process):
             time.sleep(0.001)
-        lines = (told / "status").read_text().splitlines()
-        os.close(out)
-        os.close(into)
-    return next(int(line.split()[1]) for line in lines if line.startswith("VmHWM"))
+        told_by_system = pathlib.Path(f"/proc/{process.pid}/status").read_text().splitlines()
+        process.stdin.close()
+    return next(int(line.split()[1]) for line in told_by_system if line.startswith("VmHWM"))
 
 
-def written(folder, depth, going, count):
-    """A file with the pushes of a group."""
-    path = folder / f"{depth}-{going}-{count}.pushes"
-    run(Command([PROGRAM], f"members\nwrite {path} {depth} {going} {count}\n"))
-    return path
+def leaver(depth, going, turn, i):
+    """Who goes out in a turn at this place: members go far from each other."""
+    members = 1 << depth
+    return (turn * going + i) * (members // 8 * 5 - 1) % members
 
 
-def commands(theirs, path):
-    """What has each program read a file: first ours, which reads a line after the one that asks for members."""
-    return [Command([PROGRAM], f"members\nread {path}\n"), Command([theirs, path])]
+def changes(depth, going, number):
+    """The changes of the batch of this number: members come in until the tree is full; from then on some go out, and those before them come back."""
+    turn = number - (1 << depth) // AT_ONCE
+    if turn < 0:
+        return [(1, number * AT_ONCE + i) for i in range(AT_ONCE)]
+    return [(is_in, leaver(depth, going, turn - is_in, i)) for i in range(going) for is_in in (0, 1) if turn >= is_in]
 
 
-def pushes(octets):
-    """Where the pushes stand in a file: of each its first octet, and the place after it."""
-    places, at = [], 0
-    while at < len(octets):
-        whom, size = int.from_bytes(octets[at : at + 2], "big"), int.from_bytes(octets[at + 2 : at + 4], "big")
-        if whom == 0 and size > 0:
-            places.append((at + 4, at + 4 + size))
-        at += 4 + size
-    return places
+def close(group, draws, batch):
+    """Closes a batch of a group; what those are told who come in."""
+    named = [(is_in, b"m%d" % member) for is_in, member in batch]
+    plan = group.plan(named)
+    nodes = [(position, draws.draw(), draws.draw()) for position in plan["draw"]]
+    group.apply(named, plan, nodes, (draws.draw(), draws.draw() + draws.draw(), reference.high(draws.draw())))
+    return [(member, group.keyed(member)) for is_in, member in named if is_in]
 
 
-def changed(octets):
-    """The same file with an octet of a push changed, or with a push in the place of another one of its size."""
+def told(member, keyed):
+    """The line that tells a member its keys."""
+    paths = reference.packet(3, keyed["spi"], reference.long(1, reference.download_array(keyed["path"])))
+    return f"store tell {member.decode()} {keyed['sequence']} {reference.kd_body(reference.traffic_packet(keyed['traffic']), paths).hex()}"
+
+
+def lines(depth, going, count):
+    """What a group sends in so many batches, a line each: the replies of a batch to those with a store, and then its pushes."""
+    draws = reference.Draws(0, 0)
+    group = reference.Group(depth, b"console", draws.draw(), 2**32 - 1)
+    sent = []
+    for number in range(count):
+        replies = close(group, draws, changes(depth, going, number))
+        sent += [told(member, keyed) for member, keyed in replies if int(member[1:]) < STORES]
+        sent += [PUSH + push.hex() for _, push in group.pair()]
+    return sent
+
+
+def commands(theirs, sent):
+    """What gives each program these lines."""
+    given = "".join(line + "\n" for line in sent)
+    return [Command([PROGRAM], given), Command([theirs], given)]
+
+
+def answers(command):
+    """What a program prints, without what a refusal says besides its kind."""
+    text = run(command)
+    while " { " in text:
+        text = re.sub(r" \{ [^{}]* \}", "", text)
+    return text
+
+
+def changed(sent):
+    """The same lines with an octet of a push changed, or with a push in the place of another one of its size."""
     dice = random.Random(1)
-    places = pushes(octets)
+    places = [i for i, line in enumerate(sent) if line.startswith(PUSH)]
     for _ in range(CHANGES):
-        start, end = dice.choice(places)
-        other = bytearray(octets)
+        i = dice.choice(places)
+        other = list(sent)
         if dice.random() < 0.1:
-            start2, end2 = dice.choice([place for place in places if place[1] - place[0] == end - start])
-            other[start:end] = octets[start2:end2]
+            other[i] = sent[dice.choice([j for j in places if len(sent[j]) == len(sent[i])])]
         else:
-            at = dice.choice([dice.randrange(start, start + 28), dice.randrange(start, end)])
-            other[at] ^= dice.choice([1, 128, 255])
-        yield bytes(other)
+            octets = bytearray.fromhex(sent[i][len(PUSH) :])
+            octets[dice.choice([dice.randrange(28), dice.randrange(len(octets))])] ^= dice.choice([1, 128, 255])
+            other[i] = PUSH + octets.hex()
+        yield other
 
 
-def check_answers(theirs, folder):
-    """Sees that both programs print the same for whole and for changed files; how often each answer came."""
-    path = written(folder, *COMPARED)
-    whole = path.read_bytes()
+def check_answers(theirs):
+    """Sees that both programs print the same for whole and for changed lines; how often each answer came."""
+    whole = lines(*COMPARED)
     often = collections.Counter()
-    for octets in [whole, *changed(whole)]:
-        path.write_bytes(octets)
-        ours, others = map(run, commands(theirs, path))
-        assert ours == others, f"the two programs differ at {path}:\n{ours}{others}"
-        often.update({answer: int(count) for count, answer in re.findall(r"(\d+) ([a-zA-Z ]+)", ours.splitlines()[1])})
+    for sent in [whole, *changed(whole)]:
+        ours, others = map(answers, commands(theirs, sent))
+        assert ours == others, f"the two programs differ:\n{ours}{others}"
+        often.update(re.findall(r"/ m\d+ (\w+)", ours))
     return ", ".join(f"{count} {answer}" for answer, count in often.items())
 
 
@@ -151,14 +183,13 @@ def processor():
     return names[0].split(":", 1)[1].strip()
 
 
-def print_row(theirs, folder, group):
+def print_row(theirs, group):
     """Times the reading of a group's pushes by turns, and prints what each program took."""
     name, depth, going, count = group
-    path = written(folder, depth, going, count)
-    both = commands(theirs, path)
-    ours, others = map(run, both)
-    assert ours == others, f"the two programs differ at {path}:\n{ours}{others}"
-    often = int(re.search(r"(\d+) times read", ours)[1])
+    both = commands(theirs, lines(depth, going, count))
+    ours, others = map(answers, both)
+    assert ours == others, f"the two programs differ for {name}"
+    often = sum(line.count(" / ") for line in ours.splitlines() if line.startswith("push"))
     times = [[], []]
     for _ in range(RUNS):
         for command, taken in zip(both, times):
@@ -175,10 +206,10 @@ def main():
         theirs = folder / "members"
         subprocess.run(["cc", "-O2", "-o", theirs, TOP / "bench" / "members.c", "-lcrypto"], check=True)
         print(f"{processor()}, openssl {run(Command(['openssl', 'version'])).split()[1]}")
-        print(f"{CHANGES} files were changed, with the same answers: {check_answers(theirs, folder)}")
+        print(f"{CHANGES} runs of lines were changed, with the same answers: {check_answers(theirs)}")
         print(f"{'':34}{'readings':>9}{'ours, ms':>10}{'C, ms':>10}{'ratio':>8}{'ours, KiB':>11}{'C, KiB':>9}")
         for group in GROUPS:
-            print_row(theirs, folder, group)
+            print_row(theirs, group)
 
 
 main()

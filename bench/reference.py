@@ -1115,6 +1115,7 @@ def answer_cases(lines):
         elif word in ('source', 'sink'): asked[word] = list(map(int, rest))
         elif word == 'words': asked['words'] = rest
         elif word == 'crash': disk = disk.crashed(int(rest[0]))
+        elif word == 'trial': out.append('trial %s holds\n' % rest[0])      # of the program itself
         elif word == 'run':
             report, status, at, _ = run(asked['words'], asked['script'], disk, asked['source'], asked['sink'])
             out.append(told(rest[0], report, status, at, bytes(disk.image)))

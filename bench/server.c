@@ -1,6 +1,5 @@
-/* The ciphers and hashes of COUNT whole pulls in a tree of 512 leaves by openssl's library. Of each of the four messages the sender makes the HASH and
-   seals the text; the receiver opens it and makes the HASH again. Keys and nonces stay the same, and no session, policy or tree is kept. It prints what
-   `server_cases` (`pulls MEMBERS COUNT`) does. */
+/* The server's ciphers and hashes of COUNT pulls in a tree of 512 leaves by openssl's library. Messages 1 and 3 it opens, and makes their HASH; of messages 2
+   and 4 it makes the HASH, and seals the text. Keys and nonces stay the same, and no session, policy or tree is kept. It prints how many pulls there were. */
 #include <openssl/crypto.h>
 #include <openssl/evp.h>
 #include <openssl/params.h>
@@ -79,39 +78,36 @@ static void make_hash(unsigned char *to, int message, const unsigned char *id, c
         exit(1);
 }
 
-/* Sends a message, and takes it; the IV is that of the next one then. Whether its HASH is right. */
-static int pass(int message, const unsigned char *id, unsigned char *iv)
+/* Opens a message, or seals it; the IV is that of the next one then. */
+static void pass(int message, const unsigned char *id, unsigned char *iv, int seals)
 {
     unsigned char due[HASH];
     size_t size = (HASH_PAYLOAD + messages[message].payloads + BLOCK - 1) / BLOCK * BLOCK;
-    make_hash(text + 4, message, id, text + HASH_PAYLOAD);
-    crypt(sent, text, size, iv, 1);
-    crypt(got, sent, size, iv, 0);
-    make_hash(due, message, id, got + HASH_PAYLOAD);
+    if (seals)
+        make_hash(text + 4, message, id, text + HASH_PAYLOAD);
+    crypt(seals ? sent : got, seals ? text : sent, size, iv, seals);
+    if (!seals)
+        make_hash(due, message, id, got + HASH_PAYLOAD);
     memcpy(iv, sent + size - BLOCK, BLOCK);
-    return CRYPTO_memcmp(due, got + 4, HASH) == 0;
 }
 
-static int pull(unsigned number)
+static void pull(unsigned number)
 {
-    unsigned char id[4] = {0x80 | number >> 24, number >> 16, number >> 8, number}, iv[BLOCK], member_iv[BLOCK];
-    int right = 1;
-    first_iv(member_iv, id);
+    unsigned char id[4] = {0x80 | number >> 24, number >> 16, number >> 8, number}, iv[BLOCK];
     first_iv(iv, id);
     for (int message = 0; message < MESSAGES; message++)
-        right &= pass(message, id, iv);
-    return right;
+        pass(message, id, iv, message % 2);
 }
 
 int main(int argc, char **argv)
 {
-    unsigned count, right = 0;
+    unsigned count;
     if (argc != 2)
         return 1;
     count = strtoul(argv[1], NULL, 10);
     start();
     for (unsigned i = 0; i < count; i++)
-        right += pull(i);
-    printf("%u pulls\n", right);
+        pull(i);
+    printf("%u pulls\n", count);
     return 0;
 }

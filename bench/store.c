@@ -285,7 +285,7 @@ static int take_batch(struct text text)
 
 static int no_group(uint64_t at)
 {
-    printf("no group at %llu\n", (unsigned long long)at);
+    printf("open NotAJournal { at: %llu }\n", (unsigned long long)at);
     return 1;
 }
 
@@ -319,6 +319,6 @@ int main(int words, char **word)
             batches++;
         at += HEAD + size;
     }
-    printf("%llu batches, epoch %u, sequence number %llu\n", (unsigned long long)batches, tree.epoch, (unsigned long long)tree.sequence);
+    printf("open read %d %llu %u %llu\n", tree.depth, (unsigned long long)batches, tree.epoch, (unsigned long long)tree.sequence);
     return 0;
 }

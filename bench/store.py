@@ -17,11 +17,16 @@ import sys
 import tempfile
 import time
 
+import works
+
 TOP = pathlib.Path(__file__).resolve().parent.parent
 CRATE = TOP / "crates" / "room_cases"
 PROGRAM = CRATE / "out" / "room_cases"
 COUNTS = [1_000, 10_000]
 RUNS = 31
+DEPTH = 9
+# how an answer begins that refuses a journal
+REFUSED = "open NotAJournal "
 # the batches of the journal that is changed: members come in, then go out, then come in
 COMPARED = 128
 # the octets before the gate of the first record, which is the head, and the place of the limit in it
@@ -38,7 +43,7 @@ def opened(program, path):
     """What a program prints that opens a store; one without a group has its place in that."""
     words, given = command(program, path)
     done = subprocess.run(words, input=given, capture_output=True, text=True)
-    refused = done.stdout.startswith("no group at ")
+    refused = done.stdout.startswith(REFUSED)
     assert done.returncode == (0 if program == PROGRAM else int(refused)), f"{words} ended with {done.returncode}"
     return done.stdout
 
@@ -46,7 +51,7 @@ def opened(program, path):
 def made(folder, count):
     """A journal with so many batches."""
     path = folder / f"{count}.store"
-    subprocess.run([PROGRAM], input=f"make {path} {count}\n", check=True, capture_output=True, text=True)
+    subprocess.run([PROGRAM], input=works.line(path, "small", DEPTH, count), check=True, capture_output=True, text=True)
     return path
 
 
@@ -88,7 +93,7 @@ def check_answers(programs, folder):
         answers = [opened(program, path) for program in programs]
         assert answers[0] == answers[1], f"the two programs differ at {path}: {answers}"
         count += octets != whole
-        refused += answers[0].startswith("no group at ")
+        refused += answers[0].startswith(REFUSED)
     return count, refused
 
 

@@ -1,6 +1,7 @@
 //! Texts that are put together.
 
 use std::alloc::Global;
+use std::fmt::Debug;
 
 /// A text that is put together piece by piece. Where memory runs out a piece is left out, and the text is no longer whole: who appends need not look
 /// whether each piece was kept.
@@ -53,6 +54,20 @@ impl Text {
         }
     }
 
+    /// Appends words, and behind them a number in decimal.
+    pub fn add_named(&mut self, words: &str, number: u64) {
+        self.add(words);
+        self.add_number(number);
+    }
+
+    /// Appends a line: words, how many octets there are, and these in hexadecimal.
+    pub fn add_message(&mut self, words: &str, octets: &[u8]) {
+        self.add_named(words, octets.len() as u64);
+        self.add(" ");
+        self.add_hex(octets);
+        self.add("\n");
+    }
+
     /// Appends octets in hexadecimal.
     pub fn add_hex(&mut self, octets: &[u8]) {
         for octet in octets {
@@ -62,6 +77,29 @@ impl Text {
 
     fn add_octet(&mut self, octet: u8) {
         if write!(self.text, "{octet:02x}").is_err() {
+            self.whole = false;
+        }
+    }
+
+    /// Appends numbers in decimal, a space before each.
+    pub fn add_numbers(&mut self, numbers: &[u64]) {
+        for number in numbers {
+            self.add(" ");
+            self.add_number(*number);
+        }
+    }
+
+    /// Appends texts of octets in hexadecimal, a space before each, with `-` for one of no octets.
+    pub fn add_octets(&mut self, texts: &[&[u8]]) {
+        for octets in texts {
+            self.add(if octets.is_empty() { " -" } else { " " });
+            self.add_hex(octets);
+        }
+    }
+
+    /// Appends a value as its type shows it.
+    pub fn add_value<T: Debug>(&mut self, value: &T) {
+        if write!(self.text, "{value:?}").is_err() {
             self.whole = false;
         }
     }

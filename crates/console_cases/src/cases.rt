@@ -1,39 +1,52 @@
 //! A case: a disk, and what is said so far of the next run on it.
 
-use crate::runs::{Asked, run};
-use crate::texts::{add_run, detail_of};
+use crate::runs::run;
+use crate::texts::add_run;
+use crate::trials::tried;
 use case_lines::{Text, long_number, octets, put};
+use console_run::seed_of;
 use gd_disk::MemDisk;
-use group_terms::List;
+use gd_edges::{ChaChaDraws, TextSink, TextSource};
+use group_terms::{List, NoMemory, Octets};
 use std::alloc::Global;
 use std::mem;
 
 /// No disk has more octets.
 const FARTHEST: usize = 1 << 62;
 
-/// A case so far.
+/// A case so far: a disk, and the words and the script of the next run, and which calls of its source and of its sink fail.
 #[derive(Drop)]
 pub struct Case {
-    asked: Asked,
-    /// There is none only where a run or a crash ran out of memory.
-    disk: Option<MemDisk>,
+    words: Vec<String>,
+    script: Octets,
+    source_fails: List<u64>,
+    sink_fails: List<u64>,
+    disk: MemDisk,
 }
 
 impl Case {
-    /// An empty disk.
+    /// No word, no line, and an empty disk.
     pub fn begin(alloc: Global) -> Self {
         Case {
-            asked: Asked::nothing(alloc),
-            disk: Some(MemDisk::new(alloc)),
+            words: Vec::new(alloc),
+            script: List::new(alloc),
+            source_fails: List::new(alloc),
+            sink_fails: List::new(alloc),
+            disk: MemDisk::new(alloc),
         }
     }
 
     /// Does what a line says or asks for, and appends the answer. `None` where it asks for nothing that can be done.
     pub fn answer(&mut self, alloc: Global, line: &str, text: &mut Text) -> Option<()> {
         match line.strip_prefix("> ") {
-            Some(line) => self.asked.add_line(line).ok(),
+            Some(line) => self.add_line(line).ok(),
             None => self.split(alloc, line, text),
         }
+    }
+
+    fn add_line(&mut self, line: &str) -> Result<(), NoMemory> {
+        self.script.extend(line.as_bytes())?;
+        self.script.push(b'\n')
     }
 
     fn split(&mut self, alloc: Global, line: &str, text: &mut Text) -> Option<()> {
@@ -45,64 +58,34 @@ impl Case {
 
     fn answer_words(&mut self, alloc: Global, words: &[&str], text: &mut Text) -> Option<()> {
         let (word, rest) = words.split_first()?;
-        match rest {
-            [only] => self.with_one(alloc, word, only, rest, text),
-            _ => self.with_more(alloc, word, rest),
-        }
-    }
-
-    /// What a word says or asks with another one.
-    fn with_one(
-        &mut self,
-        alloc: Global,
-        word: &str,
-        only: &str,
-        rest: &[&str],
-        text: &mut Text,
-    ) -> Option<()> {
-        match word {
-            "case" => {
-                self.begin_anew(alloc, only, text);
-                Some(())
-            }
-            "run" => self.run(alloc, only, text),
-            "disk" => self.put_image(alloc, only),
-            "crash" => self.crash(long_number(only)?),
-            _ => self.with_more(alloc, word, rest),
-        }
-    }
-
-    /// What a word says of the disk or of the next run with any number of others.
-    fn with_more(&mut self, alloc: Global, word: &str, rest: &[&str]) -> Option<()> {
-        match word {
-            "faults" => {
-                let disk = MemDisk::planned(alloc, numbers(alloc, rest)?);
-                self.put_disk(disk);
-                Some(())
-            }
-            "source" => self.asked.fail_source(numbers(alloc, rest)?),
-            "sink" => self.asked.fail_sink(numbers(alloc, rest)?),
-            "words" => self.asked.put_words(alloc, rest),
+        match *word {
+            "case" => self.begin_anew(alloc, only(rest)?, text),
+            "faults" => self.plan_faults(alloc, rest),
+            "disk" => self.put_image(alloc, only(rest)?),
+            "source" => fill(rest, &mut self.source_fails),
+            "sink" => fill(rest, &mut self.sink_fails),
+            "words" => put_words(alloc, rest, &mut self.words),
+            "run" => self.run(alloc, only(rest)?, text),
+            "crash" => self.crash(alloc, only(rest)?),
+            "trial" => add_trial(alloc, only(rest)?, text),
             _ => None,
         }
     }
 
     /// Another case.
-    fn begin_anew(&mut self, alloc: Global, name: &str, text: &mut Text) {
+    fn begin_anew(&mut self, alloc: Global, name: &str, text: &mut Text) -> Option<()> {
         put(self, Case::begin(alloc));
         text.add("case ");
         text.add(name);
         text.add("\n");
+        Some(())
     }
 
-    fn run(&mut self, alloc: Global, detail: &str, text: &mut Text) -> Option<()> {
-        let detail = detail_of(detail)?;
-        let disk = self.disk.take()?;
-        let asked = mem::replace(&mut self.asked, Asked::nothing(alloc));
-        let ran = run(alloc, asked, disk);
-        add_run(detail, &ran, text);
-        self.put_disk(ran.into_disk());
-        Some(())
+    fn plan_faults(&mut self, alloc: Global, calls: &[&str]) -> Option<()> {
+        let mut fails = List::new(alloc);
+        let filled = fill(calls, &mut fails);
+        put(&mut self.disk, MemDisk::planned(alloc, fails));
+        filled
     }
 
     fn put_image(&mut self, alloc: Global, word: &str) -> Option<()> {
@@ -110,35 +93,70 @@ impl Case {
         if image.len() > FARTHEST {
             return None;
         }
-        self.put_disk(MemDisk::holding(alloc, List::from_vec(image)));
+        put(
+            &mut self.disk,
+            MemDisk::holding(alloc, List::from_vec(image)),
+        );
         Some(())
     }
 
-    fn crash(&mut self, choice: u64) -> Option<()> {
-        let disk = self.disk.take()?.crashed(choice).ok()?;
-        self.put_disk(disk);
+    fn crash(&mut self, alloc: Global, choice: &str) -> Option<()> {
+        let choice = long_number(choice)?;
+        let disk = mem::replace(&mut self.disk, MemDisk::new(alloc));
+        put(&mut self.disk, disk.crashed(choice).ok()?);
         Some(())
     }
 
-    fn put_disk(&mut self, disk: MemDisk) {
-        put(&mut self.disk, Some(disk));
+    /// Runs the console, and forgets what was said of that run.
+    fn run(&mut self, alloc: Global, detail: &str, text: &mut Text) -> Option<()> {
+        let script = mem::replace(&mut self.script, List::new(alloc));
+        let source_fails = mem::replace(&mut self.source_fails, List::new(alloc));
+        let sink_fails = mem::replace(&mut self.sink_fails, List::new(alloc));
+        let disk = mem::replace(&mut self.disk, MemDisk::new(alloc));
+        let mut source = TextSource::new(script, source_fails);
+        let mut sink = TextSink::new(alloc, sink_fails);
+        let mut peers = ChaChaDraws::new(seed_of(&self.words), 1);
+        let (ending, _, disk) = run(alloc, &self.words, &mut source, &mut sink, disk, &mut peers);
+        let told = add_run(detail, sink.octets(), ending, disk.image(), text);
+        drop(source);
+        drop(sink);
+        put(&mut self.disk, disk);
+        self.words.clear();
+        told
     }
 }
 
-fn numbers(alloc: Global, words: &[&str]) -> Option<List<u64>> {
-    let mut numbers = List::new(alloc);
-    match add_numbers(words, &mut numbers) {
-        Some(()) => Some(numbers),
-        None => {
-            drop(numbers);
-            None
-        }
+/// Whether a trial holds.
+fn add_trial(alloc: Global, name: &str, text: &mut Text) -> Option<()> {
+    let holds = tried(alloc, name)?;
+    text.add("trial ");
+    text.add(name);
+    text.add(if holds { " holds\n" } else { " fails\n" });
+    Some(())
+}
+
+/// The one word of words that have exactly one.
+fn only<'a>(words: &[&'a str]) -> Option<&'a str> {
+    match words {
+        [only] => Some(only),
+        _ => None,
     }
 }
 
-fn add_numbers(words: &[&str], numbers: &mut List<u64>) -> Option<()> {
+/// These numbers, in place of those of before.
+fn fill(words: &[&str], numbers: &mut List<u64>) -> Option<()> {
+    numbers.clear();
     for word in words {
         numbers.push(long_number(word)?).ok()?;
+    }
+    Some(())
+}
+
+/// These words, in place of those of before.
+fn put_words(alloc: Global, words: &[&str], into: &mut Vec<String>) -> Option<()> {
+    into.clear();
+    for word in words {
+        into.push(String::from_str(alloc, word).ok()?).ok()?;
     }
     Some(())
 }

@@ -11,6 +11,7 @@
 //! > LINE                           a line of its script
 //! run octets|hashes|outline        the run, on the disk that the last one left
 //! crash CHOICE                     the disk is as a crash of this number leaves it
+//! trial NAME                       whether a trial holds, which is what no line of a script can show
 //! ```
 //!
 //! A run is told in full, by the SHA-256 of its report and of its journal, or in full but for the octets of its pushes.
@@ -18,14 +19,20 @@
 
 use case_lines::{Text, print_text};
 use cases::Case;
+use laws::call_laws;
 use std::io;
 use std::io::{BufRead, BufReader, ErrorKind};
 
 mod cases;
+mod clock_disk;
+mod laws;
 mod runs;
+mod streams;
 mod texts;
+mod trials;
 
 fn main(rt: HostRuntime) -> io::Result<()> {
+    call_laws();
     let mut case = Case::begin(rt.alloc());
     let answered = answer_all(&rt, &mut case);
     drop(case);

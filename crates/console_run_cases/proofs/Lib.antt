@@ -1,2 +1,4 @@
 pub mod DerivationFacts
+pub mod ReportFacts
 pub mod RunFacts
+pub mod ScriptFacts

@@ -1,7 +1,9 @@
 -- What the definitions of a run's steps give where a wrong step would give something else: a leave noted as a join, a server that is shown though it has to be
--- opened again, a rule with the number of another, an SA that is introduced twice, a fourth message that is made anew for a repeat, a datagram that comes though
--- it got lost or is still on its way after another opening, the fingerprint of one key alone.
+-- opened again, a rule with the number of another, an SA that is introduced twice, a fourth message that is made anew for a repeat or is of an older epoch,
+-- a datagram that comes though it got lost or is still on its way after another opening, the fingerprint of one key alone.
 use Rattle.std.proofs.Common.{◌≡◌, ◌⊎◌, ◌∙◌, ℕ, zero, suc, Bool, true, false, List, [], ◌∷◌, ◌++◌, Option, None, Some, MatchBool, if◌then◌else◌, map, take, inl, inr, ap, refl}
+use Rattle.std.proofs.Common.{arith, length, subst}
+use Rattle.std.specs.Str.{bytes_eq}
 use Rattle.std.proofs.lemmas.Bool.{true≢false, false≢true}
 use Rattle.sha2.specs.Sha256.{sha256}
 use Rattle.gd_edges.specs.declared.signers.Signer.{Ghosts as SignerGhosts}
@@ -11,6 +13,7 @@ use Rattle.group_terms.specs.declared.changes.Change.TheVariants.{In, Out}
 use Rattle.group_terms.specs.declared.paths.Keyed.{Keyed}
 use Rattle.group_terms.specs.declared.patterns.Rule.{Rule}
 use Rattle.group_terms.specs.declared.phases.Phase1.{Phase1}
+use Rattle.group_terms.specs.declared.signatures.SignKind.{SignKind}
 use Rattle.group_terms.specs.declared.values.TrafficValue.{TrafficValue}
 use Rattle.group_policy.specs.Judgements.{judgement}
 use Rattle.group_policy.specs.declared.verdicts.Verdict.TheVariants as verdicts
@@ -26,19 +29,28 @@ use Rattle.group_model.specs.declared.entries.Refusal.{Refusal}
 use Rattle.group_model.specs.declared.entries.Refusal.TheVariants.{Denied, NeedsReopen, NoMemory, WrongGroup}
 use Rattle.group_model.specs.declared.entries.SentReply.{SentReply}
 use Rattle.group_model.specs.declared.entries.SymReply.{SymReply}
+use Rattle.group_values.specs.Values.{Made}
+use Rattle.pull_msgs.specs.Texts.{next_iv}
 use Rattle.pull_msgs.specs.declared.messages.First.{First}
 use Rattle.pull_msgs.specs.declared.messages.Third.{Third}
+use Rattle.pull_sessions.specs.Builds.{begun_session, session_after_third}
+use Rattle.pull_sessions.specs.declared.answers.Kept.{Kept}
 use Rattle.pull_sessions.specs.declared.answers.Kept.TheVariants as kept
 use Rattle.pull_sessions.specs.declared.answers.LookedAt.TheVariants.{Repeat}
 use Rattle.pull_sessions.specs.declared.answers.Step.TheVariants as awaits
 use Rattle.pull_sessions.specs.declared.sas.Session.{Session}
+use Rattle.sa_wire.specs.declared.policies.SaPolicy.{SaPolicy}
 use Rattle.server_steps.specs.Changes.{IsAddingRule, after_leave, shown_group}
 use Rattle.server_steps.specs.Fourths.{settled_by, settled_in}
 use Rattle.server_steps.specs.Hosts.{Host, with_rules}
-use Rattle.server_steps.specs.Pulls.{AnswersFound, Queues, spi_or_zeros}
+use Rattle.server_steps.specs.Messages.{IsAnswerNow, IsMessageNow}
+use Rattle.server_steps.specs.Pulls.{AnswersFound, Queues, present_policy, spi_or_zeros}
 use Rattle.server_steps.specs.Refusals.{names_group, refusal_to_first, unless_denied, why_pending}
 use Rattle.group_peers.specs.Peers.{loses, peer_of, was_introduced, with_loss}
 use Rattle.group_peers.specs.declared.members.Peer.{Peer}
+use Rattle.member_pull.specs.Pulls.{spi_of}
+use Rattle.member_pull.specs.Views.{Pull}
+use Rattle.member_pull.specs.declared.pulls.Step.TheVariants as pulls
 use Rattle.member_store.specs.Stores.{Store, is_older}
 use Rattle.member_steps.specs.Acts.{Ignore}
 use Rattle.member_steps.specs.Drawn.{message_drawn, nonce_drawn, phase_drawn}
@@ -48,6 +60,7 @@ use Rattle.member_steps.specs.Steps.{Gets, IsKeeping, IsLosing, IsMemberStep, Is
 use Rattle.group_steps.specs.Gets.{get, introduced_by, mail_of, mail_to}
 use Rattle.group_steps.specs.Runs.{Run}
 use Rattle.group_run.specs.Reads.{Ask, AsksOf, ReadsMail}
+use Rattle.store_steps.specs.Fourths.{IsInStep}
 use Rattle.console_run.specs.Lines.{AsksToIntroduce, AsksToJoin, AsksToPull, JoinsAfter, asked_again}
 
 -- ---- a server
@@ -221,6 +234,41 @@ module _ (block : ℕ → List ℕ) (group : Name) {D : Type 0} (run : Run D) (b
   no_pull_follows_a_refused_introduction : (phase : Phase1) (why : Refusal)
       → JoinsAfter block group run before so_far m (Introduce phase) (Refused why) next → next ≡ None
   no_pull_follows_a_refused_introduction phase why none = none
+
+-- ---- of which epoch an answer is
+
+module _ {D : Type 0} (kind : SignKind) (host : Host D) (session : Session) (phase : Phase1) (datagram octets : List ℕ) where
+  answered_by : (names : Option SymReply) (again : Bool) → bytes_eq datagram session.last ≡ again
+      → IsAnswerNow kind host (Some session) phase datagram octets names
+      → MatchBool again (session.kept ≡ kept.Datagram octets names) (IsMessageNow kind host phase octets names)
+  answered_by names again same is =
+      subst (λ again. MatchBool again (session.kept ≡ kept.Datagram octets names) (IsMessageNow kind host phase octets names)) same is
+
+  repeat_is_answered_by_no_other_octets : (names : Option SymReply) → bytes_eq datagram session.last ≡ true
+      → IsAnswerNow kind host (Some session) phase datagram octets names → session.kept ≡ kept.Datagram octets names
+  repeat_is_answered_by_no_other_octets names same is = answered_by names true same is
+
+  another_datagram_is_not_answered_by_older_keys : (says : SymReply) → bytes_eq datagram session.last ≡ false
+      → suc says.keyed_epoch ≡ length host.server.list → IsAnswerNow kind host (Some session) phase datagram octets (Some says) → ⊥
+  another_datagram_is_not_answered_by_older_keys says other older is = omega (arith, older, answered_by (Some says) false other is)
+
+-- ---- a pull and its session
+
+-- a pull that agreed by a second message with these policies
+abbrev agreed_pull : Phase1 → First → List ℕ → List ℕ → SaPolicy → Pull
+agreed_pull phase said nr third policy =
+    record { phase = phase; message = said.message; ni = said.ni; step = pulls.Fourth (next_iv third) nr (spi_of policy) }
+
+-- the session that a first message began, and which then took a third one
+abbrev later_session : First → List ℕ → List ℕ → List ℕ → List ℕ → Kept → Session
+later_session said nr datagram second third answer =
+    session_after_third (begun_session said nr datagram (kept.Datagram second None)) (record { next_iv = next_iv third }) third answer
+
+undisturbed_pull_is_in_step : (phase : Phase1) (said : First) (nr datagram second third spi : List ℕ) (kind : SignKind) (list : List Made)
+    (answer : Kept) → let session : Session = later_session said nr datagram second third answer in
+    IsInStep spi (record { phase = phase; session = Some session }) session (agreed_pull phase said nr third (present_policy spi kind list))
+undisturbed_pull_is_in_step phase said nr datagram second third spi kind list answer =
+    record { under = refl; message = refl; nonce = refl; awaits = refl }
 
 -- ---- what is drawn for members, where each block is its place, and zeros after it
 

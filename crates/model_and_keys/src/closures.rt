@@ -4,9 +4,15 @@ use group_model::{KeyName, List, NoMemory, Wrap};
 use std::alloc::Global;
 use sym_closure::{Derivation, derive, is_derivation};
 
+/// A key follows from the one that it is encrypted under. Of pairs drawn at random among twelve keys that is derived which a second closure reaches.
 #[test]
-fn a_key_follows_from_the_one_that_it_is_encrypted_under(rt: HostRuntime) {
-    assert!(rt; follows_from_its_leaf(rt.alloc()));
+fn what_is_derived_is_what_a_second_closure_reaches(rt: HostRuntime) {
+    let mut draws = Draws { state: 7 };
+    let mut holds = follows_from_its_leaf(rt.alloc());
+    for _ in 0..300 {
+        holds &= is_closed_alike(rt.alloc(), &mut draws);
+    }
+    assert!(rt; holds);
 }
 
 fn follows_from_its_leaf(alloc: Global) -> bool {
@@ -32,32 +38,17 @@ fn leads_above(found: &Derivation, pairs: &[Wrap]) -> bool {
         & !is_derivation(&[], pairs, found, &key(2, 1))
 }
 
-/// Pairs drawn at random among twelve keys: what is derived is what a second closure reaches.
-#[test]
-fn what_is_derived_is_what_a_second_closure_reaches(rt: HostRuntime) {
-    let mut draws = Draws { state: 7 };
-    let mut same = true;
-    for _ in 0..300 {
-        same &= is_closed_alike(rt.alloc(), &mut draws);
-    }
-    assert!(rt; same);
-}
-
 /// Whether of a drawn graph the same keys are derived as a closure reaches.
 fn is_closed_alike(alloc: Global, draws: &mut Draws) -> bool {
     let mut pairs = List::new(alloc);
-    let are_drawn = draw_pairs(draws, &mut pairs).is_ok();
-    let is_alike = is_derived_as_reached(alloc, key(draws.number(), 1), pairs.as_slice());
-    drop(pairs);
-    are_drawn & is_alike
-}
-
-fn is_derived_as_reached(alloc: Global, start: KeyName, pairs: &[Wrap]) -> bool {
     let mut reached = List::new(alloc);
-    let is_whole = reach(start, pairs, &mut reached).is_ok();
-    let are_derived = are_derived(alloc, &start, pairs, reached.as_slice());
+    let are_drawn = draw_pairs(draws, &mut pairs).is_ok();
+    let start = key(draws.number(), 1);
+    let is_whole = reach(start, pairs.as_slice(), &mut reached).is_ok();
+    let are_derived = are_derived(alloc, &start, pairs.as_slice(), reached.as_slice());
     drop(reached);
-    is_whole & are_derived
+    drop(pairs);
+    are_drawn & is_whole & are_derived
 }
 
 /// Whether of the twelve keys just these are derived.
@@ -84,16 +75,11 @@ fn draw_pairs(draws: &mut Draws, pairs: &mut List<Wrap>) -> Result<(), NoMemory>
 fn reach(start: KeyName, pairs: &[Wrap], reached: &mut List<KeyName>) -> Result<(), NoMemory> {
     reached.push(start)?;
     for _ in 0..12 {
-        add_reached(pairs, reached)?;
-    }
-    Ok(())
-}
-
-fn add_reached(pairs: &[Wrap], reached: &mut List<KeyName>) -> Result<(), NoMemory> {
-    for pair in pairs {
-        let names = reached.as_slice();
-        if names.contains(&pair.by) && !names.contains(&pair.gives) {
-            reached.push(pair.gives)?;
+        for pair in pairs {
+            let names = reached.as_slice();
+            if names.contains(&pair.by) && !names.contains(&pair.gives) {
+                reached.push(pair.gives)?;
+            }
         }
     }
     Ok(())
@@ -108,9 +94,12 @@ fn is_derived_if(
     due: bool,
 ) -> bool {
     let have = [*start];
-    match derive(alloc, &have, pairs, goal) {
-        Ok(Some(derivation)) => due & is_derivation(&have, pairs, &derivation, goal),
+    let found = derive(alloc, &have, pairs, goal);
+    let is_due = match &found {
+        Ok(Some(derivation)) => due & is_derivation(&have, pairs, derivation, goal),
         Ok(None) => !due,
         Err(NoMemory) => false,
-    }
+    };
+    drop(found);
+    is_due
 }

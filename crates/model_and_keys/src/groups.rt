@@ -12,7 +12,10 @@ use sym_closure::derive;
 /// encryptions; the others all together do not, from all that they are ever told by all that is ever sent.
 #[test]
 fn members_alone_derive_the_traffic_key_of_their_epoch(rt: HostRuntime) {
-    let names = b"abcdefg".map(named);
+    let mut names = [MemberName::default(); 7];
+    for (name, letter) in names.iter_mut().zip(b"abcdefg") {
+        *name = named(*letter);
+    }
     let mut draws = Draws { state: 39 };
     let mut holds = true;
     for _ in 0..6 {
@@ -28,44 +31,16 @@ fn holds_of_a_drawn_group(
     names: &[MemberName],
 ) -> Result<bool, NoMemory> {
     let mut history = History::new(alloc, 2);
-    let holds = holds_once_drawn(alloc, draws, &mut history, names);
-    drop(history);
-    holds
-}
-
-fn holds_once_drawn(
-    alloc: Global,
-    draws: &mut Draws,
-    history: &mut History,
-    names: &[MemberName],
-) -> Result<bool, NoMemory> {
-    draw_batches(alloc, draws, history)?;
-    holds_of_history(alloc, history, names)
-}
-
-fn holds_of_history(
-    alloc: Global,
-    history: &History,
-    names: &[MemberName],
-) -> Result<bool, NoMemory> {
     let mut sent = List::new(alloc);
-    let are_added = add_pairs(alloc, history, names, true, &mut sent);
-    let holds = holds_of_sent(alloc, history, names, sent.as_slice());
-    drop(sent);
-    are_added.and(holds)
-}
-
-fn holds_of_sent(
-    alloc: Global,
-    history: &History,
-    names: &[MemberName],
-    sent: &[Wrap],
-) -> Result<bool, NoMemory> {
     let mut world = List::new(alloc);
-    let are_added = add_pairs(alloc, history, names, false, &mut world);
-    let holds = holds_of(alloc, history, names, sent, world.as_slice());
+    let are_made = draw_batches(alloc, draws, &mut history).is_ok()
+        & add_pairs(alloc, &history, names, true, &mut sent).is_ok()
+        & add_pairs(alloc, &history, names, false, &mut world).is_ok();
+    let holds = holds_of(alloc, &history, names, sent.as_slice(), world.as_slice());
     drop(world);
-    are_added.and(holds)
+    drop(sent);
+    drop(history);
+    Ok(are_made & holds?)
 }
 
 /// Adds those of eight drawn batches that fit.
@@ -79,26 +54,21 @@ fn draw_batches(alloc: Global, draws: &mut Draws, history: &mut History) -> Resu
     Ok(())
 }
 
-/// A batch of up to three drawn changes.
+/// A batch of up to three drawn changes. One of the seven names goes out where it is a member, and comes in where it is none.
 fn drawn_batch(draws: &mut Draws, history: &History) -> Batch {
     let mut batch = Batch::new();
     for _ in 0..draws.number() % 4 {
-        let change = drawn_change(draws, history);
+        let member = named(b'a' + (draws.number() % 7) as u8);
+        let change = if history.is_member(history.epoch(), &member) {
+            Change::Out { member }
+        } else {
+            Change::In { member }
+        };
         if batch.changes().len() < MOST_CHANGES {
             batch.push(change);
         }
     }
     batch
-}
-
-/// One of the seven names goes out where it is a member, and comes in where it is none.
-fn drawn_change(draws: &mut Draws, history: &History) -> Change {
-    let member = named(b'a' + (draws.number() % 7) as u8);
-    if history.is_member(history.epoch(), &member) {
-        Change::Out { member }
-    } else {
-        Change::In { member }
-    }
 }
 
 /// Adds the encryptions of each epoch, and a reply to each of its members, or only to those who came in with it.
@@ -170,6 +140,8 @@ fn told(member: &MemberName, gives: KeyName) -> Wrap {
     Wrap { by, gives }
 }
 
+/// Whether each member of an epoch derives its traffic key by what was sent, and who are no members do not, all together, by all that can be sent;
+/// and nobody the one of an epoch to come.
 fn holds_of(
     alloc: Global,
     history: &History,
@@ -179,92 +151,58 @@ fn holds_of(
 ) -> Result<bool, NoMemory> {
     let mut holds = true;
     for epoch in 1..=history.epoch() {
-        holds &= is_for_members(alloc, history, epoch, names, sent)?;
-        holds &= !is_for_others(alloc, history, epoch, names, world)?;
-    }
-    let next = history.epoch().saturating_add(1);
-    Ok(holds & !derives(alloc, names, world, next)?)
-}
-
-/// Whether each member of an epoch derives its traffic key by what was sent.
-fn is_for_members(
-    alloc: Global,
-    history: &History,
-    epoch: u32,
-    names: &[MemberName],
-    sent: &[Wrap],
-) -> Result<bool, NoMemory>
-    requires { epoch ≤ length history.now.batches }
-{
-    let mut holds = true;
-    for member in names {
-        if history.is_member(epoch, member) {
-            holds &= derives(alloc, &[*member], sent, epoch)?;
+        for member in names {
+            if history.is_member(epoch, member) {
+                let have = [KeyName::Phase { member: *member }];
+                holds &= derives(alloc, &have, sent, epoch)?;
+            }
         }
+        holds &= !others_derive(alloc, history, names, world, epoch)?;
     }
-    Ok(holds)
+    Ok(
+        holds
+            & !others_derive(
+                alloc,
+                history,
+                names,
+                world,
+                history.epoch().saturating_add(1),
+            )?,
+    )
 }
 
-/// Whether those who are no members of an epoch derive its traffic key, all together, by all that can be sent.
-fn is_for_others(
+/// Whether those who are no members of an epoch derive its traffic key, all together, by pairs. An epoch to come has no members.
+fn others_derive(
     alloc: Global,
     history: &History,
-    epoch: u32,
-    names: &[MemberName],
-    world: &[Wrap],
-) -> Result<bool, NoMemory>
-    requires { epoch ≤ length history.now.batches }
-{
-    let mut others = List::new(alloc);
-    let are_added = add_others(history, epoch, names, &mut others);
-    let is_derived = derives(alloc, others.as_slice(), world, epoch);
-    drop(others);
-    are_added.and(is_derived)
-}
-
-fn add_others(
-    history: &History,
-    epoch: u32,
-    names: &[MemberName],
-    others: &mut List<MemberName>,
-) -> Result<(), NoMemory>
-    requires { epoch ≤ length history.now.batches }
-{
-    for member in names {
-        if !history.is_member(epoch, member) {
-            others.push(*member)?;
-        }
-    }
-    Ok(())
-}
-
-/// Whether names derive the traffic key of an epoch from their phase 1 keys, by pairs.
-fn derives(
-    alloc: Global,
     names: &[MemberName],
     pairs: &[Wrap],
     epoch: u32,
 ) -> Result<bool, NoMemory> {
     let mut have = List::new(alloc);
-    let are_added = add_phase_keys(names, &mut have);
-    let is_derived = is_derived(alloc, have.as_slice(), pairs, epoch);
+    let are_added = add_others(history, names, epoch, &mut have);
+    let is_derived = derives(alloc, have.as_slice(), pairs, epoch);
     drop(have);
     are_added.and(is_derived)
 }
 
-fn add_phase_keys(names: &[MemberName], have: &mut List<KeyName>) -> Result<(), NoMemory> {
+/// Adds the phase 1 keys of those who are no members of an epoch.
+fn add_others(
+    history: &History,
+    names: &[MemberName],
+    epoch: u32,
+    have: &mut List<KeyName>,
+) -> Result<(), NoMemory> {
     for member in names {
-        have.push(KeyName::Phase { member: *member })?;
+        if epoch > history.epoch() || !history.is_member(epoch, member) {
+            have.push(KeyName::Phase { member: *member })?;
+        }
     }
     Ok(())
 }
 
-fn is_derived(
-    alloc: Global,
-    have: &[KeyName],
-    pairs: &[Wrap],
-    epoch: u32,
-) -> Result<bool, NoMemory> {
+/// Whether the traffic key of an epoch is derived from keys, by pairs.
+fn derives(alloc: Global, have: &[KeyName], pairs: &[Wrap], epoch: u32) -> Result<bool, NoMemory> {
     let found = derive(alloc, have, pairs, &KeyName::Traffic { made: epoch })?;
     let is_found = found.is_some();
     drop(found);

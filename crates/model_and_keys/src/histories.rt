@@ -1,10 +1,26 @@
 //! What histories say of their epochs, and of the keys of members.
 ghost use Rattle.std.specs.Prelude.{◌≤◌, length};
 
-use crate::draws::named;
-use crate::keys::{Epoch, Key, are_keys, are_wraps, batch_of, epoch_of};
-use group_model::{History, LkhId};
+use crate::draws::{key, named};
+use group_model::{Batch, Change, History, LkhId, MOST_CHANGES, MemberName};
 use std::alloc::Global;
+
+/// The number of a position and the epoch at which its key was made; the traffic key has the number 0.
+type Key = (u16, u32);
+
+/// What an epoch of a tree of depth 2 is.
+struct Epoch {
+    epoch: u32,
+    members: u32,
+    /// The leaves of `a` to `d`; 0 where there is none.
+    leaves: [u16; 4],
+    /// The epochs at which the positions 1 to 8 got their keys; 0 where they got none.
+    made: [u32; 8],
+    /// What is encrypted with the batch: under which key, and which one.
+    wraps: &'static [[Key; 2]],
+    /// The keys of some members, each from its leaf up. Who has none is no member.
+    paths: &'static [(u8, &'static [Key])],
+}
 
 /// The epoch before the first batch.
 const BEFORE: Epoch = Epoch {
@@ -13,6 +29,7 @@ const BEFORE: Epoch = Epoch {
     leaves: [0, 0, 0, 0],
     made: [0, 0, 0, 0, 0, 0, 0, 0],
     wraps: &[],
+    paths: &[(b'a', &[])],
 };
 
 /// The first epoch of `a`, `b` and `c`.
@@ -22,13 +39,17 @@ const THREE: Epoch = Epoch {
     leaves: [4, 5, 6, 0],
     made: [1, 1, 1, 1, 1, 1, 0, 0],
     wraps: &[],
+    paths: &[
+        (b'a', &[(4, 1), (2, 1), (1, 1)]),
+        (b'b', &[(5, 1), (2, 1), (1, 1)]),
+    ],
 };
 
 /// Who comes in with the first batch, who goes out with the second, and what the history says of its epochs.
-static HISTORIES: [(&str, &str, &[Epoch]); 3] = [
+static HISTORIES: [(&[u8], &[u8], &[Epoch]); 3] = [
     (
-        "abc",
-        "b",
+        b"abc",
+        b"b",
         &[
             BEFORE,
             THREE,
@@ -43,12 +64,17 @@ static HISTORIES: [(&str, &str, &[Epoch]); 3] = [
                     [(3, 1), (1, 2)],
                     [(1, 2), (0, 2)],
                 ],
+                paths: &[
+                    (b'a', &[(4, 1), (2, 2), (1, 2)]),
+                    (b'b', &[]),
+                    (b'c', &[(6, 1), (3, 1), (1, 2)]),
+                ],
             },
         ],
     ),
     (
-        "abcd",
-        "a",
+        b"abcd",
+        b"a",
         &[
             BEFORE,
             Epoch {
@@ -57,6 +83,7 @@ static HISTORIES: [(&str, &str, &[Epoch]); 3] = [
                 leaves: [4, 5, 6, 7],
                 made: [1, 1, 1, 1, 1, 1, 1, 0],
                 wraps: &[],
+                paths: &[],
             },
             Epoch {
                 epoch: 2,
@@ -69,12 +96,13 @@ static HISTORIES: [(&str, &str, &[Epoch]); 3] = [
                     [(3, 1), (1, 2)],
                     [(1, 2), (0, 2)],
                 ],
+                paths: &[],
             },
         ],
     ),
     (
-        "abc",
-        "",
+        b"abc",
+        b"",
         &[
             BEFORE,
             THREE,
@@ -84,6 +112,7 @@ static HISTORIES: [(&str, &str, &[Epoch]); 3] = [
                 leaves: [4, 5, 6, 0],
                 made: [2, 1, 1, 1, 1, 1, 0, 0],
                 wraps: &[[(2, 1), (1, 2)], [(3, 1), (1, 2)], [(1, 2), (0, 2)]],
+                paths: &[],
             },
         ],
     ),
@@ -98,81 +127,33 @@ fn histories_are_as_key_servers_show_them(rt: HostRuntime) {
     assert!(rt; holds);
 }
 
-/// Whether this is what the history of two batches says of its epochs.
-fn has_epochs(alloc: Global, joins: &str, leaves: &str, epochs: &[Epoch]) -> bool {
+/// Whether this is what a history says of its epochs in which some come in with the first batch, and others go out with the second.
+fn has_epochs(alloc: Global, joins: &[u8], leaves: &[u8], epochs: &[Epoch]) -> bool {
     let mut history = History::new(alloc, 2);
-    let are_added = are_added(alloc, &mut history, joins, leaves);
-    let are_epochs = are_epochs(alloc, &history, epochs);
-    drop(history);
-    are_added & are_epochs
-}
-
-fn are_epochs(alloc: Global, history: &History, epochs: &[Epoch]) -> bool {
-    let mut holds = true;
+    let mut holds = (history.depth() == 2) & (history.leaves() == 4);
+    holds &= is_added(alloc, &mut history, true, joins);
+    holds &= is_added(alloc, &mut history, false, leaves);
     for epoch in epochs {
-        holds &= is_epoch(alloc, history, epoch);
+        holds &= is_epoch(alloc, &history, epoch);
     }
-    holds
-}
-
-/// The keys of a member at an epoch, from its leaf up.
-static PATHS: [(u32, u8, &[Key]); 6] = [
-    (0, b'a', &[]),
-    (1, b'a', &[(4, 1), (2, 1), (1, 1)]),
-    (1, b'b', &[(5, 1), (2, 1), (1, 1)]),
-    (2, b'a', &[(4, 1), (2, 2), (1, 2)]),
-    (2, b'b', &[]),
-    (2, b'c', &[(6, 1), (3, 1), (1, 2)]),
-];
-
-#[test]
-fn paths_have_the_keys_of_their_epoch(rt: HostRuntime) {
-    assert!(rt; has_paths(rt.alloc()));
-}
-
-fn has_paths(alloc: Global) -> bool {
-    let mut history = History::new(alloc, 2);
-    let are_added = are_added(alloc, &mut history, "abc", "b");
-    let are_paths = are_paths(alloc, &history);
     drop(history);
-    are_added & are_paths
-}
-
-fn are_paths(alloc: Global, history: &History) -> bool {
-    let mut holds = true;
-    for (epoch, letter, keys) in &PATHS {
-        holds &= is_path(alloc, history, *epoch, *letter, keys);
-    }
     holds
 }
 
-/// Whether these are the keys of a member at an epoch. Who has none is no member then.
-fn is_path(alloc: Global, history: &History, epoch: u32, letter: u8, keys: &[Key]) -> bool {
-    let member = named(letter);
-    if epoch > history.epoch() {
-        return false;
+/// Adds a batch in which some come in, or go out, of whom there are at most 32 and each is called by one letter.
+fn is_added(alloc: Global, history: &mut History, come_in: bool, letters: &[u8]) -> bool {
+    let mut batch = Batch::new();
+    for letter in letters {
+        let member = named(*letter);
+        if batch.changes().len() < MOST_CHANGES {
+            batch.push(if come_in {
+                Change::In { member }
+            } else {
+                Change::Out { member }
+            });
+        }
     }
-    let Ok(path) = history.path(alloc, epoch, &member) else {
-        return false;
-    };
-    are_keys(path.as_slice(), keys) & (history.is_member(epoch, &member) != keys.is_empty())
-}
-
-/// Adds two batches to a new history: with the first some come in, and with the second others go out.
-fn are_added(alloc: Global, history: &mut History, joins: &str, leaves: &str) -> bool {
-    (history.depth() == 2)
-        & (history.leaves() == 4)
-        & is_added(alloc, history, "", joins)
-        & is_added(alloc, history, leaves, "")
-}
-
-/// Adds a batch in which some members go out and others come in, which fits.
-fn is_added(alloc: Global, history: &mut History, outs: &str, ins: &str) -> bool {
-    let batch = batch_of(outs, ins);
-    if history.epoch() == u32::MAX || !history.fits(&batch) {
-        return false;
-    }
-    history.add(alloc, batch).is_ok()
+    history.epoch() < u32::MAX && history.fits(&batch) && history.add(alloc, batch).is_ok()
 }
 
 /// Whether this is what a history says of an epoch.
@@ -181,13 +162,22 @@ fn is_epoch(alloc: Global, history: &History, want: &Epoch) -> bool {
     if epoch > history.epoch() {
         return false;
     }
-    let Ok(wraps) = history.wraps(alloc, epoch) else {
-        return false;
-    };
-    (history.members(epoch) == want.members)
+    let mut holds = (history.members(epoch) == want.members)
         & has_leaves(history, epoch, &want.leaves)
-        & is_made(history, epoch, &want.made)
-        & are_wraps(wraps.as_slice(), want.wraps)
+        & is_made(history, epoch, &want.made);
+    for (letter, keys) in want.paths {
+        holds &= is_path(alloc, history, epoch, &named(*letter), keys);
+    }
+    match history.wraps(alloc, epoch) {
+        Ok(wraps) => {
+            holds &= wraps.len() == want.wraps.len();
+            for (wrap, [by, gives]) in wraps.as_slice().iter().zip(want.wraps) {
+                holds &= (wrap.by == key(by.0, by.1)) & (wrap.gives == key(gives.0, gives.1));
+            }
+            holds
+        }
+        Err(_) => false,
+    }
 }
 
 fn has_leaves(history: &History, epoch: u32, want: &[u16; 4]) -> bool
@@ -205,10 +195,28 @@ fn is_made(history: &History, epoch: u32, want: &[u32; 8]) -> bool
 {
     let mut same = true;
     for (number, made) in (1..9).zip(want) {
+        let due = if *made == 0 { None } else { Some(*made) };
         match LkhId::new(number) {
-            Some(id) => same &= history.last(epoch, id) == epoch_of(*made),
+            Some(id) => same &= history.last(epoch, id) == due,
             None => same = false,
         }
     }
     same
+}
+
+/// Whether these are the keys of a member at an epoch.
+fn is_path(alloc: Global, history: &History, epoch: u32, member: &MemberName, keys: &[Key]) -> bool
+    requires { epoch ≤ length history.now.batches }
+{
+    let mut holds = history.is_member(epoch, member) != keys.is_empty();
+    match history.path(alloc, epoch, member) {
+        Ok(path) => {
+            holds &= path.len() == keys.len();
+            for (name, (number, made)) in path.as_slice().iter().zip(keys) {
+                holds &= *name == key(*number, *made);
+            }
+            holds
+        }
+        Err(_) => false,
+    }
 }

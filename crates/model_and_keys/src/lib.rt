@@ -1,5 +1,6 @@
-//! Tests of the tree at the present epoch, and of histories, on small groups with known keys; of what can be derived from which keys: small
-//! graphs and drawn ones, what a history sent, and drawn groups; and of members: what they are told, the pushes of a batch, and their stores.
+//! Tests of histories, on small groups with known keys; of what can be derived from which keys: small graphs and drawn ones, what a history sent, and
+//! drawn groups; and of the stores of members by the names of peers. What the tree says at the present epoch, the pushes of a batch, what members are
+//! told and how stores take it is asked of `room_cases`, and who derives what of `console_cases`.
 #![tactic(auto)]
 
 #[cfg(test)]
@@ -11,10 +12,6 @@ mod groups;
 #[cfg(test)]
 mod histories;
 #[cfg(test)]
-mod keys;
-#[cfg(test)]
-mod members;
+mod peers;
 #[cfg(test)]
 mod sent;
-#[cfg(test)]
-mod trees;

@@ -1,153 +1,163 @@
-//! Bodies of payloads, and room for them.
-ghost use Rattle.std.specs.Prelude.{◌+◌, ◌≤◌, length, IfSome};
+//! Bodies of the SA payload and of the key download payload.
+ghost use Rattle.std.specs.Prelude.{◌≤◌, length};
 
-use gd_wire::{
-    Part, Room, WireFault, WireWhat, read_chain, write_identification, write_payload,
-    write_sequence,
+use crate::words::{add_number, add_shown, add_spaced};
+use case_lines::Text;
+use group_terms::{NoMemory, Octets};
+use kd_wire::{
+    KdView, Keyed, PathKey, SealedKey, UpdateArray, UpdateSpan, WrapJob, read_kd, reply_kd_size,
+    traffic_kd_size, write_reply_kd, write_traffic_kd, write_update, write_update_kd,
 };
-use group_terms::{List, NoMemory};
+use sa_wire::{PlacedSa, read_placed_sa, read_sa, sa_size, write_sa};
 use std::alloc::Global;
 
-/// The ID payload of the group `console`, the last of its message.
-const CONSOLE: [u8; 15] = [
-    0x00, 0x00, 0x00, 0x0f, 0x0b, 0x00, 0x00, 0x00, 0x63, 0x6f, 0x6e, 0x73, 0x6f, 0x6c, 0x65,
-];
+/// The SPI of the body of wraps.
+const SPI: [u8; 16] = *b"\t\x10\x17\x1e%,3:AHOV]dkr";
 
-/// The SEQ payload of the number 1, with an SA payload after it.
-const FIRST_PUSH: [u8; 12] = [
-    0x01, 0x00, 0x00, 0x08, 0x00, 0x00, 0x00, 0x01, 0x00, 0x00, 0x00, 0x04,
-];
-
-#[test]
-fn known_payloads_are_written(rt: HostRuntime) {
-    assert!(rt; name_is_written(rt.alloc()) & number_is_written(rt.alloc()));
-}
-
-fn name_is_written(alloc: Global) -> bool {
-    let mut body = List::new(alloc);
-    let is_written = write_identification(11, b"console", &mut body).is_ok();
-    is_written & is_payload(alloc, 0, body.as_slice(), &CONSOLE)
-}
-
-fn number_is_written(alloc: Global) -> bool {
-    let mut body = List::new(alloc);
-    let is_written = write_sequence(1, &mut body).is_ok();
-    is_written & is_payload(alloc, 1, body.as_slice(), &FIRST_PUSH[..8])
-}
-
-/// Whether the payload of a body has these octets.
-fn is_payload(alloc: Global, next: u8, body: &[u8], octets: &[u8]) -> bool {
-    let mut text = List::new(alloc);
-    let body = &body[..body.len().min(65_531)];
-    write_payload(next, body, &mut text).is_ok() & (text.as_slice() == octets)
-}
-
-/// The same payloads, read.
-#[test]
-fn known_payloads_are_read(rt: HostRuntime) {
-    let name = identified() == Some((11, true));
-    assert!(rt; name & (numbered() == Some(1)));
-}
-
-/// The type of the identification, and whether it is `console`.
-fn identified() -> Option<(u8, bool)> {
-    let part = first_part(5, &[5], &CONSOLE)?;
-    let found = part.identification(&CONSOLE).ok()?;
-    Some((found.id_type, found.octets == b"console".as_slice()))
-}
-
-fn numbered() -> Option<u32> {
-    let part = first_part(18, &[18, 1], &FIRST_PUSH)?;
-    part.sequence(&FIRST_PUSH).ok()
-}
-
-/// Where the first payload of a chain is.
-fn first_part(first: u8, due: &[u8], text: &[u8]) -> Option<Part>
-    requires some { 1 ≤ length due.now }
-    requires few { length due.now ≤ 2 }
-    requires small { length text.now ≤ 15 }
-    ensures within { IfSome result (λ part. part.start + part.length ≤ length text.now) }
-    ensures small { IfSome result (λ part. part.at + 4 + part.length ≤ 4294967295) }
+/// The policies of a body at a place.
+pub fn policies(alloc: Global, base: u16, body: &[u8], out: &mut Octets, text: &mut Text)
+    requires { length body.now ≤ 65507 }
 {
-    let read = read_chain(first, due, text, 28).ok()?;
-    let part = *read.parts().first()?;
-    let lies = part.at <= 43 && part.start <= 15 && part.length <= text.len();
-    if lies && part.start + part.length <= text.len() {
-        return Some(part);
+    match read_placed_sa(body, u32::from(base)) {
+        Ok(placed) => {
+            add_placed(&placed, text);
+            let policy = placed.policy();
+            add_number(sa_size(&policy) as u64, text);
+            if read_sa(body, u32::from(base)) != Ok(policy)
+                || policy.kek.is_none() && policy.tek.is_none()
+            {
+                return;
+            }
+            if write_sa(&policy, out).is_err() {
+                text.lose();
+            }
+        }
+        Err(fault) => add_shown(alloc, &fault, text),
     }
-    None
 }
 
-/// A body of a size near the limits of its payload, which stands at 28: the kind, the size, and what is told, and at which place.
-type Sized = (u8, usize, Option<(WireWhat, u32)>);
-
-const LENGTH: Option<(WireWhat, u32)> = Some((WireWhat::Length, 30));
-
-static SIZES: [Sized; 19] = [
-    (8, 31, LENGTH),
-    (8, 32, None),
-    (8, 33, LENGTH),
-    (10, 7, LENGTH),
-    (10, 8, None),
-    (10, 128, None),
-    (10, 129, LENGTH),
-    (18, 3, LENGTH),
-    (18, 4, None),
-    (18, 5, LENGTH),
-    (9, 0, LENGTH),
-    (9, 1, None),
-    (9, 512, None),
-    (9, 513, LENGTH),
-    (5, 0, Some((WireWhat::Short, 32))),
-    (5, 1, Some((WireWhat::Short, 33))),
-    (5, 2, Some((WireWhat::Short, 34))),
-    (5, 3, Some((WireWhat::Short, 34))),
-    (5, 4, None),
-];
-
-#[test]
-fn bodies_have_their_sizes(rt: HostRuntime) {
-    assert!(rt; SIZES.iter().all(|row| is_told(row) == Some(true)));
+/// Appends what the policies say, each with its place.
+fn add_placed(placed: &PlacedSa, text: &mut Text) {
+    if let Some(kek) = placed.kek {
+        add_spaced(&kek.policy.spi, text);
+        add_number(u64::from(kek.spi_at), text);
+        add_number(u64::from(kek.policy.sign.algorithm), text);
+        add_number(u64::from(kek.algorithm_at), text);
+        add_number(u64::from(kek.policy.sign.key_bits), text);
+        add_number(u64::from(kek.key_bits_at), text);
+    }
+    if let Some(tek) = placed.tek {
+        add_spaced(&tek.policy.spi, text);
+        add_number(u64::from(tek.spi_at), text);
+    }
 }
 
-fn is_told((kind, size, told): &Sized) -> Option<bool> {
-    let zeros = [0; 600];
-    let fault = body_fault(*kind, zeros.get(..*size)?);
-    Some(fault.map(|fault| (fault.what, fault.at)) == *told)
-}
-
-/// What is told of a body that is the whole of a text, for a payload of this kind at 28.
-fn body_fault(kind: u8, text: &[u8]) -> Option<WireFault>
-    requires { length text.now ≤ 600 }
+/// What a body at a place gives.
+pub fn kd(alloc: Global, base: u16, body: &[u8], out: &mut Octets, text: &mut Text)
+    requires { length body.now ≤ 65507 }
 {
-    let part = Part {
-        kind,
-        at: 28,
-        start: 0,
-        length: text.len(),
+    match read_kd(body, u32::from(base)) {
+        Ok(view) => {
+            add_spis(&view, text);
+            match view.updates {
+                Some(span) => add_arrays(&span, body, text),
+                None => {
+                    if write_again(view, out, text).is_err() {
+                        text.lose();
+                    }
+                }
+            }
+        }
+        Err(fault) => add_shown(alloc, &fault, text),
+    }
+}
+
+/// Appends where the SPIs are, with 0 for one that is not there.
+fn add_spis(view: &KdView, text: &mut Text) {
+    add_number(u64::from(view.spis.tek.unwrap_or(0)), text);
+    add_number(u64::from(view.spis.lkh.unwrap_or(0)), text);
+}
+
+/// Writes the body again that gives this, after its size.
+fn write_again(view: KdView, out: &mut Octets, text: &mut Text) -> Result<(), NoMemory> {
+    let Some(traffic) = view.tek else {
+        return Ok(());
     };
-    match kind {
-        8 => part.hash(text).err(),
-        9 => part.signature(text).err(),
-        10 => part.nonce(text).err(),
-        18 => part.sequence(text).err(),
-        _ => part.identification(text).err(),
+    match view.lkh_spi {
+        Some(spi) => {
+            let keyed = Keyed {
+                epoch: 0,
+                sequence: 0,
+                spi,
+                path: view.download,
+                traffic,
+            };
+            add_number(reply_kd_size(&keyed) as u64, text);
+            write_reply_kd(&keyed, out)
+        }
+        None => {
+            add_number(traffic_kd_size(&traffic) as u64, text);
+            write_traffic_kd(&traffic, out)
+        }
     }
 }
 
-/// Room is filled, changed in place, filled again and cleared.
-#[test]
-fn room_is_filled_again(rt: HostRuntime) {
-    assert!(rt; is_filled_again(rt.alloc()) == Ok(true));
+/// Appends the keys of the arrays of a span, and how many a span has that leads out of the body.
+fn add_arrays(span: &UpdateSpan, body: &[u8], text: &mut Text) {
+    add_number(span.start as u64, text);
+    add_number(span.end as u64, text);
+    for array in span.arrays(body) {
+        add_array(array, text);
+    }
+    let further = UpdateSpan {
+        end: body.len() + 1,
+        ..*span
+    };
+    if further.arrays(body).next().is_some() {
+        text.add("further");
+    }
 }
 
-fn is_filled_again(alloc: Global) -> Result<bool, NoMemory> {
-    let mut room = Room::new(alloc, 4)?;
-    room.fill(&[1, 2, 3]);
-    room.text_mut().reverse();
-    let changed = room.text() == [3, 2, 1].as_slice();
-    room.fill(&[4, 5, 6, 7]);
-    let filled = room.text() == [4, 5, 6, 7].as_slice();
-    room.clear();
-    Ok(changed & filled & room.text().is_empty())
+fn add_array(array: UpdateArray, text: &mut Text) {
+    add_number(u64::from(array.by.number()), text);
+    add_number(u64::from(array.by_made), text);
+    for key in array.keys {
+        add_key(&key, text);
+    }
+}
+
+/// Appends the key that seals and the key that is given, with their epochs, and what is sealed.
+fn add_key(key: &SealedKey, text: &mut Text) {
+    add_number(u64::from(key.by.number()), text);
+    add_number(u64::from(key.by_made), text);
+    add_number(u64::from(key.gives.id.number()), text);
+    add_number(u64::from(key.gives.made), text);
+    add_spaced(&key.gives.sealed, text);
+}
+
+/// Writes the body that gives each key of a body's path under the key before it.
+pub fn wraps(alloc: Global, body: &[u8], out: &mut Octets, text: &mut Text)
+    requires { length body.now ≤ 65507 }
+{
+    let mut arrays = Octets::new(alloc);
+    if let Ok(view) = read_kd(body, 0) {
+        if wrap(view.download.keys(), &mut arrays).is_err() {
+            text.lose();
+        }
+    }
+    let arrays = &arrays.as_slice()[..arrays.len().min(65_000)];
+    if write_update_kd(&SPI, arrays, out).is_err() {
+        text.lose();
+    }
+}
+
+fn wrap(keys: &[PathKey], arrays: &mut Octets) -> Result<(), NoMemory> {
+    let mut before = None;
+    for key in keys {
+        if let Some(by) = before {
+            write_update(&WrapJob { by, gives: *key }, arrays)?;
+        }
+        before = Some(*key);
+    }
+    Ok(())
 }

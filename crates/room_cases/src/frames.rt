@@ -1,138 +1,111 @@
-//! Asks the readers of the framing, of payloads, of pushes and of the messages of a pull what they find: each line names a reader, its arguments
-//! and octets in hexadecimal (`-` for none). For each a line says `ok`, or the first fault and its place; a reader's name with `-fields` says what is
-//! read of accepted octets, and `chain-fields` after a fault which payloads are before it. A push and a message of a pull are answered by what they
-//! give, or by why they are refused.
-//!
-//! A line that says what is known has no answer: `kek` names the SPI and the key of the pushes after it, `phase` the phase 1 SA of the
-//! messages after it, and `pull` their message id, IV, nonces and SPI (`-` where a nonce or the SPI is not given).
+//! Asks the readers of the framing, of payloads, of records, of pushes and of the messages of a pull what they find in the octets that a line ends with:
+//! what is read, after `ok`, or else the first fault and its place, or why the datagram is refused.
 //!
 //! ```text
-//! header EXCHANGE OCTETS
-//! attribute PLACE BASE OCTETS
-//! chain FIRST-KIND DUE-KIND,DUE-KIND.. BASE OCTETS
-//! sa BASE OCTETS
-//! kd BASE OCTETS
-//! header-fields EXCHANGE OCTETS
-//! attribute-fields PLACE BASE OCTETS
-//! chain-fields FIRST-KIND DUE-KIND,DUE-KIND.. BASE OCTETS
-//! sa-fields BASE OCTETS
-//! kd-fields BASE OCTETS
-//! kek SPI IV KEY
-//! push LAST OCTETS
-//! phase COOKIES SKEYID-A KEY LAST
-//! pull MESSAGE IV NI NR SPI
-//! first OCTETS
-//! second OCTETS
-//! third OCTETS
-//! fourth OCTETS
-//! repeat WORK COUNT
+//! header EXCHANGE OCTETS             the cookies, the message id, the next kind, the exchange and the length
+//! attribute PLACE BASE OCTETS        the kind, the number or else start and length, and the place after it
+//! chain FIRST-KIND DUE-KINDS BASE OCTETS
+//!                                    of each payload, those before a fault too: kind, place of its header, start and length of its body
+//! sa BASE OCTETS                     `kek` with SPI, algorithm and bits, and `tek` with its SPI, each if it is there
+//! kd BASE OCTETS                     `traffic` with its keys and SPI, `lkh` with its SPI, and each key
+//! head OCTETS                        what is written of the head of a group that is read
+//! batch OCTETS                       what is written of the record of a batch that is read
+//! push LAST OCTETS                   the number of the push after a last one, and what it gives
+//! first OCTETS                       the nonce, the octets of the identification and its type
+//! second OCTETS                      the nonce and both policies
+//! third OCTETS                       the IV of the next message
+//! fourth OCTETS                      epoch and last number, SPI, the keys of the path, and the keys of the traffic with their SPI
+//! known SPI IV KEY COOKIES SKEYID-A KEY LAST MESSAGE IV NI NR
 //! ```
 //!
-//! The last one does a work of the ciphers, or a push, many times over, so that its time can be taken from outside, and answers octets of what came of it:
-//! `seal` expands a key and seals 18 KiB under it in place, `open` opens them, `seal-short` and `open-short` do the same with 64 octets, `wrap` expands a
-//! key and encrypts two blocks, `mac` hashes a piece of 4,096 octets, `updates` writes 286 update arrays, `push-write` writes the membership push with that
-//! many, and `push-open` opens it.
+//! The last one says what is known for the lines after it: SPI and key of the Rekey SA, the phase 1 SA, and message id, IV and nonces of
+//! the pull. A key of a path is its position, epoch, IV and octets; one that an update array gives is position and epoch of the key that seals it, its own,
+//! and what is sealed.
 
-use crate::frames::bodies::{ask_placed, attribute, base_of, chain, header};
-use crate::frames::pulls::Pulls;
-use crate::frames::pushes::Pushes;
-use crate::frames::repeats::repeat;
-use case_lines::{Text, octets};
-use group_terms::NoMemory;
+use crate::frames::bodies::{attribute, chain, header, kd, sa};
+use crate::frames::pulls::{first, fourth, second, third};
+use crate::frames::pushes::push;
+use crate::journals::forms::{batch, head};
+use case_lines::{Text, number, octets};
+pub use known::Known;
 use std::alloc::Global;
 
 mod bodies;
-pub mod fields;
+mod known;
 mod pulls;
 mod pushes;
-mod repeated_pushes;
-mod repeats;
-mod words;
+mod values;
 
-/// What the lines so far have said.
-#[derive(Drop)]
-pub struct Frames {
-    pushes: Pushes,
-    pulls: Pulls,
+/// No line has more octets.
+const MOST: usize = 65_536;
+
+/// What a word asks, with others, of the octets of the last one. `None` where they ask for nothing that can be done.
+pub fn ask(
+    alloc: Global,
+    known: &Option<Known>,
+    word: &str,
+    rest: &[&str],
+    text: &mut Text,
+) -> Option<()> {
+    let (last, rest) = rest.split_last()?;
+    let octets = octets(alloc, last)?;
+    let asked = ask_of(alloc, known, word, rest, octets.as_slice(), text);
+    drop(octets);
+    asked
 }
 
-impl Frames {
-    /// Nothing is known.
-    pub fn new(alloc: Global) -> Result<Self, NoMemory> {
-        Ok(Frames {
-            pushes: Pushes::new(alloc)?,
-            pulls: Pulls::new(),
-        })
+fn ask_of(
+    alloc: Global,
+    known: &Option<Known>,
+    word: &str,
+    rest: &[&str],
+    octets: &[u8],
+    text: &mut Text,
+) -> Option<()> {
+    if octets.len() > MOST {
+        return None;
     }
+    let (first, second) = (number_at(rest, 0), number_at(rest, 1));
+    match word {
+        "header" => header((first % 256) as u8, octets, text),
+        "attribute" => attribute(first as usize, second % 65_536, octets, text),
+        "chain" => return chain(alloc, rest, octets, text),
+        "sa" => sa(first % 65_536, octets, text),
+        "kd" => kd(first % 65_536, octets, text),
+        "head" => head(alloc, octets, text),
+        "batch" => batch(alloc, octets, text),
+        _ => return ask_known(alloc, known, word, first, octets, text),
+    }
+    Some(())
+}
 
-    /// Does what one word asks for with the others, and appends the answer. `None` where they ask for nothing that can be done.
-    pub fn answer(
-        &mut self,
-        alloc: Global,
-        word: &str,
-        rest: &[&str],
-        text: &mut Text,
-    ) -> Option<()> {
-        match word {
-            "kek" | "phase" | "pull" => self.know(alloc, word, rest),
-            "repeat" => repeat(alloc, rest, text),
-            word => self.ask(alloc, word, rest, text),
-        }
+/// The number that the word at a place is; 0 where it is none.
+fn number_at(words: &[&str], place: usize) -> u32 {
+    match words.get(place) {
+        Some(word) => number(word).unwrap_or(0),
+        None => 0,
     }
+}
 
-    /// What is known from now on.
-    fn know(&mut self, alloc: Global, word: &str, rest: &[&str]) -> Option<()> {
-        match word {
-            "kek" => self.pushes.know(rest),
-            "phase" => self.pulls.know_phase(rest),
-            _ => self.pulls.know_pull(alloc, rest),
-        }
+/// What a word asks of a datagram of which something is known.
+fn ask_known(
+    alloc: Global,
+    known: &Option<Known>,
+    word: &str,
+    last: u32,
+    datagram: &[u8],
+    text: &mut Text,
+) -> Option<()> {
+    let Some(known) = known else {
+        return None;
+    };
+    match word {
+        "push" => return push(alloc, known, last, datagram, text),
+        "first" => first(alloc, known, datagram, text),
+        "second" => second(alloc, known, datagram, text),
+        "third" => third(alloc, known, datagram, text),
+        "fourth" => fourth(alloc, known, datagram, text),
+        _ => return None,
     }
-
-    /// What is asked of the octets that the last word has, in a line.
-    fn ask(&mut self, alloc: Global, word: &str, rest: &[&str], text: &mut Text) -> Option<()> {
-        let (last, rest) = rest.split_last()?;
-        let octets = octets(alloc, last)?;
-        let asked = self.ask_octets(alloc, word, rest, octets.as_slice(), text);
-        drop(octets);
-        text.add("\n");
-        asked
-    }
-
-    /// What one word and the others ask of octets.
-    fn ask_octets(
-        &mut self,
-        alloc: Global,
-        word: &str,
-        rest: &[&str],
-        octets: &[u8],
-        text: &mut Text,
-    ) -> Option<()> {
-        match word {
-            "push" => self.pushes.answer(rest, octets, text),
-            "header" => header(rest, false, octets, text),
-            "header-fields" => header(rest, true, octets, text),
-            "attribute" => attribute(rest, false, octets, text),
-            "attribute-fields" => attribute(rest, true, octets, text),
-            "chain" => chain(alloc, rest, false, octets, text),
-            "chain-fields" => chain(alloc, rest, true, octets, text),
-            _ => self.ask_body(alloc, word, rest, octets, text),
-        }
-    }
-
-    /// What is asked of a body, or of a message of a pull.
-    fn ask_body(
-        &self,
-        alloc: Global,
-        word: &str,
-        rest: &[&str],
-        octets: &[u8],
-        text: &mut Text,
-    ) -> Option<()> {
-        match rest {
-            [] => self.pulls.answer(alloc, word, octets, text),
-            [base] => ask_placed(word, base_of(base, octets)?, octets, text),
-            _ => None,
-        }
-    }
+    Some(())
 }

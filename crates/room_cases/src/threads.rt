@@ -2,16 +2,17 @@
 //!
 //! ```text
 //! looks THREADS COUNT      each of so many threads looks so often at a board while another one publishes
-//! turns THREADS ROUNDS     so many threads together make the turns of a desk, round after round
+//! turns THREADS            so many threads together make the turns of a desk
 //! ```
 //!
-//! The answer to `looks` says whether a pair fell, and that to `turns` is the sum of all turns. A round is a new desk of 64 passes, the 262,144 turns that
-//! the threads make with them, and the closing of the desk.
+//! The answer to `looks` is `rises`, or `falls` where a pair fell, and that to `turns` is the sum of all turns: those of a new desk of 64 passes, 262,144 in
+//! all, which is closed after them.
 ghost use Rattle.std.specs.Prelude.{◌<◌};
 
 use boards::look_together;
 use case_lines::{Text, number};
-use rounds::sum_of_rounds;
+use group_terms::NoMemory;
+use rounds::sum_of_turns;
 use std::alloc::Global;
 use std::sync::Wait;
 use std::thread::Threads;
@@ -20,57 +21,39 @@ mod boards;
 mod parts;
 mod rounds;
 
-/// Has threads do what one word asks for with two others, and appends the answer. `None` where they ask for nothing that can be done.
-pub fn answer<R: Threads + Wait + Sync>(
+/// Has so many threads look so often.
+pub fn looks<R: Threads + Wait + Sync>(
     rt: &R,
     alloc: Global,
-    word: &str,
-    rest: &[&str],
+    words: &[&str],
     text: &mut Text,
 ) -> Option<()> {
-    let [threads, count] = rest else {
+    let [threads, looks] = words else {
         return None;
     };
-    let (threads, count) = (threads.parse::<u8>().ok()?, number(count)?);
-    match word {
-        "looks" => looks(rt, alloc, threads, count, text),
-        _ => turns(rt, alloc, threads, count, text),
+    let (threads, looks) = (number(threads)?, number(looks)?);
+    match look_together(rt, alloc, threads, looks) {
+        Ok(true) => text.add("rises"),
+        Ok(false) => text.add("falls"),
+        Err(NoMemory) => text.lose(),
     }
-}
-
-/// Has so many threads look so often.
-fn looks<R: Threads + Wait + Sync>(
-    rt: &R,
-    alloc: Global,
-    threads: u8,
-    count: u32,
-    text: &mut Text,
-) -> Option<()> {
-    let whole = look_together(rt, alloc, usize::from(threads), count).ok()?;
-    text.add_number(u64::from(threads));
-    text.add(" threads looked ");
-    text.add_number(u64::from(count));
-    text.add(if whole {
-        " times each: no pair fell\n"
-    } else {
-        " times each: a pair fell\n"
-    });
     Some(())
 }
 
-/// Has so many threads make the turns of so many rounds.
-fn turns<R: Threads + Wait + Sync>(
+/// Has so many threads make the turns of a desk.
+pub fn turns<R: Threads + Wait + Sync>(
     rt: &R,
     alloc: Global,
-    threads: u8,
-    rounds: u32,
+    words: &[&str],
     text: &mut Text,
 ) -> Option<()> {
-    if threads == 0 {
+    let [threads] = words else {
         return None;
+    };
+    let threads = number(threads)?.max(1) as usize;
+    match sum_of_turns(rt, alloc, threads) {
+        Ok(sum) => text.add_number(sum),
+        Err(NoMemory) => text.lose(),
     }
-    let sum = sum_of_rounds(rt, alloc, usize::from(threads), rounds).ok()?;
-    text.add_number(sum);
-    text.add("\n");
     Some(())
 }

@@ -1,165 +1,174 @@
 //! What a line asks of a server.
 
-use crate::groups::{TestServer, add_rule, halt, introduce, leave, reopen, serve};
-use crate::members::Members;
-use crate::pulls::{again, batch, join};
-use crate::shown::{
-    show_counts, show_leaves, show_member, show_member_refused, show_message, show_names,
-    show_pair, show_refused, show_state,
-};
-use crate::words::{member, phase, rule};
-use case_lines::{Text, octets};
-use group_model::{Refusal, SymReply};
-use group_server::Reply;
-use group_terms::{MemberName, Phase1};
+use crate::groups::TestServer;
+use crate::shown::{show_done, show_output, show_pair, show_refused, show_served, show_state};
+use case_lines::{Text, array, number, octets};
+use group_terms::{LkhId, MemberName, Pattern, Phase1, Rule};
 use std::alloc::Global;
 
 /// Does what a word asks for with the others.
 pub fn ask(
     alloc: Global,
     server: &mut TestServer,
-    members: &mut Members,
     word: &str,
     rest: &[&str],
     text: &mut Text,
 ) -> Option<()> {
     match rest {
-        [] => ask_alone(alloc, server, members, word, text),
-        [only] => ask_with(alloc, server, members, word, only, text),
-        _ => {
-            if word != "introduce" {
-                return None;
-            }
-            show_introduced(server, phase(rest)?, text);
-            Some(())
-        }
+        [] => ask_alone(alloc, server, word, text),
+        [only] => ask_with(alloc, server, word, only, text),
+        _ => introduce(server, word, rest, text),
     }
 }
 
-/// What a word alone asks for.
-fn ask_alone(
-    alloc: Global,
-    server: &mut TestServer,
-    members: &mut Members,
-    word: &str,
-    text: &mut Text,
-) -> Option<()> {
+/// Does what a word alone asks for.
+fn ask_alone(alloc: Global, server: &mut TestServer, word: &str, text: &mut Text) -> Option<()> {
     match word {
-        "batch" => batch(alloc, server, members, text),
+        "batch" => batch(alloc, server, text),
+        "reopen" => reopen(alloc, server, text),
+        "state" => show_state(server, text),
         "halt" => {
-            halt(server);
+            server.halt();
             text.add("halted\n");
         }
-        "reopen" => show_reopened(alloc, server, text),
-        "show" => show_leaves(server, text),
-        "state" => show_state(server, text),
         _ => return None,
     }
     Some(())
 }
 
-/// What a word asks for with another one.
+/// Does what a word asks for with another one.
 fn ask_with(
     alloc: Global,
     server: &mut TestServer,
-    members: &mut Members,
     word: &str,
     only: &str,
     text: &mut Text,
 ) -> Option<()> {
     match word {
-        "allow" => show_rule(server, true, only, text),
-        "deny" => show_rule(server, false, only, text),
-        "serve" => show_served(alloc, server, only, text),
-        "cuts" => show_cuts(alloc, server, only, text),
-        "join" => join(alloc, server, members, &member(only)?, text),
-        "again" => again(alloc, server, members, &member(only)?, text),
-        "leave" => {
-            show_leaving(server, &member(only)?, text);
-            Some(())
-        }
+        "serve" => serve(alloc, server, only, text),
+        "allow" => add_rule(server, true, only, text),
+        "deny" => add_rule(server, false, only, text),
+        "leave" => leave(server, only, text),
+        "leaf" => show_leaf(server, only, text),
+        "fill" => fill(server, only, text),
         _ => None,
     }
 }
 
-fn show_introduced(server: &mut TestServer, phase: Phase1, text: &mut Text) {
-    let name = phase.member;
-    match introduce(server, phase) {
-        Ok(()) => show_member(&name, "introduced", text),
-        Err(why) => show_member_refused(&name, why, text),
-    }
+fn serve(alloc: Global, server: &mut TestServer, datagram: &str, text: &mut Text) -> Option<()> {
+    let datagram = octets(alloc, datagram)?;
+    let served = server.serve(alloc, datagram.as_slice());
+    drop(datagram);
+    show_served(&served, text);
+    drop(served);
+    Some(())
 }
 
-fn show_rule(server: &mut TestServer, allow: bool, pattern: &str, text: &mut Text) -> Option<()> {
-    let number = add_rule(server, rule(allow, pattern)?)?.ok()?;
-    text.add("rule ");
-    text.add_number(u64::from(number));
+/// The number of the rule, or that the word is no pattern. `None` where there are as many rules as there may be.
+fn add_rule(server: &mut TestServer, allow: bool, pattern: &str, text: &mut Text) -> Option<()> {
+    let Some(pattern) = Pattern::read(pattern.as_bytes()) else {
+        text.add("no pattern\n");
+        return Some(());
+    };
+    if server.rule_count() == u32::MAX {
+        return None;
+    }
+    let number = server.add_rule(Rule { allow, pattern }).ok()?;
+    text.add_named("rule ", u64::from(number));
     text.add("\n");
     Some(())
 }
 
-fn show_leaving(server: &mut TestServer, name: &MemberName, text: &mut Text) {
-    match leave(server, name) {
-        Ok(()) => show_member(name, "leaving", text),
-        Err(why) => show_member_refused(name, why, text),
+fn introduce(server: &mut TestServer, word: &str, words: &[&str], text: &mut Text) -> Option<()> {
+    if word != "introduce" {
+        return None;
     }
-}
-
-fn show_reopened(alloc: Global, server: &mut TestServer, text: &mut Text) {
-    match reopen(alloc, server) {
-        Ok(resent) => {
-            show_counts("reopened", server, text);
-            show_pair(&resent, text);
-            drop(resent);
-        }
-        Err(why) => show_refused("reopen refused ", why, text),
-    }
-}
-
-fn show_served(
-    alloc: Global,
-    server: &mut TestServer,
-    datagram: &str,
-    text: &mut Text,
-) -> Option<()> {
-    let datagram = octets(alloc, datagram)?;
-    let served = serve(alloc, server, datagram.as_slice());
-    drop(datagram);
-    show_reply(served, text);
+    let phase = phase(words)?;
+    show_done(server.introduce(phase), "introduced\n", text);
     Some(())
 }
 
-/// `second LENGTH OCTETS`, `fourth LENGTH OCTETS` and what it says by key names, `queued`, or `refused WHY`.
-fn show_reply(served: Result<Reply, Refusal>, text: &mut Text) {
-    match served {
-        Ok(Reply::Datagram { octets, names }) => {
-            show_datagram(octets.as_slice(), &names, text);
-            drop(octets);
-            drop(names);
-        }
-        Ok(Reply::Queued) => text.add("queued\n"),
-        Err(why) => show_refused("refused ", why, text),
+/// A phase 1 SA: its member, and octets.
+fn phase(words: &[&str]) -> Option<Phase1> {
+    let [name, cookies, skeyid_a, key, last] = words else {
+        return None;
+    };
+    Some(Phase1 {
+        member: MemberName::read(name.as_bytes())?,
+        cookies: array(cookies)?,
+        skeyid_a: array(skeyid_a)?,
+        key: array(key)?,
+        last: array(last)?,
+    })
+}
+
+/// Introduces SAs of the first numbers.
+fn fill(server: &mut TestServer, count: &str, text: &mut Text) -> Option<()> {
+    for i in 0..number(count)? {
+        server.introduce(numbered(i)).ok()?;
+    }
+    text.add("introduced\n");
+    Some(())
+}
+
+/// An SA of this number: cookies and a member of its own, and keys that all have.
+fn numbered(i: u32) -> Phase1 {
+    let mut cookies = [1; 16];
+    cookies[4..8].copy_from_slice(&i.to_be_bytes());
+    Phase1 {
+        member: name(i),
+        cookies,
+        skeyid_a: [2; 32],
+        key: [3; 16],
+        last: [4; 16],
     }
 }
 
-fn show_datagram(octets: &[u8], names: &Option<SymReply>, text: &mut Text) {
-    match names {
-        Some(says) => {
-            show_message("fourth", octets, text);
-            show_names(says, text);
+/// A name for a number: its digits to the base 16, as letters.
+fn name(i: u32) -> MemberName {
+    let mut text = [b'a'; 8];
+    let mut left = i;
+    for octet in text.iter_mut() {
+        *octet = b'a' + (left % 16) as u8;
+        left /= 16;
+    }
+    MemberName::read(&text).unwrap_or_default()
+}
+
+fn leave(server: &mut TestServer, name: &str, text: &mut Text) -> Option<()> {
+    let name = MemberName::read(name.as_bytes())?;
+    show_done(server.leave(&name), "leaving\n", text);
+    Some(())
+}
+
+fn batch(alloc: Global, server: &mut TestServer, text: &mut Text) {
+    match server.batch(alloc) {
+        Ok(output) => {
+            show_output(&output, text);
+            drop(output);
         }
-        None => show_message("second", octets, text),
+        Err(why) => show_refused(why, text),
     }
 }
 
-/// What is answered to each front of a datagram, and at last to all of it.
-fn show_cuts(alloc: Global, server: &mut TestServer, word: &str, text: &mut Text) -> Option<()> {
-    let datagram = octets(alloc, word)?;
-    for size in 0..=datagram.len() {
-        if let Some(front) = datagram.as_slice().get(..size) {
-            show_reply(serve(alloc, server, front), text);
+fn reopen(alloc: Global, server: &mut TestServer, text: &mut Text) {
+    match server.reopen(alloc) {
+        Ok(resent) => {
+            text.add("reopened\n");
+            show_pair(&resent, text);
+            drop(resent);
         }
+        Err(why) => show_refused(why, text),
     }
-    drop(datagram);
+}
+
+/// Who has a leaf.
+fn show_leaf(server: &TestServer, number: &str, text: &mut Text) -> Option<()> {
+    let leaf = LkhId::new(number.parse::<u16>().ok()?)?;
+    match server.member_at(leaf) {
+        Some(member) => text.add_letters(member.text()),
+        None => text.add("nobody"),
+    }
+    text.add("\n");
     Some(())
 }

@@ -2,191 +2,179 @@
 
 use crate::groups::TestServer;
 use case_lines::Text;
-use group_model::{Counter, KeyName, LkhId, Output, PushPair, Refusal, SymReply, Wrap};
-use group_terms::{MemberName, Octets};
+use group_model::{Counter, KeyName, Output, PushPair, Refusal, SentReply, SymReply, Wrap};
+use group_server::Reply;
 
-/// The last leaf of the deepest tree.
-const LAST_LEAF: u16 = 1_023;
-
-/// `WHICH LENGTH OCTETS`, of a message or a push.
-pub fn show_message(which: &str, octets: &[u8], text: &mut Text) {
-    text.add(which);
-    text.add(" ");
-    text.add_number(octets.len() as u64);
-    text.add(" ");
-    text.add_hex(octets);
-    text.add("\n");
+/// `second LENGTH OCTETS`, `fourth LENGTH OCTETS` and what it says by key names, `queued`, or why not.
+pub fn show_served(served: &Result<Reply, Refusal>, text: &mut Text) {
+    match served {
+        Ok(
+            Reply::Datagram {
+                octets,
+                names: None,
+            },
+        ) => { text.add_message("second ", octets.as_slice()) }
+        Ok(
+            Reply::Datagram {
+                octets,
+                names: Some(says),
+            },
+        ) => show_fourth(octets.as_slice(), says, text),
+        Ok(Reply::Queued) => text.add("queued\n"),
+        Err(why) => show_refused(*why, text),
+    }
 }
 
-/// `WHICH NAME LENGTH OCTETS`: a message to a member.
-pub fn show_message_to(which: &str, member: &MemberName, octets: &[u8], text: &mut Text) {
-    text.add(which);
-    text.add(" ");
-    text.add_letters(member.text());
-    show_message("", octets, text);
-}
-
-/// `NAME WHAT`.
-pub fn show_member(member: &MemberName, what: &str, text: &mut Text) {
-    text.add_letters(member.text());
-    text.add(" ");
-    text.add(what);
-    text.add("\n");
-}
-
-/// `NAME refused WHY`.
-pub fn show_member_refused(member: &MemberName, why: Refusal, text: &mut Text) {
-    text.add_letters(member.text());
-    show_refused(" refused ", why, text);
-}
-
-/// `WHAT` and why it is refused.
-pub fn show_refused(what: &str, why: Refusal, text: &mut Text) {
-    text.add(what);
-    add_refusal(why, text);
-    text.add("\n");
-}
-
-/// What a fourth message says by key names: `keys NAME EPOCH SEQUENCE KEY ..`.
-pub fn show_names(reply: &SymReply, text: &mut Text) {
+/// A fourth message, and `keys NAME EPOCH SEQUENCE KEY ..`.
+fn show_fourth(octets: &[u8], says: &SymReply, text: &mut Text) {
+    text.add_message("fourth ", octets);
     text.add("keys ");
-    text.add_letters(reply.member.text());
-    add_after(" ", reply.keyed_epoch, text);
-    add_after(" ", reply.sequence, text);
-    for key in reply.names.as_slice() {
-        text.add(" ");
-        add_key(*key, text);
-    }
+    text.add_letters(says.member.text());
+    text.add_named(" ", u64::from(says.keyed_epoch));
+    text.add_named(" ", u64::from(says.sequence));
+    show_names(says.names.as_slice(), text);
     text.add("\n");
 }
 
-/// What a batch put out, but for its replies.
-pub fn show_output(output: &Output, text: &mut Text) {
-    add_after("epoch ", output.epoch, text);
-    add_after(" sequence ", output.sequence, text);
-    add_after(" members ", output.members, text);
-    text.add("\n");
-    for wrap in output.wraps.as_slice() {
-        show_wrap(wrap, text);
+fn show_names(names: &[KeyName], text: &mut Text) {
+    for name in names {
+        show_name(*name, text);
     }
+}
+
+/// `POSITION.EPOCH`, `traffic.EPOCH`, or `phase`, which no message gives.
+fn show_name(name: KeyName, text: &mut Text) {
+    match name {
+        KeyName::Node { id, made } => {
+            text.add_named(" ", u64::from(id.number()));
+            text.add_named(".", u64::from(made));
+        }
+        KeyName::Traffic { made } => text.add_named(" traffic.", u64::from(made)),
+        KeyName::Phase { .. } => text.add(" phase"),
+    }
+}
+
+/// What a batch put out.
+pub fn show_output(output: &Output, text: &mut Text) {
+    text.add_named("epoch ", u64::from(output.epoch));
+    text.add_named(" sequence ", u64::from(output.sequence));
+    text.add_named(" members ", u64::from(output.members));
+    text.add("\n");
+    show_wraps(output.wraps.as_slice(), text);
     show_pair(&output.pushes, text);
+    show_replies(output.replies.as_slice(), text);
+}
+
+fn show_wraps(wraps: &[Wrap], text: &mut Text) {
+    for wrap in wraps {
+        text.add("wrap");
+        show_name(wrap.by, text);
+        show_name(wrap.gives, text);
+        text.add("\n");
+    }
+}
+
+fn show_replies(replies: &[SentReply], text: &mut Text) {
+    for reply in replies {
+        show_fourth(reply.datagram.as_slice(), &reply.says, text);
+    }
 }
 
 /// The pair of a batch, if it sent one.
 pub fn show_pair(pair: &Option<PushPair>, text: &mut Text) {
     if let Some(pair) = pair {
         let first = u64::from(pair.first);
-        show_push(first, &pair.membership, text);
-        show_push(first + 1, &pair.traffic, text);
+        show_push(first, pair.membership.as_slice(), text);
+        show_push(first + 1, pair.traffic.as_slice(), text);
     }
 }
 
-/// `WHAT epoch E sequence S members N`.
-pub fn show_counts(what: &str, server: &TestServer, text: &mut Text) {
-    text.add(what);
-    add_after(" epoch ", server.epoch(), text);
-    add_after(" sequence ", server.sequence(), text);
-    add_after(" members ", server.members(), text);
-    text.add("\n");
+fn show_push(number: u64, datagram: &[u8], text: &mut Text) {
+    text.add_named("push ", number);
+    text.add_message(" ", datagram);
 }
 
-/// The place of the draws, and whether the group has to be opened again.
+/// How the server is: the depth of its tree, the place of its draws, and what it counts.
 pub fn show_state(server: &TestServer, text: &mut Text) {
-    text.add("draws ");
-    text.add_number(server.draws_at());
-    if server.needs_reopen() {
-        text.add(" needs-reopen");
+    text.add_named("depth ", u64::from(server.depth()));
+    text.add_named(" draws ", server.draws_at());
+    text.add_named(" epoch ", u64::from(server.epoch()));
+    text.add_named(" sequence ", u64::from(server.sequence()));
+    text.add_named(" members ", u64::from(server.members()));
+    text.add(if server.needs_reopen() {
+        " needs-reopen\n"
+    } else {
+        "\n"
+    });
+}
+
+/// What was done, or why not.
+pub fn show_done(done: Result<(), Refusal>, what: &str, text: &mut Text) {
+    match done {
+        Ok(()) => text.add(what),
+        Err(why) => show_refused(why, text),
     }
-    show_counts("", server, text);
-}
-
-/// Who has which leaf, by rising leaf.
-pub fn show_leaves(server: &TestServer, text: &mut Text) {
-    show_counts("group", server, text);
-    for number in 1..=LAST_LEAF {
-        if let Some(leaf) = LkhId::new(number)
-            && let Some(member) = server.member_at(leaf)
-        {
-            show_leaf(number, &member, text);
-        }
-    }
-}
-
-fn show_leaf(number: u16, member: &MemberName, text: &mut Text) {
-    add_after("leaf ", u32::from(number), text);
-    text.add(" ");
-    text.add_letters(member.text());
-    text.add("\n");
-}
-
-fn show_wrap(wrap: &Wrap, text: &mut Text) {
-    text.add("wrap ");
-    add_key(wrap.by, text);
-    text.add(" ");
-    add_key(wrap.gives, text);
-    text.add("\n");
-}
-
-fn show_push(number: u64, datagram: &Octets, text: &mut Text) {
-    text.add("push ");
-    text.add_number(number);
-    show_message("", datagram.as_slice(), text);
-}
-
-/// `POSITION.EPOCH`, `traffic.EPOCH`, or `phase`, which no message gives.
-fn add_key(name: KeyName, text: &mut Text) {
-    match name {
-        KeyName::Node { id, made } => {
-            text.add_number(u64::from(id.number()));
-            add_after(".", made, text);
-        }
-        KeyName::Traffic { made } => add_after("traffic.", made, text),
-        KeyName::Phase { .. } => text.add("phase"),
-    }
-}
-
-fn add_after(words: &str, number: u32, text: &mut Text) {
-    text.add(words);
-    text.add_number(u64::from(number));
 }
 
 /// Why something is refused.
-fn add_refusal(why: Refusal, text: &mut Text) {
+pub fn show_refused(why: Refusal, text: &mut Text) {
+    text.add("refused ");
+    text.add(reason(why));
     match why {
-        Refusal::NeedsReopen => text.add("needs-reopen"),
         Refusal::Malformed { message, at } => {
-            add_after("malformed ", u32::from(message), text);
-            add_after(" ", at, text);
+            text.add_named(" ", u64::from(message));
+            text.add_named(" ", u64::from(at));
         }
-        Refusal::UnknownPeer => text.add("unknown-peer"),
-        Refusal::WrongStep => text.add("wrong-step"),
         Refusal::BadHash { carried, expected } => {
-            text.add("bad-hash ");
+            text.add(" ");
             text.add_hex(&carried);
             text.add(" ");
             text.add_hex(&expected);
         }
-        Refusal::WrongGroup => text.add("wrong-group"),
-        Refusal::Denied { rule } => add_after("denied ", rule, text),
-        Refusal::NotMember => text.add("not-member"),
-        Refusal::AlreadyPending => text.add("already-pending"),
-        Refusal::TreeFull { held } => add_after("tree-full ", held, text),
-        Refusal::BatchFull { pending } => add_after("batch-full ", pending, text),
-        Refusal::Spent { counter, at } => add_after(spent(counter), at, text),
-        Refusal::DiskFault => text.add("disk-fault"),
-        Refusal::PhaseTaken => text.add("phase-taken"),
-        Refusal::PhaseFull { held } => add_after("phase-full ", held, text),
-        Refusal::NotAJournal { at } => {
-            text.add("not-a-journal ");
-            text.add_number(at);
-        }
-        Refusal::NoMemory => text.lose(),
+        _ => show_number(why, text),
+    }
+    text.add("\n");
+}
+
+fn show_number(why: Refusal, text: &mut Text) {
+    if let Some(number) = number_of(why) {
+        text.add_named(" ", number);
     }
 }
 
-fn spent(counter: Counter) -> &'static str {
-    match counter {
-        Counter::Epoch => "spent epoch ",
-        Counter::Sequence => "spent sequence ",
+fn number_of(why: Refusal) -> Option<u64> {
+    match why {
+        Refusal::Denied { rule } => Some(u64::from(rule)),
+        Refusal::TreeFull { held } | Refusal::PhaseFull { held } => Some(u64::from(held)),
+        Refusal::BatchFull { pending } => Some(u64::from(pending)),
+        Refusal::Spent { at, .. } => Some(u64::from(at)),
+        Refusal::NotAJournal { at } => Some(at),
+        _ => None,
+    }
+}
+
+fn reason(why: Refusal) -> &'static str {
+    match why {
+        Refusal::NeedsReopen => "needs-reopen",
+        Refusal::Malformed { .. } => "malformed",
+        Refusal::UnknownPeer => "unknown-peer",
+        Refusal::WrongStep => "wrong-step",
+        Refusal::BadHash { .. } => "bad-hash",
+        Refusal::WrongGroup => "wrong-group",
+        Refusal::Denied { .. } => "denied",
+        Refusal::NotMember => "not-member",
+        Refusal::AlreadyPending => "already-pending",
+        Refusal::TreeFull { .. } => "tree-full",
+        Refusal::BatchFull { .. } => "batch-full",
+        Refusal::Spent {
+            counter: Counter::Epoch,
+            ..
+        } => "spent epoch",
+        Refusal::Spent { .. } => "spent sequence",
+        Refusal::DiskFault => "disk-fault",
+        Refusal::PhaseTaken => "phase-taken",
+        Refusal::PhaseFull { .. } => "phase-full",
+        Refusal::NotAJournal { .. } => "not-a-journal",
+        Refusal::NoMemory => "no-memory",
     }
 }

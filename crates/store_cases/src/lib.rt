@@ -1,15 +1,16 @@
-//! Tests of what the calls of a store answer: calls of the disk that fail, crashes, stores that are opened again, and lists of batches that are
-//! stored and read; and of what is below a store: disks, journals, records and values. What a store reads of files is asked of `room_cases`.
+//! Tests of stores on files in memory, of which calls fail and the power is lost, and of lists of batches that are stored and read; and of what is below
+//! a store: disks and journals. What a store reads of files is asked of `room_cases`, and so is each call of a disk in memory that fails as a group is made,
+//! stores batches or is opened again, with each kind of a crash but that of drawn octets.
 #![tactic(auto)]
 
 #[cfg(test)]
-mod batches;
+mod disks;
 #[cfg(test)]
-mod calls;
+mod files;
+#[cfg(test)]
+mod journals;
 #[cfg(test)]
 mod lists;
-#[cfg(test)]
-mod numbers;
 #[cfg(test)]
 mod powers;
 #[cfg(test)]

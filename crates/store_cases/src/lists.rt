@@ -1,82 +1,69 @@
 //! Lists of batches that are stored, opened again and read.
-ghost use Rattle.std.specs.Prelude.{◌≤◌};
+ghost use Rattle.std.specs.Prelude.{◌<◌, ◌≤◌};
 
-use crate::batches::push_next;
-use crate::numbers::Numbers;
-use crate::stores::{Stage, all_go, head_of};
+use crate::records::push_next;
+use crate::stores::{head_of, look, on_new};
+use crate::unseen::holding;
+use gd_edges::ChaChaDraws;
 use group_model::PresentTree;
-use group_terms::{Batch, Change, List, MOST_CHANGES, MemberName, NoMemory};
+use group_terms::{Batch, Change, List, MOST_CHANGES, MemberName, Octets};
 use std::alloc::Global;
-use tree_store::Stored;
-
-/// All batches are stored.
-static ALL: Stage = Stage::Make(None, &[None; 40], &[]);
 
 #[test]
 fn lists_are_read_as_they_were_stored(rt: HostRuntime) {
-    assert!(rt; are_read_as_stored(rt.alloc()) == Ok(true));
+    assert!(rt; are_read_as_stored(rt.alloc()));
 }
 
-fn are_read_as_stored(alloc: Global) -> Result<bool, NoMemory> {
+fn are_read_as_stored(alloc: Global) -> bool {
     let mut holds = true;
     for seed in 0..200 {
-        holds &= is_read_as_stored(alloc, seed)?;
+        holds &= is_read_as_stored(alloc, seed) == Some(true);
     }
-    Ok(holds)
+    holds
 }
 
 /// Whether the list of a seed is read as it was stored.
-fn is_read_as_stored(alloc: Global, seed: u64) -> Result<bool, NoMemory> {
+fn is_read_as_stored(alloc: Global, seed: u64) -> Option<bool> {
     let depth = 1 + (seed % 9) as u8;
-    let mut list = List::new(alloc);
-    push_some(alloc, depth, seed, &mut list)?;
-    is_kept(alloc, depth, list.as_slice())
+    let mut records = List::new(alloc);
+    let are_drawn = push_some(alloc, depth, seed, &mut records).is_some();
+    let is_kept = is_kept(alloc, depth, records.as_slice());
+    drop(records);
+    Some(are_drawn & is_kept?)
 }
 
 /// Whether a list is read as it was stored.
-fn is_kept(alloc: Global, depth: u8, list: &[Stored]) -> Result<bool, NoMemory> {
-    let head = head_of(depth)?;
-    Ok(all_go(alloc, &head, list, &[], (&ALL, &Stage::Rest), list.len()))
+fn is_kept(alloc: Global, depth: u8, records: &[Octets]) -> Option<bool> {
+    let head = head_of(depth);
+    let all = Some(records.len());
+    let (stored, disk) = on_new(alloc, holding(alloc, &[], b"")?, &head, records, false);
+    let (left, disk) = look(alloc, disk, &head, records);
+    drop(disk);
+    Some((stored == all) & (left == all))
 }
 
-/// Appends 1 to 40 batches, each of them due after those before it.
-fn push_some(alloc: Global, depth: u8, seed: u64, list: &mut List<Stored>) -> Result<(), NoMemory>
+/// Appends the records of 1 to 40 batches, each of them due after those before it.
+fn push_some(alloc: Global, depth: u8, seed: u64, records: &mut List<Octets>) -> Option<()>
     requires shallow { 1 ≤ depth }
     requires not_deep { depth ≤ 9 }
 {
-    let mut tree = PresentTree::new(alloc, depth)?;
-    push_each(alloc, &mut tree, &mut Numbers::new(seed), list)
-}
-
-fn push_each(
-    alloc: Global,
-    tree: &mut PresentTree,
-    numbers: &mut Numbers,
-    list: &mut List<Stored>,
-) -> Result<(), NoMemory> {
+    let mut tree = PresentTree::new(alloc, depth).ok()?;
+    let mut numbers = Numbers { state: seed };
+    let mut draws = ChaChaDraws::new(seed, 0);
     for _ in 0..1 + numbers.below(40) {
-        push_one(alloc, tree, numbers, list)?;
+        let batch = some_batch(&tree, &mut numbers);
+        push_next(alloc, &mut tree, &batch, &mut draws, records)?;
     }
-    Ok(())
-}
-
-fn push_one(
-    alloc: Global,
-    tree: &mut PresentTree,
-    numbers: &mut Numbers,
-    list: &mut List<Stored>,
-) -> Result<(), NoMemory> {
-    let batch = some_batch(alloc, tree, numbers)?;
-    push_next(alloc, tree, batch, numbers, list)
+    Some(())
 }
 
 /// A batch that fits after those for which a tree stands, out of twice as many names as it has leaves.
-fn some_batch(alloc: Global, tree: &PresentTree, numbers: &mut Numbers) -> Result<Batch, NoMemory> {
+fn some_batch(tree: &PresentTree, numbers: &mut Numbers) -> Batch {
     let names = 2 * tree.leaves() as u64;
     let mut room = tree.leaves().saturating_sub(tree.members() as usize);
     let mut batch = Batch::new();
     for _ in 0..numbers.below(33) {
-        let member = some_name(alloc, names, numbers)?;
+        let member = name(numbers.below(names.max(1)));
         if batch.changes().len() == MOST_CHANGES || batch.has(&member) {
             continue;
         }
@@ -88,10 +75,37 @@ fn some_batch(alloc: Global, tree: &PresentTree, numbers: &mut Numbers) -> Resul
             room -= 1;
         }
     }
-    Ok(batch)
+    batch
 }
 
-fn some_name(alloc: Global, names: u64, numbers: &mut Numbers) -> Result<MemberName, NoMemory> {
-    let name = format!(in alloc; "m{}", numbers.below(names.max(1)))?;
-    MemberName::read(name.as_bytes()).ok_or(NoMemory)
+/// The name `m` with the last four digits of a number.
+fn name(number: u64) -> MemberName {
+    let text = [
+        b'm',
+        b'0' + (number / 1000 % 10) as u8,
+        b'0' + (number / 100 % 10) as u8,
+        b'0' + (number / 10 % 10) as u8,
+        b'0' + (number % 10) as u8,
+    ];
+    MemberName::read(&text).unwrap_or_default()
+}
+
+/// A linear congruential generator, with the multiplier and the increment of Knuth's MMIX.
+#[derive(Drop)]
+struct Numbers {
+    state: u64,
+}
+
+impl Numbers {
+    /// The next number, below a bound.
+    fn below(&mut self, bound: u64) -> u64
+        requires { 0 < bound }
+        ensures { result < bound }
+    {
+        self.state = self
+            .state
+            .wrapping_mul(6_364_136_223_846_793_005)
+            .wrapping_add(1_442_695_040_888_963_407);
+        (self.state >> 33) % bound
+    }
 }

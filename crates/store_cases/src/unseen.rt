@@ -1,103 +1,21 @@
 //! A disk for tests that commit.
-ghost use Rattle.std.specs.Prelude.{◌≡◌, ◌+◌, ◌^◌, ◌≤◌, ⊤, false, None, length, IfOk, OnOk, OnErr, is_err, if◌then◌else◌};
+ghost use Rattle.std.specs.Prelude.{◌≡◌, ◌≤◌, ⊤, false, None, OnErr, is_err, if◌then◌else◌};
 ghost use Rattle.group_terms.specs.Faults.{Rose, one_more};
 
-use file_disks::{FileDisk, MemFile, OverFile};
+use file_disks::{FilePlan, MemFile, OverFile};
 use gd_disk::{Disk, Failed, MemDisk};
-use group_terms::counted_on;
-use std::fs::File;
+use group_terms::{List, counted_on};
+use std::alloc::Global;
 use std::marker::Model;
-use std::rt::Files;
 
-/// A disk in memory, one over a file in memory, or one in a file, of which contracts see how much a read moves and how far a write goes.
-pub(crate) trait Hidden: Drop {
-    fn read_hidden(&mut self, at: u64, into: &mut [u8]) -> Result<usize, Failed>
-        ensures count { IfOk result (λ n. n ≤ length into.new) }
-        ensures far { 2 ^ 62 ≤ at → IfOk result (λ n. n ≡ 0) };
-
-    /// Fails past the end in memory, too.
-    fn write_hidden(&mut self, at: u64, octets: &[u8]) -> Result<(), Failed>
-        ensures { OnOk result (at + length octets.now ≤ 2 ^ 62) };
-
-    fn cut_hidden(&mut self, to: u64) -> Result<(), Failed>;
-
-    fn sync_hidden(&mut self) -> Result<(), Failed>;
-}
-
-impl Hidden for MemDisk {
-    fn read_hidden(&mut self, at: u64, into: &mut [u8]) -> Result<usize, Failed> {
-        self.read(at, into)
-    }
-
-    fn write_hidden(&mut self, at: u64, octets: &[u8]) -> Result<(), Failed> {
-        if at > self.image().len() as u64 {
-            return Err(Failed);
-        }
-        self.write_at(at, octets)
-    }
-
-    fn cut_hidden(&mut self, to: u64) -> Result<(), Failed> {
-        if to > self.image().len() as u64 {
-            return Err(Failed);
-        }
-        self.cut(to)
-    }
-
-    fn sync_hidden(&mut self) -> Result<(), Failed> {
-        self.sync()
-    }
-}
-
-impl Hidden for OverFile<MemFile> {
-    fn read_hidden(&mut self, at: u64, into: &mut [u8]) -> Result<usize, Failed> {
-        self.read(at, into)
-    }
-
-    fn write_hidden(&mut self, at: u64, octets: &[u8]) -> Result<(), Failed> {
-        if at > self.file().image().len() as u64 {
-            return Err(Failed);
-        }
-        self.write_at(at, octets)
-    }
-
-    fn cut_hidden(&mut self, to: u64) -> Result<(), Failed> {
-        if to > self.file().image().len() as u64 {
-            return Err(Failed);
-        }
-        self.cut(to)
-    }
-
-    fn sync_hidden(&mut self) -> Result<(), Failed> {
-        self.sync()
-    }
-}
-
-impl<R: Files<File = File> + Drop> Hidden for FileDisk<R> {
-    fn read_hidden(&mut self, at: u64, into: &mut [u8]) -> Result<usize, Failed> {
-        self.read(at, into)
-    }
-
-    fn write_hidden(&mut self, at: u64, octets: &[u8]) -> Result<(), Failed> {
-        self.write_at(at, octets)
-    }
-
-    fn cut_hidden(&mut self, to: u64) -> Result<(), Failed> {
-        self.cut(to)
-    }
-
-    fn sync_hidden(&mut self) -> Result<(), Failed> {
-        self.sync()
-    }
-}
-
-/// A disk that exposes nothing, so that no clause asks what it holds. Contracts see alone how many of its calls failed.
+/// A disk over a file in memory that exposes nothing, so that no clause asks what it holds. Contracts see alone how many of its calls failed.
 #[derive(Drop)]
-pub(crate) struct UnseenDisk<H: Hidden> {
-    disk: H,
+pub(crate) struct UnseenDisk {
+    disk: OverFile<MemFile>,
     faults: u64,
 }
 
-impl<H: Hidden> Model for UnseenDisk<H> {
+impl Model for UnseenDisk {
     ghost use Rattle.std.specs.Prelude.{ℕ};
 
     ghost Value = { ℕ };
@@ -105,14 +23,41 @@ impl<H: Hidden> Model for UnseenDisk<H> {
     ghost view = { λ disk. disk.faults };
 }
 
-impl<H: Hidden> UnseenDisk<H> {
-    pub(crate) fn new(disk: H) -> Self {
-        UnseenDisk { disk, faults: 0 }
+impl UnseenDisk {
+    /// A disk over a file that is not there: the most octets that a call takes, whether another process has its lock, and the calls that fail: those
+    /// that open, lock or list it, and the others.
+    pub(crate) fn planned(
+        alloc: Global,
+        most: usize,
+        is_taken: bool,
+        steps: &[u64],
+        calls: &[u64],
+    ) -> Option<Self> {
+        let steps = List::copy_of(alloc, steps).ok()?;
+        let calls = List::copy_of(alloc, calls).ok()?;
+        let plan = FilePlan {
+            most: most.max(1),
+            is_taken,
+            steps,
+            calls,
+        };
+        let disk = OverFile::over(MemFile::new(alloc, plan));
+        Some(UnseenDisk { disk, faults: 0 })
     }
 
-    /// The disk, as it is.
-    pub(crate) fn into_disk(self) -> H {
-        self.disk
+    /// What a loss of power leaves.
+    pub(crate) fn crashed(self, choice: u64) -> Option<MemDisk> {
+        self.disk.into_file().crashed(choice).ok()
+    }
+
+    /// Another disk over the same file, unless a sync of that failed.
+    pub(crate) fn used_again(self) -> Option<Self> {
+        let file = self.disk.into_file();
+        if !file.is_sound() {
+            return None;
+        }
+        let disk = OverFile::over(file);
+        Some(UnseenDisk { disk, faults: 0 })
     }
 
     /// The answer of a call, which counts a fault where it failed.
@@ -132,7 +77,7 @@ impl<H: Hidden> UnseenDisk<H> {
     }
 }
 
-impl<H: Hidden> Disk for UnseenDisk<H> {
+impl Disk for UnseenDisk {
     ghost faults = { λ disk. disk };
 
     ghost honest = { λ _. false };
@@ -152,22 +97,43 @@ impl<H: Hidden> Disk for UnseenDisk<H> {
     ghost only_now = { λ disk c left. left };
 
     fn read(&mut self, at: u64, into: &mut [u8]) -> Result<usize, Failed> {
-        let answer = self.disk.read_hidden(at, into);
+        let answer = self.disk.read(at, into);
         self.counted(answer)
     }
 
+    /// Fails past the end of the file, too.
     fn write_at(&mut self, at: u64, octets: &[u8]) -> Result<(), Failed> {
-        let answer = self.disk.write_hidden(at, octets);
+        if at > self.disk.file().image().len() as u64 {
+            return self.counted(Err(Failed));
+        }
+        let answer = self.disk.write_at(at, octets);
         self.counted(answer)
     }
 
+    /// Fails past the end of the file, too.
     fn cut(&mut self, to: u64) -> Result<(), Failed> {
-        let answer = self.disk.cut_hidden(to);
+        if to > self.disk.file().image().len() as u64 {
+            return self.counted(Err(Failed));
+        }
+        let answer = self.disk.cut(to);
         self.counted(answer)
     }
 
     fn sync(&mut self) -> Result<(), Failed> {
-        let answer = self.disk.sync_hidden();
+        let answer = self.disk.sync();
         self.counted(answer)
     }
+}
+
+/// A disk with what a loss of power leaves of another.
+pub(crate) fn after_crash(alloc: Global, disk: UnseenDisk, choice: u64) -> Option<UnseenDisk> {
+    let left = disk.crashed(choice)?;
+    holding(alloc, &[], left.image())
+}
+
+/// A disk with these octets that fails at these calls. To write them is the first one.
+pub(crate) fn holding(alloc: Global, calls: &[u64], octets: &[u8]) -> Option<UnseenDisk> {
+    let mut disk = UnseenDisk::planned(alloc, usize::MAX, false, &[], calls)?;
+    let is_written = disk.write_at(0, octets).is_ok();
+    if is_written { Some(disk) } else { None }
 }

@@ -2,16 +2,6 @@
 use crate::octets::octets;
 use gd_cipher::{Key128, cbc_open, cbc_seal};
 
-const KEY: &str = "2b7e151628aed2a6abf7158809cf4f3c";
-
-const IV: &str = "000102030405060708090a0b0c0d0e0f";
-
-const PLAIN: &str = "6bc1bee22e409f96e93d7e117393172aae2d8a571e03ac9c9eb76fac45af8e51\
-    30c81c46a35ce411e5fbc1191a0a52eff69f2445df4f9b17ad2b417be66c3710";
-
-const SEALED: &str = "7649abac8119b246cee98e9b12e9197d5086cb9b507219ee95db113a917678b2\
-    73bed6b8e3c1743b7116e69e222295163ff1caa1681fac09120eca307586e1a7";
-
 /// SP 800-38A sections F.2.1 and F.2.2.
 #[test]
 fn a_text_is_sealed_and_opened(rt: HostRuntime) {
@@ -19,13 +9,22 @@ fn a_text_is_sealed_and_opened(rt: HostRuntime) {
 }
 
 fn known_text_holds() -> bool {
-    let (key, iv) = (Key128::new(octets(KEY)), octets(IV));
-    let mut text = octets::<64>(PLAIN);
+    let key = Key128::new(octets("2b7e151628aed2a6abf7158809cf4f3c"));
+    let iv = octets("000102030405060708090a0b0c0d0e0f");
+    let plain = octets::<64>(
+        "6bc1bee22e409f96e93d7e117393172aae2d8a571e03ac9c9eb76fac45af8e51\
+        30c81c46a35ce411e5fbc1191a0a52eff69f2445df4f9b17ad2b417be66c3710",
+    );
+    let sealed = octets::<64>(
+        "7649abac8119b246cee98e9b12e9197d5086cb9b507219ee95db113a917678b2\
+        73bed6b8e3c1743b7116e69e222295163ff1caa1681fac09120eca307586e1a7",
+    );
+    let mut text = plain;
     cbc_seal(&key, &iv, &mut text);
-    let there = text == octets::<64>(SEALED);
+    let there = text == sealed;
     cbc_open(&key, &iv, &mut text);
     cbc_seal(&key, &iv, &mut []);
-    there & (text == octets::<64>(PLAIN))
+    there & (text == plain)
 }
 
 /// Texts of 0 to 8 blocks under drawn keys and IVs are opened as they were sealed, and sealed again as they were opened.

@@ -1,6 +1,5 @@
 //! A desk at one sum, in one thread.
-ghost use Rattle.std.specs.Prelude.{◌≡◌, ℕ, ◌≤◌, List, [], ◌∷◌, ◌++◌, All, IfOk, OnOk};
-ghost use Rattle.desk.specs.Views.{StartsWith};
+ghost use Rattle.std.specs.Prelude.{◌≡◌, ◌≤◌, All, IfOk, OnOk};
 
 use crate::sums::Sums;
 use desk::{Closed, Desk, DeskMade, DeskOpen, Kept, LedgerFull, Pass};
@@ -18,7 +17,7 @@ fn passes_take_turns_and_come_back(rt: HostRuntime) {
 }
 
 /// A desk at an empty sum.
-fn desk_of(
+pub(crate) fn desk_of(
     alloc: Global,
     rate: &u64,
     passes: u32,
@@ -78,7 +77,7 @@ fn both_turn<'a, R: Threads + Wait + Sync>(
     Ok((turned, second))
 }
 
-/// Turns of 5 and 7 by two passes, which then meet: the first has seen the entries of both.
+/// Turns of 5 and 7 by two passes, which then meet.
 fn two_turns_seen<'a, R: Threads + Wait + Sync>(
     rt: &R,
     desk: &Desk<Sums<'a>>,
@@ -89,27 +88,11 @@ fn two_turns_seen<'a, R: Threads + Wait + Sync>(
     requires second { second.old.desk ≡ desk.now.id }
     ensures first { first.new.desk ≡ desk.now.id }
     ensures second { second.new.desk ≡ desk.now.id }
-    ensures five { OnOk result ((before : List ℕ) × StartsWith first.new.seen (before ++ 5 ∷ [])) }
-    ensures seven { OnOk result ((before : List ℕ) × StartsWith first.new.seen (before ++ 7 ∷ [])) }
 {
-    let five = turn_seen(rt, desk, first, 5)?;
-    let seven = turn_seen(rt, desk, second, 7)?;
+    let five = desk.turn(rt, first, 5)?;
+    let seven = desk.turn(rt, second, 7)?;
     desk.meet(first, second);
     Ok((five, seven))
-}
-
-/// A turn of a pass, which has seen its entry then.
-fn turn_seen<'a, R: Threads + Wait + Sync>(
-    rt: &R,
-    desk: &Desk<Sums<'a>>,
-    pass: &mut Pass<Sums<'a>>,
-    event: u64,
-) -> Result<u64, LedgerFull>
-    requires { pass.old.desk ≡ desk.now.id }
-    ensures desk { pass.new.desk ≡ pass.old.desk }
-    ensures seen { OnOk result ((before : List ℕ) × (pass.new.seen ≡ before ++ event ∷ [])) }
-{
-    desk.turn(rt, pass, event)
 }
 
 /// Whether one of two passes was there, and the desk is closed with the other one.
@@ -127,7 +110,10 @@ fn comes_back<'a>(open: DeskOpen<Sums<'a>>, away: Pass<Sums<'a>>) -> bool
         return false;
     }
     match closed(desk, passes) {
-        Some(sums) => one_was_away & has_five_and_seven(&sums),
+        Some(sums) => {
+            let both = sums.entries.items() == [5, 7].as_slice();
+            one_was_away & both & (sums.misplaced == 0)
+        }
         None => false,
     }
 }
@@ -140,10 +126,6 @@ pub(crate) fn closed<K: Kept + Drop>(desk: Desk<K>, passes: List<Pass<K>>) -> Op
         Ok(Closed { kept, calls: _ }) => Some(kept),
         Err(_) => None,
     }
-}
-
-fn has_five_and_seven(sums: &Sums) -> bool {
-    (sums.entries.items() == [5, 7].as_slice()) & (sums.misplaced == 0)
 }
 
 /// A pass of one turn has no second one, and the desk stays open without it.
@@ -168,8 +150,8 @@ fn turns_once<'a, R: Threads + Wait + Sync>(
 ) -> bool
     requires { pass.old.desk ≡ desk.now.id }
 {
-    let first = turn_seen(rt, desk, pass, 3) == Ok(3);
-    first & (turn_seen(rt, desk, pass, 4) == Err(LedgerFull { held: 1 }))
+    let first = desk.turn(rt, pass, 3) == Ok(3);
+    first & (desk.turn(rt, pass, 4) == Err(LedgerFull { held: 1 }))
 }
 
 fn is_without_a_pass(left: &Option<DeskOpen<Sums>>) -> bool {

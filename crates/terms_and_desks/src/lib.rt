@@ -10,13 +10,13 @@ mod boards;
 #[cfg(test)]
 mod chains;
 #[cfg(test)]
+mod crossings;
+#[cfg(test)]
 mod desks;
 #[cfg(test)]
 mod draws;
 #[cfg(test)]
 mod faults;
-#[cfg(test)]
-mod halls;
 #[cfg(test)]
 mod hashes;
 #[cfg(test)]

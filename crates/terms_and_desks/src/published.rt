@@ -3,15 +3,70 @@ ghost use Rattle.std.specs.Prelude.{◌≡◌, [], All, IfOk};
 ghost use Rattle.desk.specs.Turned.{new_passes};
 
 use crate::desks::taken;
-use crate::halls::{Hall, Watch, look_and_tell, wait_for};
 use desk::{Desk, DeskMade, Kept, Pass};
-use epoch_board::{BoardMade, BoardPass, EpochBoard, Publisher};
+use epoch_board::{BoardMade, BoardPass, EpochBoard, Publisher, Seen};
 use group_terms::{List, Log, NoMemory};
 use std::alloc::Global;
 use std::sync::Wait;
 use std::sync::atomic::AtomicBool;
+use std::sync::atomic::Ordering::SeqCst;
 use std::thread;
 use std::thread::Threads;
+
+/// A board, and a flag for which the one who publishes waits.
+#[derive(Drop)]
+struct Hall {
+    board: EpochBoard,
+    flag: AtomicBool,
+}
+
+impl Hall {
+    fn of(board: EpochBoard) -> Self
+        ensures { result.board ≡ board }
+    {
+        Hall {
+            board,
+            flag: AtomicBool::new(false),
+        }
+    }
+}
+
+/// A pass with the hall that its board is in.
+#[derive(Drop)]
+struct Watch<'a> {
+    hall: &'a Hall,
+    pass: BoardPass,
+    ghost one_board: { pass.board ≡ hall.now.board },
+}
+
+impl Watch<'_> {
+    fn now(&mut self) -> Seen {
+        self.hall.board.now(&mut self.pass)
+    }
+}
+
+fn wait_for<R: Wait>(rt: &R, flag: &AtomicBool) {
+    for _ in rt.forever() {
+        if flag.load(SeqCst) {
+            break;
+        }
+        thread::yield_now();
+    }
+}
+
+/// Looks until something was published, and then sets the flag.
+fn look_and_tell<R: Wait>(rt: &R, watch: &mut Watch) -> Seen {
+    let mut seen = watch.now();
+    for _ in rt.forever() {
+        if seen.epoch != 0 {
+            break;
+        }
+        thread::yield_now();
+        seen = watch.now();
+    }
+    watch.hall.flag.store(true, SeqCst);
+    seen
+}
 
 /// Which board a value publishes on. No value of it is made.
 pub struct OnBoard {
@@ -20,7 +75,7 @@ pub struct OnBoard {
 
 /// Publishes each epoch that it is told, and waits in its turn for the flag.
 #[derive(Drop)]
-struct Waiting<'a> {
+pub(crate) struct Waiting<'a> {
     epochs: Log<u32>,
     hall: &'a Hall,
     publisher: Publisher,
@@ -29,7 +84,7 @@ struct Waiting<'a> {
 
 /// An epoch, and a pass that is shown what was published.
 #[derive(Drop)]
-struct Told {
+pub(crate) struct Told {
     epoch: u32,
     pass: BoardPass,
 }
@@ -50,6 +105,10 @@ impl Kept for Waiting<'_> {
     ghost spare = { λ waiting. waiting.epochs.spare };
 
     ghost tag = { λ waiting. record { board = waiting.hall.now.board } };
+
+    ghost begun = { λ _. 0 };
+
+    ghost Same = { λ waiting other. (other.epochs.items ≡ waiting.epochs.items) × (other.publisher ≡ waiting.publisher) };
 
     ghost Suits = { λ event tag. event.pass.board ≡ tag.board };
 

@@ -5,6 +5,8 @@ use std::alloc::Global;
 
 #[test]
 fn pushes_are_found_by_their_numbers(rt: HostRuntime) {
+    a_noted_push_is_found();
+    the_next_number_is_the_least();
     assert!(rt; are_found(rt.alloc()) == Ok(true));
 }
 
@@ -14,20 +16,12 @@ fn are_found(alloc: Global) -> Result<bool, NoMemory> {
     sent.note(7, 20);
     sent.note(3, 30);
     sent.note(3, 40);
-    Ok(finds_the_last(&sent) & goes_by_numbers(&sent))
+    Ok(finds_the_last(&sent))
 }
 
-#[test]
-fn laws_hold(_rt: HostRuntime) {
-    a_noted_push_is_found();
-    the_next_number_is_the_least();
-}
-
-/// The last push of number 3 came from place 40, after one from place 30; that of number 7 from place 20.
+/// The last push of number 3 came from place 40, after one from place 30; that of number 7 from place 20. Numbers go up.
 fn finds_the_last(sent: &SentPushes) -> bool {
-    (sent.find(3) == Some(40)) & (sent.find(7) == Some(20)) & sent.find(5).is_none()
-}
-
-fn goes_by_numbers(sent: &SentPushes) -> bool {
-    (sent.next_after(0) == Some(3)) & (sent.next_after(3) == Some(7)) & sent.next_after(7).is_none()
+    let found = (sent.find(3) == Some(40)) & (sent.find(7) == Some(20)) & sent.find(5).is_none();
+    let next = (sent.next_after(0) == Some(3)) & (sent.next_after(3) == Some(7));
+    found & next & sent.next_after(7).is_none()
 }

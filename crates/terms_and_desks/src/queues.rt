@@ -4,55 +4,42 @@ use group_terms::{Change, MemberName};
 
 #[test]
 fn changes_wait(rt: HostRuntime) {
-    assert!(rt; waits_in_order() & waits_once() & waits_with_31_others());
+    let mut queue = Queue::new();
+    let in_order = waits_in_order(&mut queue) & waits_once(&mut queue);
+    assert!(rt; in_order & waits_with_31_others(&mut queue));
 }
 
-fn waits_in_order() -> bool {
+/// Three changes wait, of which two let somebody in, until the queue is cleared.
+fn waits_in_order(queue: &mut Queue) -> bool {
     let changes = [joins(b"a"), leaves(b"b"), joins(b"c")];
-    let mut queue = Queue::new();
-    let added = are_added(&mut queue, &changes);
-    let found = queue.has(&named(b"b")) & !queue.has(&named(b"d"));
-    let waiting = is_waiting(&queue, &changes);
-    queue.clear();
-    added & found & waiting & queue.batch().changes().is_empty()
-}
-
-fn are_added(queue: &mut Queue, changes: &[Change]) -> bool {
-    let mut added = true;
-    for change in changes {
-        added &= queue.add(*change).is_ok();
+    let mut holds = true;
+    for change in &changes {
+        holds &= queue.add(*change).is_ok();
     }
-    added
+    holds &= queue.has(&named(b"b")) & !queue.has(&named(b"d"));
+    holds &= queue.batch().changes() == changes.as_slice();
+    holds &= (queue.joins() == 2) & (queue.leaves() == 1);
+    queue.clear();
+    holds & queue.batch().changes().is_empty()
 }
 
-/// Whether these changes wait, of which two let somebody in.
-fn is_waiting(queue: &Queue, changes: &[Change]) -> bool {
-    (queue.batch().changes() == changes) & (queue.joins() == 2) & (queue.leaves() == 1)
-}
-
-fn waits_once() -> bool {
-    let mut queue = Queue::new();
+fn waits_once(queue: &mut Queue) -> bool {
     let first = queue.add(leaves(b"a")).is_ok();
-    let refused = is_pending(&mut queue, joins(b"a")) & is_pending(&mut queue, leaves(b"a"));
-    first & refused & (queue.batch().changes().len() == 1)
+    let refused = is_pending(queue, joins(b"a")) & is_pending(queue, leaves(b"a"));
+    let one = queue.batch().changes().len() == 1;
+    queue.clear();
+    first & refused & one
 }
 
-fn waits_with_31_others() -> bool {
-    let mut queue = Queue::new();
-    let filled = fill(&mut queue);
-    let full = queue.add(joins(b"z")) == Err(QueueRefusal::BatchFull { pending: 32 });
-    let refused = is_pending(&mut queue, joins(b"a0"));
-    filled & full & refused & (queue.batch().changes().len() == 32)
-}
-
-/// Puts 32 changes into it.
-fn fill(queue: &mut Queue) -> bool {
-    let mut filled = true;
+fn waits_with_31_others(queue: &mut Queue) -> bool {
+    let mut holds = true;
     for number in 0..32 {
         let change = joins(&[b'a' + number / 8, b'0' + number % 8]);
-        filled &= queue.add(change).is_ok();
+        holds &= queue.add(change).is_ok();
     }
-    filled
+    let full = queue.add(joins(b"z")) == Err(QueueRefusal::BatchFull { pending: 32 });
+    let refused = is_pending(queue, joins(b"a0"));
+    holds & full & refused & (queue.batch().changes().len() == 32)
 }
 
 fn is_pending(queue: &mut Queue, change: Change) -> bool {

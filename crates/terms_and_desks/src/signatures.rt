@@ -14,28 +14,25 @@ const SIGNATURE: [u8; 32] = [
 
 #[test]
 fn a_test_signer_signs_and_a_test_verifier_accepts_that_alone(rt: HostRuntime) {
-    let (signer, verifier) = (TestSigner::new(), TestVerifier::new());
-    let signed = signer.sign(&DIGEST).as_slice() == SIGNATURE.as_slice();
-    let accepted = accepts_that_alone(&verifier) & signs_and_checks(&signer, &verifier);
-    assert!(rt; signed & accepted);
+    assert!(rt; signs_and_checks(&TestSigner::new(), &TestVerifier::new()));
 }
 
-fn accepts_that_alone(verifier: &TestVerifier) -> bool {
-    let mut changed = SIGNATURE;
-    changed[31] ^= 1;
-    verifier.check(&DIGEST, &SIGNATURE)
-        & !verifier.check(&DIGEST, &changed)
-        & !verifier.check(&DIGEST, &SIGNATURE[..31])
-        & !verifier.check(&DIGEST, b"")
-}
-
-/// Whether a signature is accepted, and both are of the kind of tests.
+/// Whether this signature is made, and accepted alone, and both are of the kind of tests.
 fn signs_and_checks<S: Signer, V: Verifier>(signer: &S, verifier: &V) -> bool {
     let kind = SignKind {
         algorithm: 128,
         key_bits: 256,
     };
+    let (digest, signature) = (DIGEST, SIGNATURE);
+    let mut changed = signature;
+    changed[31] ^= 1;
+    let signed = signer.sign(&digest);
     (signer.kind() == kind)
         & (verifier.kind() == kind)
-        & verifier.check(&DIGEST, signer.sign(&DIGEST).as_slice())
+        & (signed.as_slice() == signature.as_slice())
+        & verifier.check(&digest, signed.as_slice())
+        & verifier.check(&digest, &signature)
+        & !verifier.check(&digest, &changed)
+        & !verifier.check(&digest, &signature[..31])
+        & !verifier.check(&digest, b"")
 }

@@ -1,4 +1,6 @@
 //! Readers and writers of std as sources and sinks.
+ghost use Rattle.std.specs.Prelude.{◌≤◌, IfOk};
+
 use gd_edges::{Sink, Source, StdSink, StdSource};
 use std::io;
 use std::io::{ErrorKind, Read, Write};
@@ -6,23 +8,24 @@ use std::io::{ErrorKind, Read, Write};
 #[test]
 fn a_reader_of_std_is_a_source(rt: HostRuntime) {
     let given = gives_abc(&mut StdSource::new(b"abc".as_slice()));
-    assert!(rt; given & fails(&mut StdSource::new(Trouble::AtOnce)));
+    let at_last = gives_at_last(&mut StdSource::new(Trouble::Once));
+    assert!(rt; given & at_last & fails(&mut StdSource::new(Trouble::AtOnce)));
 }
 
 fn gives_abc<S: Source>(source: &mut S) -> bool {
     let mut room = [b'-'; 2];
-    gives(source, &mut room, 2, b"ab")
-        & gives(source, &mut room, 1, b"cb")
-        & gives(source, &mut room, 0, b"cb")
-}
-
-/// Whether a source gives so many octets, and the room is this then.
-fn gives<S: Source>(source: &mut S, room: &mut [u8; 2], count: usize, octets: &[u8; 2]) -> bool {
-    (source.take(room) == Ok(count)) & (*room == *octets)
+    let two = (source.take(&mut room) == Ok(2)) & (room == *b"ab");
+    let one = (source.take(&mut room) == Ok(1)) & (room == *b"cb");
+    two & one & (source.take(&mut room) == Ok(0)) & (room == *b"cb")
 }
 
 fn fails<S: Source>(source: &mut S) -> bool {
     source.take(&mut [b'-'; 2]).is_err()
+}
+
+/// A call that failed is not made again: the next one goes through.
+fn gives_at_last<S: Source>(source: &mut S) -> bool {
+    fails(source) & (source.take(&mut [b'-'; 2]) == Ok(1))
 }
 
 #[test]
@@ -31,7 +34,7 @@ fn a_writer_of_std_is_a_sink(rt: HostRuntime) {
     let counted = takes_abc(&mut StdSink::new(&mut written));
     let taken = counted & (written.as_slice() == b"abc".as_slice());
     drop(written);
-    assert!(rt; taken & puts_fail());
+    assert!(rt; taken & puts_fail() & takes_at_last(&mut StdSink::new(Trouble::Once)));
 }
 
 fn takes_abc<S: Sink>(sink: &mut S) -> bool {
@@ -46,82 +49,49 @@ fn put_fails(trouble: Trouble) -> bool {
     StdSink::new(trouble).put(b"ab").is_err()
 }
 
-/// A call that failed is not made again: the next one goes through.
-#[test]
-fn a_fault_is_answered_and_not_tried_again(rt: HostRuntime) {
-    let given = gives_at_last(&mut StdSource::new(FailsOnce { failed: false }));
-    assert!(rt; given & takes_at_last(&mut StdSink::new(FailsOnce { failed: false })));
-}
-
-fn gives_at_last<S: Source>(source: &mut S) -> bool {
-    fails(source) & (source.take(&mut [b'-'; 2]) == Ok(1))
-}
-
 fn takes_at_last<S: Sink>(sink: &mut S) -> bool {
     sink.put(b"ab").is_err() & (sink.put(b"ab") == Ok(1))
 }
 
-/// A reader and writer whose first call fails; each other one moves an octet.
-#[derive(Drop)]
-struct FailsOnce {
-    failed: bool,
-}
-
-impl FailsOnce {
-    fn call(&mut self) -> io::Result<()> {
-        if self.failed {
-            return Ok(());
-        }
-        self.failed = true;
-        Err(io::Error::new(ErrorKind::BrokenPipe, "the first call"))
-    }
-}
-
-impl Read for FailsOnce {
-    fn read(&mut self, buf: &mut [u8]) -> io::Result<usize> {
-        if buf.is_empty() {
-            return Ok(0);
-        }
-        self.call()?;
-        Ok(1)
-    }
-}
-
-impl Write for FailsOnce {
-    fn write(&mut self, buf: &[u8]) -> io::Result<usize> {
-        if buf.is_empty() {
-            return Ok(0);
-        }
-        self.call()?;
-        Ok(1)
-    }
-
-    fn flush(&mut self) -> io::Result<()> {
-        Ok(())
-    }
-}
-
 /// What goes wrong at a reader or writer.
-#[derive(Drop)]
+#[derive(Clone, Copy)]
 enum Trouble {
+    /// Each call.
     AtOnce,
+    /// The first call. Each other one moves an octet.
+    Once,
+    Past,
     TakesNothing,
     AtFlush,
 }
 
+impl Trouble {
+    /// How many octets a call moves that has so many.
+    fn call(&mut self, octets: usize) -> io::Result<usize>
+        ensures { IfOk result (λ count. count ≤ octets) }
+    {
+        match *self {
+            Trouble::AtOnce => Err(io::Error::new(ErrorKind::BrokenPipe, "each call")),
+            Trouble::Once => {
+                *self = Trouble::Past;
+                Err(io::Error::new(ErrorKind::BrokenPipe, "the first call"))
+            }
+            Trouble::Past => Ok(octets.min(1)),
+            Trouble::TakesNothing => Ok(0),
+            Trouble::AtFlush => Ok(octets),
+        }
+    }
+}
+
 impl Read for Trouble {
-    fn read(&mut self, _buf: &mut [u8]) -> io::Result<usize> {
-        Err(io::Error::new(ErrorKind::BrokenPipe, "no reader"))
+    fn read(&mut self, buf: &mut [u8]) -> io::Result<usize> {
+        self.call(buf.len())
     }
 }
 
 impl Write for Trouble {
     fn write(&mut self, buf: &[u8]) -> io::Result<usize> {
-        match self {
-            Trouble::AtOnce => Err(io::Error::new(ErrorKind::BrokenPipe, "no writer")),
-            Trouble::TakesNothing => Ok(0),
-            Trouble::AtFlush => Ok(buf.len()),
-        }
+        self.call(buf.len())
     }
 
     fn flush(&mut self) -> io::Result<()> {

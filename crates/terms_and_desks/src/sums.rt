@@ -46,6 +46,10 @@ impl Kept for Sums<'_> {
 
     ghost tag = { λ _. tt };
 
+    ghost begun = { λ _. 0 };
+
+    ghost Same = { λ sums other. (other.entries.items ≡ sums.entries.items) × (other.sum ≡ sums.sum) };
+
     ghost Suits = { λ _ _. ⊤ };
 
     ghost Relates = { λ _ event entry _. entry ≡ event };

@@ -1,33 +1,37 @@
-//! Groups with all that their images say of them.
+//! Groups in journals.
 
-use crate::journals::images::disk;
-use crate::journals::stores::add_refusal;
+use crate::journals::forms::{add_batch, add_head};
 use case_lines::Text;
-use gd_disk::{Disk, MemDisk};
-use group_terms::{BatchValues, Change};
+use gd_disk::Disk;
 use std::alloc::Global;
 use tree_journal::JournalRefusal;
-use tree_store::{FormatRefusal, Head, Stored, TreeStore};
+use tree_store::{FormatRefusal, Stored, TreeStore};
 
-/// What an image says of a group, up to the place where it is no group's journal.
-pub fn group(alloc: Global, image: &str, text: &mut Text) -> Option<()> {
-    match show_group(alloc, disk(alloc, image)?, text) {
-        Ok(()) => text.add("end\n"),
-        Err(why) => {
-            add_refusal("not-a-journal ", why, text)?;
-            text.add("\n");
-        }
-    }
-    Some(())
+/// The depth of a group, how many batches were read, and where it is after the last one.
+#[derive(Clone, Copy)]
+struct Seen {
+    depth: u8,
+    batches: u64,
+    epoch: u32,
+    sequence: u32,
 }
 
-fn show_group(alloc: Global, disk: MemDisk, text: &mut Text) -> Result<(), JournalRefusal> {
+/// Reads all batches of a group: ` read DEPTH BATCHES EPOCH NUMBER`; before that, where they are shown, the head and each batch.
+pub fn read_group<D: Disk + Drop>(
+    alloc: Global,
+    disk: D,
+    shows: bool,
+    text: &mut Text,
+) -> Result<(), JournalRefusal> {
     match TreeStore::open(alloc, disk) {
         Ok(mut store) => {
-            add_head(&store.head(), text);
-            let shown = add_batches(alloc, &mut store, text);
+            if shows {
+                text.add(" ");
+                add_head(alloc, &store.head(), text);
+            }
+            let read = read_batches(alloc, &mut store, shows, text);
             drop(store);
-            shown
+            read
         }
         Err(FormatRefusal { why, disk }) => {
             drop(disk);
@@ -36,61 +40,42 @@ fn show_group(alloc: Global, disk: MemDisk, text: &mut Text) -> Result<(), Journ
     }
 }
 
-/// `depth DEPTH limit LIMIT name NAME spi SPI = `
-pub fn add_head(head: &Head, text: &mut Text) {
-    text.add("depth ");
-    text.add_number(u64::from(head.depth));
-    text.add(" limit ");
-    text.add_number(u64::from(head.limit));
-    text.add(" name ");
-    text.add_letters(head.name.text());
-    text.add(" spi ");
-    text.add_hex(&head.spi);
-    text.add(" = ");
+fn add_seen(seen: &Seen, text: &mut Text) {
+    text.add(" read");
+    text.add_numbers(&[
+        u64::from(seen.depth),
+        seen.batches,
+        u64::from(seen.epoch),
+        u64::from(seen.sequence),
+    ]);
 }
 
-fn add_batches<D: Disk>(
+fn read_batches<D: Disk>(
     alloc: Global,
     store: &mut TreeStore<D>,
+    shows: bool,
     text: &mut Text,
 ) -> Result<(), JournalRefusal> {
+    let mut seen = Seen {
+        depth: store.head().depth,
+        batches: 0,
+        epoch: 0,
+        sequence: 0,
+    };
     while let Some(stored) = store.next_batch(alloc)? {
-        add_batch(&stored, text);
+        see(alloc, &stored, shows, &mut seen, text);
         drop(stored);
     }
+    add_seen(&seen, text);
     Ok(())
 }
 
-/// `epoch EPOCH sequence NUMBER in NAME out NAME .. values VALUES = `
-pub fn add_batch(stored: &Stored, text: &mut Text) {
-    text.add("epoch ");
-    text.add_number(u64::from(stored.epoch));
-    text.add(" sequence ");
-    text.add_number(u64::from(stored.sequence));
-    for change in stored.batch.changes() {
-        add_change(change, text);
+fn see(alloc: Global, stored: &Stored, shows: bool, seen: &mut Seen, text: &mut Text) {
+    seen.batches = seen.batches.saturating_add(1);
+    seen.epoch = stored.epoch;
+    seen.sequence = stored.sequence;
+    if shows {
+        text.add(" ");
+        add_batch(alloc, stored, text);
     }
-    text.add(" values ");
-    add_values(&stored.values, text);
-    text.add(" = ");
-}
-
-fn add_change(change: &Change, text: &mut Text) {
-    match change {
-        Change::In { .. } => text.add(" in "),
-        Change::Out { .. } => text.add(" out "),
-    }
-    text.add_letters(change.member().text());
-}
-
-/// Each position with its IV and key, and then the keys of the traffic with their SPI.
-fn add_values(values: &BatchValues, text: &mut Text) {
-    for node in values.nodes.as_slice() {
-        text.add_hex(&node.id.number().to_be_bytes());
-        text.add_hex(&node.value.iv);
-        text.add_hex(&node.value.key);
-    }
-    text.add_hex(&values.traffic.cipher_key);
-    text.add_hex(&values.traffic.integrity_key);
-    text.add_hex(&values.traffic.spi);
 }

@@ -14,7 +14,7 @@ use std::thread::Threads;
 pub fn look_together<R: Threads + Wait + Sync>(
     rt: &R,
     alloc: Global,
-    threads: usize,
+    threads: u32,
     looks: u32,
 ) -> Result<bool, NoMemory> {
     let BoardMade {
@@ -44,7 +44,7 @@ fn look_with<R: Threads + Wait + Sync>(
     alloc: Global,
     ledger: &mut Ledger,
     first: &mut Watch,
-    threads: usize,
+    threads: u32,
     looks: u32,
 ) -> Result<bool, NoMemory> {
     let mut watches = Vec::new(alloc);
@@ -59,7 +59,7 @@ fn look_with<R: Threads + Wait + Sync>(
 /// Adds so many others over the board of the first one.
 fn add_watches<'a>(
     first: &mut Watch<'a>,
-    threads: usize,
+    threads: u32,
     watches: &mut Vec<Watch<'a>>,
 ) -> Result<(), NoMemory> {
     for _ in 0..threads {

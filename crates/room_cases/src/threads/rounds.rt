@@ -43,7 +43,11 @@ fn work_all<R: Threads + Wait + Sync>(
 }
 
 /// The sum of all turns of a new desk, which so many threads make.
-fn round<R: Threads + Wait + Sync>(rt: &R, alloc: Global, threads: usize) -> Result<u64, NoMemory>
+pub fn sum_of_turns<R: Threads + Wait + Sync>(
+    rt: &R,
+    alloc: Global,
+    threads: usize,
+) -> Result<u64, NoMemory>
     requires { 0 < threads }
 {
     let Ok(DeskMade { desk, passes }) = Desk::new(alloc, Sum::new(alloc), PASSES, TURNS) else {
@@ -63,20 +67,4 @@ fn sum_of(closed: &Result<Closed<Sum>, DeskOpen<Sum>>) -> Result<u64, NoMemory> 
         Ok(closed) => Ok(closed.kept.value()),
         Err(_) => Err(NoMemory),
     }
-}
-
-/// The sum of all turns of so many rounds, one after the other.
-pub fn sum_of_rounds<R: Threads + Wait + Sync>(
-    rt: &R,
-    alloc: Global,
-    threads: usize,
-    rounds: u32,
-) -> Result<u64, NoMemory>
-    requires { 0 < threads }
-{
-    let mut sum = 0u64;
-    for _ in 0..rounds {
-        sum = sum.wrapping_add(round(rt, alloc, threads)?);
-    }
-    Ok(sum)
 }

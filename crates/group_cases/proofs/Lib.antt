@@ -1,2 +1,0 @@
-mod FormLemmas
-mod Paths
