@@ -167,7 +167,7 @@ module _ {D G V : Type 0} (on : Devices D G V) (by : Keying G) where
     -- From any opening on, as long as each later one found the group that there was: what was sent since leads nobody but members to a traffic key, and
     -- leads there each who was sent a reply since and stayed.
     pub serves : ServesAlong on by (start_of command old place members_place) entries after
-    -- A datagram of a member is answered by a message to it, if by any. One that its session took last is answered by what that keeps, word for word. Any
+    -- A datagram of a member is answered by a message to it, if by any. One that its session took last is answered by what that keeps, octet for octet. Any
     -- other is answered by a message of the present epoch: a second one with the present policies, or a fourth one with the keys that the member has now.
     pub pulls : (front : List Entry) (mid : Run D) (m : Name) (datagram octets : List ℕ) (names : Option SymReply) (outside : Outside) (next : Run D)
         → IsMoment on by (start_of command old place members_place) entries after front mid

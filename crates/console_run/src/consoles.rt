@@ -40,11 +40,11 @@ const MOST_PHASES: u32 = 1024;
 ///
 /// The words make a group, `--new DEPTH`, or open the one of the disk, `--open`; `--limit NUMBER` says how far epochs and sequence numbers of a group that is
 /// made may go; `--seed NUMBER` is for who makes the draws (`seed_of`); `--workers NUMBER` is for blocks of lines, which no script has yet, so that it
-/// changes nothing. Words of another form touch neither the source nor the disk, and draw nothing. The script has lines of at most 200 octets, at most 16,384
-/// of them; the lines before one of another form are run. A line past a limit ends the run at the first octet past it, and one of another form at its end; of
-/// what comes from there on at most 4,096 octets are taken. Where the source fails, the lines that came whole are run. Where the group is not opened, nothing
-/// of the script is taken. A request that runs out of memory ends the run; where something may have been done by then, it is in the history as refused for
-/// that, and else it has no entry.
+/// changes nothing. Words of another form touch neither the source, the disk nor the members' draws. The script has lines of at most 200 octets, at most
+/// 16,384 of them; the lines before one of another form are run. A line past a limit ends the run at the first octet past it, and one of another form at its
+/// end; of what comes from there on at most 4,096 octets are taken. Where the source fails, the lines that came whole are run. Where the group is not opened,
+/// nothing of the script is taken. A request that runs out of memory ends the run; where something may have been done by then, it is in the history as
+/// refused for that, and else it has no entry.
 ///
 /// What is written is the report of the history and the last line of the ending that was due. Where the sink fails or memory runs out,
 /// it is a part of that from its start: all that the opening and the lines before the one begun last gave is reported.

@@ -1,3 +1,4 @@
+pub mod MomentFacts
 pub mod PairLemmas
 pub mod SeatLemmas
 pub mod StepLemmas

@@ -47,7 +47,7 @@ use Rattle.server_steps.specs.Outsides.{Says, beside_refusal, failing}
 use Rattle.server_steps.specs.Pulls.{AnswersFirst, AnswersLook, AnswersThird, IsAnswering, Queues, Replies, reply_now}
 use Rattle.server_steps.specs.Refusals.{names_group, refusal_to_first, refusal_to_third, unless_denied, why_pending}
 use Rattle.server_steps.specs.Steps.{IsServed, IsServerStep}
-use Rattle.group_server.specs.Complete.{BatchIsMade, ComesFrom, FirstIsAnswered, HasRoom, IsFaultless, IsNewIn, IsWelcome, LeaveIsGranted, MayBatch, MayLeave, OrNoMemory, ReopeningIsMade, ThirdIsAnswered}
+use Rattle.group_server.specs.Complete.{BatchIsMade, ComesFrom, FirstIsAnswered, HasRoom, IsFaultless, IsNewIn, IsWelcome, LeaveIsGranted, IsDueBatch, IsDueLeave, OrNoMemory, ReopeningIsMade, ThirdIsAnswered}
 
 -- ---- what is found
 
@@ -206,7 +206,7 @@ module _ {D G : Type 0} (d : DiskGhosts D) (g : SignerGhosts G) (signer : G) (bl
                 ],
           )
 
-  may_leave : (host : Host D) (m : Name) → MayLeave host m → refusal_to_leave host.server m ≡ None
+  may_leave : (host : Host D) (m : Name) → IsDueLeave host m → refusal_to_leave host.server m ≡ None
   may_leave host m may =
       let full = Some (BatchFull (length host.server.queue)) in
       let fits = if nat_lt (length host.server.queue) 32 then None else full in
@@ -231,7 +231,7 @@ module _ {D G : Type 0} (d : DiskGhosts D) (g : SignerGhosts G) (signer : G) (bl
       no_rise host.disk next.disk still
       (subst (λ failed. Counts d failed host.disk next.disk) (ap (λ (outside : Outside). outside.disk_failed) is ∙ failed) step.counts)
 
-  may_batch : (host : Host D) → MayBatch host → refusal_to_batch host.server ≡ None
+  may_batch : (host : Host D) → IsDueBatch host → refusal_to_batch host.server ≡ None
   may_batch host may =
       let epoch = present_epoch host.server in
       let coming = coming_sequence host.server in

@@ -88,14 +88,14 @@ pub record HasRoom {D : Type 0} (host : Host D) : Type 0 where
   pub change : length host.server.queue < 32
 
 -- The group does not have to be opened again, this is a member, no change of it waits, and the next batch has room for one more change.
-pub record MayLeave {D : Type 0} (host : Host D) (m : Name) : Type 0 where
+pub record IsDueLeave {D : Type 0} (host : Host D) (m : Name) : Type 0 where
   pub open_now : host.server.need ≡ false
   pub member : is_member (members_now host.server) m ≡ true
   pub idle : is_pending host.server.queue m ≡ false
   pub change : length host.server.queue < 32
 
--- The group does not have to be opened again, and neither the next epoch nor the number of the last push passes the limit then.
-pub record MayBatch {D : Type 0} (host : Host D) : Type 0 where
+-- The group does not have to be opened again, and after the next batch neither the epoch nor the number of the last push passes the limit.
+pub record IsDueBatch {D : Type 0} (host : Host D) : Type 0 where
   pub open_now : host.server.need ≡ false
   pub epoch : present_epoch host.server < host.server.limit
   pub number : coming_sequence host.server ≤ host.server.limit
@@ -120,7 +120,7 @@ module _ {D G : Type 0} (d : DiskGhosts D) (g : SignerGhosts G) (signer : G) (bl
   -- The leave of a member of whom no change waits is granted, where the batch has room for it.
   abbrev pub LeaveIsGranted : Type 0
   LeaveIsGranted =
-      (host : Host D) (m : Name) (entry : Entry) (next : Host D) → MayLeave host m
+      (host : Host D) (m : Name) (entry : Entry) (next : Host D) → IsDueLeave host m
       → entry.asked ≡ Leave m → IsServerStep d g signer block host entry next → entry.answer ≡ Done
 
   -- the disk counted no fault, and its count is not at its last value
@@ -131,7 +131,7 @@ module _ {D G : Type 0} (d : DiskGhosts D) (g : SignerGhosts G) (signer : G) (bl
   -- A batch within the group's limit is made, unless the disk counts a fault.
   abbrev pub BatchIsMade : Type 0
   BatchIsMade =
-      (host : Host D) (entry : Entry) (next : Host D) → MayBatch host → IsFaultless host.disk next.disk
+      (host : Host D) (entry : Entry) (next : Host D) → IsDueBatch host → IsFaultless host.disk next.disk
       → entry.asked ≡ Batch → IsServerStep d g signer block host entry next
       → OrNoMemory entry.answer ((output : Output) × (entry.answer ≡ Batched output))
 

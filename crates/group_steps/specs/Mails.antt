@@ -61,7 +61,7 @@ MembersAreAnswered {D} on by =
     → IsRunStep on by before run (record { asked = Serve m datagram; outside = outside; answer = Datagram octets names }) next
     → AnswersMember (on.signers.kind_of by.signer) run.host next.host next.members.all m datagram octets names
 
--- And each reply of a batch is a fourth message to its member, with its keys since that batch.
+-- And each reply of a batch is a fourth message to its member, with the keys of the epoch that the batch made.
 abbrev pub RepliesAreMessages : {D G V : Type 0} → Devices D G V → Keying G → Type 0
 RepliesAreMessages {D} on by =
     (outset : Outset D) (before : List Entry) (run : Run D) (output : Output) (outside : Outside) (next : Run D)

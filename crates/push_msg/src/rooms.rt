@@ -26,7 +26,7 @@ impl Model for Room {
 }
 
 impl Room {
-    /// Room for the largest datagram, with no push in it.
+    /// Room for 64 datagrams of the largest size and their texts, 8.4 MB, with no push in it.
     pub fn new(alloc: Global) -> Result<Self, NoMemory>
         ensures { IfOk result (λ room. room ≡ []) }
     {

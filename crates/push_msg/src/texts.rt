@@ -1,4 +1,5 @@
-//! The texts that were opened last. Each is kept with what it was opened from, so that all stores under one root open it once.
+//! The texts that were opened last. Each is kept with what it was opened from, so that all stores under one root open it once. With it stays the root key,
+//! until another text takes its place or the room is dropped.
 ghost use Rattle.std.specs.Prelude.{◌≡◌, ◌%◌, ◌<◌, ◌≤◌, [], length, slice_index_or, IfSome, true};
 ghost use Rattle.gd_cipher.specs.Chains.{IsOpened};
 
@@ -70,11 +71,12 @@ impl OpenText {
     }
 }
 
-/// The texts that were opened last. Contracts see the one that was asked for last.
+/// The texts that were opened last, and the place of the next one. Contracts see the one that was asked for last.
 #[derive(Drop)]
 pub(crate) struct OpenTexts {
     texts: Vec<OpenText>,
     last: usize,
+    next: usize,
 }
 
 impl Model for OpenTexts {
@@ -84,7 +86,7 @@ impl Model for OpenTexts {
 
     ghost view = { λ kept. slice_index_or kept.texts.items kept.last [] };
 
-    ghost invariant = { λ kept. kept.last < length kept.texts.items };
+    ghost invariant = { λ kept. (kept.last < length kept.texts.items) × (kept.next < length kept.texts.items) };
 }
 
 impl OpenTexts {
@@ -94,7 +96,11 @@ impl OpenTexts {
         for _ in 1..KEPT {
             texts.push(OpenText::new(alloc)?)?;
         }
-        Ok(OpenTexts { texts, last: 0 })
+        Ok(OpenTexts {
+            texts,
+            last: 0,
+            next: 0,
+        })
     }
 
     pub(crate) fn text(&self) -> &[u8]
@@ -103,7 +109,7 @@ impl OpenTexts {
         self.texts[self.last].octets()
     }
 
-    /// Opens octets under a key, in place of the text after the last one, unless one of them was opened from these.
+    /// Opens octets under a key, in place of the text that was opened first, unless one of them was opened from these.
     pub(crate) fn open_text(&mut self, sealed: &[u8], kek: &NodeValue)
         requires whole { length sealed.now % 16 ≡ 0 }
         requires few { length sealed.now ≤ 65507 }
@@ -120,9 +126,10 @@ impl OpenTexts {
         requires few { length sealed.now ≤ 65507 }
         ensures { IsOpened kek.now.key kek.now.iv sealed.now self.new }
     {
-        let next = (self.last + 1) % self.texts.len();
-        open_at(self.texts.as_mut_slice(), next, sealed, kek);
-        self.last = next;
+        let place = self.next;
+        open_at(self.texts.as_mut_slice(), place, sealed, kek);
+        self.last = place;
+        self.next = (place + 1) % self.texts.len();
     }
 }
 

@@ -119,12 +119,12 @@ module _ {D : Type 0} (kind : SignKind) (first : ℕ) (host : Host D) where
 
 -- by the batches that a server has now
 module _ {D : Type 0} (kind : SignKind) (host : Host D) where
-  -- a message of the present epoch: a second one has the present policies, a fourth one the keys of that epoch
+  -- that a message of the group is of the present epoch: a second one has the present policies, a fourth one tells by its names the keys of that epoch
   abbrev pub IsMessageNow : Phase1 → List ℕ → Option SymReply → Type 0
   IsMessageNow phase octets None = (nr : List ℕ) × IsSomeSecond phase nr (present_policy host.head.spi kind host.server.list) octets
   IsMessageNow phase octets (Some says) = says.keyed_epoch ≡ length host.server.list
 
-  -- By the session that there was: the datagram that it took last is answered by what it keeps, word for word, and any other by a message of the present epoch.
+  -- By the session that there was: the datagram that it took last is answered by what it keeps, octet for octet, any other by a message of the present epoch.
   abbrev pub IsAnswerNow : Option Session → Phase1 → List ℕ → List ℕ → Option SymReply → Type 0
   IsAnswerNow None phase datagram octets names = IsMessageNow phase octets names
   IsAnswerNow (Some session) phase datagram octets names =

@@ -47,13 +47,13 @@ module _ {D : Type 0} where
     pub pulls : peer.pull ≡ Some pull
     pub in_step : IsInStep run.host.head.spi sa session pull
 
-  -- By whether its next datagram goes missing: then its store stays; else it has the keys that this message says, unless they are older than what its store has.
+  -- By whether its next datagram goes missing: then its store stays; else it has the keys that this message says, unless they are older than its store's.
   abbrev pub TakesOwn : Run D → Peer → SymReply → Name → Answer → Run D → Type 0
   TakesOwn run peer says m answer next =
       MatchBool peer.loses ((answer ≡ Lost) × KeepsItsStore run m next) (IsKeptAt run says m answer next)
 
 module _ {D G V : Type 0} (on : Devices D G V) (by : Keying G) where
-  -- Members that acted after a history do not ignore it, and m keeps it where that is asked next, if it has no store yet or one of the group.
+  -- Members that acted after a history do not ignore it; and where m is asked next to keep it, that becomes of it, if m has no store yet or one of the group.
   pub record TakesOwnFourth (before : List Entry) (run : Run D) (acted : Members) (m : Name) (says : SymReply) (gets : GetsOwnFourth run acted m says)
       : Type 0 where
     pub not_ignored : (other : Members) → IsIgnoring acted other → ⊥

@@ -60,8 +60,9 @@ pub fn a_reply_is_kept_in_a_history<D: Disk, G: Signer, V: Verifier>()
     a_later_reply_is_not_older();
 }
 
-/// After a history a member does not ignore the fourth message that its session keeps, where its pull is in step with that session, but keeps its
-/// keys, if it has no store yet or one of the group, unless that is at the root of a later epoch; or the datagram goes missing.
+/// After a history a member does not ignore the fourth message that its session keeps, where its pull is in step with that session, but keeps the keys
+/// that it tells, if the member has no store yet or one of the group, unless they are older than those of the store, whose root is of a later epoch then;
+/// or the datagram goes missing.
 pub fn an_own_fourth_message_is_taken_in_a_history<D: Disk, G: Signer, V: Verifier>()
     ensures { (verifier : V) (by : Keying G) → OwnFourthsAreTaken (devices D.Disk G.Signer V.Verifier verifier) by }
 {
