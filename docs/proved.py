@@ -214,7 +214,7 @@ def section(crate, known):
     if edits:
         lines += [f"Refused by the gate: {'; '.join(edits)}.", ""]
     if others:
-        lines += [f"Refused when last tried by `bench/edits.py`: {'; '.join(others)}.", ""]
+        lines += [f"To be refused, in `edits/`: {'; '.join(others)}.", ""]
     return lines
 
 
