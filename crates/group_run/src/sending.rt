@@ -29,21 +29,7 @@ fn sent_by(answer: &Answer) -> Option<&PushPair>
     match answer {
         Answer::Batched { output } => output.pushes.as_ref(),
         Answer::Opened { resent, .. } => resent.as_ref(),
-        Answer::Done
-        | Answer::RuleNumber { .. }
-        | Answer::Datagram { .. }
-        | Answer::Queued
-        | Answer::Shown { .. }
-        | Answer::Kept { .. }
-        | Answer::Lost
-        | Answer::Older { .. }
-        | Answer::TookRoot { .. }
-        | Answer::TookTraffic { .. }
-        | Answer::PushRefused { .. }
-        | Answer::KeyIs { .. }
-        | Answer::Nothing
-        | Answer::Derived { .. }
-        | Answer::Refused { .. } => None,
+        _ => None,
     }
 }
 

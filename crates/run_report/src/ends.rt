@@ -104,25 +104,12 @@ fn due_after(entry: &Entry) -> Ending
 pub fn ran_out(entry: &Entry) -> bool
     ensures { result ≡ ran_out entry.now.answer }
 {
-    match &entry.answer {
-        Answer::Refused { why } => matches!(why, Refusal::NoMemory),
-        Answer::Done
-        | Answer::RuleNumber { .. }
-        | Answer::Datagram { .. }
-        | Answer::Queued
-        | Answer::Batched { .. }
-        | Answer::Opened { .. }
-        | Answer::Shown { .. }
-        | Answer::Kept { .. }
-        | Answer::Lost
-        | Answer::Older { .. }
-        | Answer::TookRoot { .. }
-        | Answer::TookTraffic { .. }
-        | Answer::PushRefused { .. }
-        | Answer::KeyIs { .. }
-        | Answer::Nothing
-        | Answer::Derived { .. } => false,
-    }
+    matches!(
+        entry.answer,
+        Answer::Refused {
+            why: Refusal::NoMemory
+        }
+    )
 }
 
 /// Ends a run of words that ask for no group: the report is the last line.

@@ -1,6 +1,6 @@
 //! Entries of a history.
 ghost use Rattle.std.specs.Prelude.{◌≡◌};
-ghost use Rattle.group_model.specs.Answers.{disk_failed_by, found_by, is_disk_fault};
+ghost use Rattle.group_model.specs.Answers.{disk_failed_by, found_by};
 ghost use Rattle.server_steps.specs.Entries.{noted};
 ghost use Rattle.server_steps.specs.Serves.{answer_done};
 
@@ -36,31 +36,12 @@ pub fn answer_done(done: Result<(), Refusal>) -> Answer
 fn disk_failed_by(answer: &Answer) -> bool
     ensures { result ≡ disk_failed_by answer.now }
 {
-    match answer {
-        Answer::Refused { why } => is_disk_fault(*why),
-        Answer::Done
-        | Answer::RuleNumber { .. }
-        | Answer::Datagram { .. }
-        | Answer::Queued
-        | Answer::Batched { .. }
-        | Answer::Opened { .. }
-        | Answer::Shown { .. }
-        | Answer::Kept { .. }
-        | Answer::Lost
-        | Answer::Older { .. }
-        | Answer::TookRoot { .. }
-        | Answer::TookTraffic { .. }
-        | Answer::PushRefused { .. }
-        | Answer::KeyIs { .. }
-        | Answer::Nothing
-        | Answer::Derived { .. } => false,
-    }
-}
-
-fn is_disk_fault(why: Refusal) -> bool
-    ensures { result ≡ is_disk_fault why }
-{
-    matches!(why, Refusal::DiskFault)
+    matches!(
+        answer,
+        Answer::Refused {
+            why: Refusal::DiskFault
+        }
+    )
 }
 
 /// The epoch at which an opening found the group.
@@ -69,21 +50,6 @@ fn found_by(answer: &Answer) -> Option<u32>
 {
     match answer {
         Answer::Opened { group, .. } => Some(group.epoch),
-        Answer::Done
-        | Answer::RuleNumber { .. }
-        | Answer::Datagram { .. }
-        | Answer::Queued
-        | Answer::Batched { .. }
-        | Answer::Shown { .. }
-        | Answer::Kept { .. }
-        | Answer::Lost
-        | Answer::Older { .. }
-        | Answer::TookRoot { .. }
-        | Answer::TookTraffic { .. }
-        | Answer::PushRefused { .. }
-        | Answer::KeyIs { .. }
-        | Answer::Nothing
-        | Answer::Derived { .. }
-        | Answer::Refused { .. } => None,
+        _ => None,
     }
 }
