@@ -5,9 +5,10 @@ ghost use Rattle.gd_wire.specs.Attributes.{other_attribute, no_more_attributes};
 ghost use Rattle.gd_wire.specs.Readings.{Gives, value_of, from_place};
 ghost use Rattle.gd_wire.specs.Attributes.{short_text, long_text};
 
+use crate::faults::fault;
+use crate::readers::Reader;
 use byteorder::{BigEndian, ByteOrder};
 use group_terms::{NoMemory, Octets, WireFault, WireWhat};
-use wire_reader::{Reader, fault};
 
 /// The bit of the short form.
 const SHORT_FORM: u16 = 0x8000;

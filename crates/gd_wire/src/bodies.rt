@@ -7,9 +7,10 @@ ghost use Rattle.gd_wire.specs.Bodies.{sequence_text, identification, identifica
 
 use crate::attributes::append;
 use crate::chains::Part;
+use crate::faults::fault;
+use crate::readers::Reader;
 use byteorder::{BigEndian, ByteOrder};
 use group_terms::{NoMemory, Octets, WireFault, WireWhat};
-use wire_reader::{Reader, fault};
 
 /// The octets of a hash.
 pub const HASH_OCTETS: usize = 32;

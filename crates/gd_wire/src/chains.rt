@@ -5,11 +5,12 @@ ghost use Rattle.gd_wire.specs.Chains.{due_named, named_first, payload, chain_en
 ghost use Rattle.gd_wire.specs.Chains.{PartFits, GoesThrough, body_of};
 
 use crate::attributes::append;
+use crate::faults::fault;
+use crate::readers::Reader;
 use arrayvec::ArrayVec;
 use byteorder::{BigEndian, ByteOrder};
 use group_terms::{NoMemory, Octets, WireFault, WireWhat};
 use std::marker::Model;
-use wire_reader::{Reader, fault};
 
 /// How many payloads a chain has at the most.
 pub const MOST_PAYLOADS: usize = 8;

@@ -4,10 +4,11 @@ ghost use Rattle.gd_wire.specs.Readings.{Gives, value_of, from_start};
 ghost use Rattle.gd_wire.specs.Headers.{header_text, header, header_fields, message_id, told_length};
 ghost use Rattle.gd_wire.specs.Headers.{suits_exchange, is_due_length, HasPayloads};
 
+use crate::faults::fault;
+use crate::readers::Reader;
 use arrayvec::ArrayVec;
 use byteorder::{BigEndian, ByteOrder};
 use group_terms::{WireFault, WireWhat};
-use wire_reader::{Reader, fault};
 
 /// The size of a header.
 const HEADER: usize = 28;

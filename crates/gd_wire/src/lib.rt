@@ -9,6 +9,7 @@ pub use bodies::{HASH_OCTETS, Identification, write_identification, write_sequen
 pub use chains::{
     Chain, ChainFault, MOST_PAYLOADS, Named, Part, chain_end, payload, read_chain, write_payload,
 };
+pub use faults::fault;
 pub use group_terms::{WireFault, WireWhat};
 pub use headers::{Header, read_header, write_header};
 pub use laws::{
@@ -18,15 +19,17 @@ pub use laws::{
     what_is_read_can_be_written, written_payloads_are_read,
 };
 pub use payloads::{write_padding, write_payload_head};
+pub use readers::Reader;
 pub use rooms::Room;
 pub use text_laws::{a_payload_is_its_head_and_its_body, written_framing_is_octets};
-pub use wire_reader::{Reader, fault};
 
 mod attributes;
 mod bodies;
 mod chains;
+mod faults;
 mod headers;
 mod laws;
 mod payloads;
+mod readers;
 mod rooms;
 mod text_laws;

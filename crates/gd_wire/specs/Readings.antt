@@ -7,7 +7,7 @@ use Rattle.byteorder.specs.Endian.{big_from}
 use Rattle.group_terms.specs.declared.wires.WireFault.{WireFault}
 use Rattle.group_terms.specs.declared.wires.WireWhat.{WireWhat}
 use Rattle.group_terms.specs.declared.wires.WireWhat.TheVariants.{Short, Length, Reserved, Padding, Kind}
-use Rattle.wire_reader.specs.Faults.{fault_at}
+use Rattle.gd_wire.specs.Faults.{fault_at}
 
 -- What is left of a text: its place in the text, whose first octet has the place `base` in the datagram, and the octets from there on.
 pub record Cursor : Type 0 where

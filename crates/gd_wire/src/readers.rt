@@ -1,8 +1,8 @@
 //! A cursor over the octets of a text: its fields are read one after the other.
 ghost use Rattle.std.specs.Prelude.{◌≡◌, ◌+◌, ◌≤◌, ◌<◌, ◌==◌, ◌↔◌, [], length, not, IsTrue, IfOk, IfSome, Ok};
 ghost use Rattle.std.specs.List.{position};
-ghost use Rattle.wire_reader.specs.Readings.{Gives, Shows, value_of, from_start, from_place, octets_left, part, octets, rest, octet, number, long_number};
-ghost use Rattle.wire_reader.specs.Readings.{due_octet, due_number, due_long_number, due_kind, due_long_kind, end, padding_end, section};
+ghost use Rattle.gd_wire.specs.Readings.{Gives, Shows, value_of, from_start, from_place, octets_left, part, octets, rest, octet, number, long_number};
+ghost use Rattle.gd_wire.specs.Readings.{due_octet, due_number, due_long_number, due_kind, due_long_kind, end, padding_end, section};
 
 use crate::faults::fault;
 use byteorder::{BigEndian, ByteOrder};
@@ -25,7 +25,7 @@ pub struct Reader<'a> {
 
 impl<'a> Model for Reader<'a> {
     ghost use Rattle.std.specs.Prelude.{◌+◌, ◌≤◌, length};
-    ghost use Rattle.wire_reader.specs.Readings.{Cursor};
+    ghost use Rattle.gd_wire.specs.Readings.{Cursor};
 
     ghost Value = { Cursor };
 

@@ -1,5 +1,6 @@
+//! Faults of a datagram, each with its place.
 ghost use Rattle.std.specs.Prelude.{◌≡◌};
-ghost use Rattle.wire_reader.specs.Faults.{fault_at};
+ghost use Rattle.gd_wire.specs.Faults.{fault_at};
 
 use group_terms::{WireFault, WireWhat};
 
