@@ -2,19 +2,20 @@
 -- `nested` (ReadingLemmas) moves a block within a block out, so what is known of a whole header is one `let` for each line of its block. `octets_written`,
 -- `number_written`: `rw` with one for each line of a block, and one for each test, ends in `refl`.
 use Rattle.std.proofs.Common.{◌≡◌, ℕ, ◌+◌, ◌<◌, ◌≤◌, true, List, [], ◌∷◌, ◌++◌, length, take, drop, leb, slice_index_or, Ok, refl, sym, ap}
-use Rattle.std.proofs.Common.{◌∙◌, subst, length-append, arith}
+use Rattle.std.proofs.Common.{◌∙◌, subst, map, length-append, arith}
 use Rattle.std.specs.Prelude.{◌==◌}
-use Rattle.std.specs.List.{list_any}
+use Rattle.std.specs.List.{list_any, range_with_len}
 use Rattle.std.proofs.lemmas.Bool.{leb-true, le-leb, eqb-true}
 use Rattle.std.proofs.lemmas.Bool.Decides.{nat_tests}
 use Rattle.std.proofs.lemmas.List.{take_at, drop_at}
+use Rattle.std.proofs.lemmas.List.FromFn.{fill_by_all}
 use Rattle.std.proofs.lemmas.List.Elements.{All-head, All-take, All-drop}
 use Rattle.byteorder.specs.Endian.{big_from, big_bytes}
 use Rattle.byteorder.specs.Numbers.{big_number-reads_back}
 use Rattle.group_terms.specs.Octets.{IsOctet, AreOctets}
 use Rattle.group_terms.specs.declared.wires.WireWhat.{WireWhat}
 use Rattle.group_terms.specs.declared.wires.WireWhat.TheVariants.{Short}
-use Rattle.gd_wire.specs.Readings.{Cursor, Reading, and_then, after, part, octets, octet, number, long_number, due_octet}
+use Rattle.gd_wire.specs.Readings.{Cursor, Reading, and_then, after, part, octets, octet_at, octet, number, long_number, due_octet}
 use Rattle.gd_wire.specs.Readings.{due_kind}
 use Rattle.gd_wire.proofs.NumberLemmas.{big_bytes-big_from}
 use Rattle.gd_wire.proofs.ReadingLemmas.{nested, check_ok, checked_ok, there_ok, same_value}
@@ -132,3 +133,7 @@ pub long_number_written : (base at value : ℕ) (later : List ℕ) → value < 4
 unfolding long_number octets part
 long_number_written base at value later small =
     rw (le-leb 4 (length (big_bytes 4 value ++ later)) (omega arith), big_number-reads_back 4 value [] small) refl
+
+-- octets of a known length are their octets, one by one
+pub written_out : (size : ℕ) (octets : List ℕ) → length octets ≡ size → map (octet_at octets) (range_with_len 0 size) ≡ octets
+written_out size octets long = sym (fill_by_all (octet_at octets) octets size 0 long (λ k within. refl))

@@ -15,6 +15,12 @@ use Rattle.gd_wire.proofs.ReadingLemmas.{nested, check_ok, checked_ok, same_valu
 use Rattle.gd_wire.proofs.FieldLemmas.{octets_then, octet_then, long_number_then, due_octet_then, due_kind_then, first_small, octet_text}
 use Rattle.gd_wire.proofs.FieldLemmas.{long_number_text, octets_written, octet_written, long_number_written}
 
+-- a header has 28 octets
+pub header_long : (head : Header) → length head.cookies ≡ 16 → length head.message ≡ 4 → length (header_text head) ≡ 28
+header_long head cookies message =
+    let front : List ℕ = head.next ∷ 16 ∷ head.exchange ∷ 1 ∷ head.message in
+    length-append (head.cookies ++ front) (big_bytes 4 head.length) ∙ omega (arith, cookies, length-append head.cookies front, message)
+
 due : (told all : ℕ) → told ≡ all → 28 < all → (all - 28) % 16 ≡ 0 → is_due_length told all ≡ true
 due told all same some whole =
     let first = eq-eqb told all same in

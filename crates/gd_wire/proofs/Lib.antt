@@ -1,3 +1,4 @@
+pub mod AlwaysLemmas
 pub mod AttributeLaws
 pub mod ChainLaws
 pub mod ChainReadings
@@ -8,4 +9,5 @@ pub mod NumberLemmas
 pub mod OctetLemmas
 pub mod PartLemmas
 pub mod ReadingLemmas
+pub mod ReadsLemmas
 pub mod SizeLemmas

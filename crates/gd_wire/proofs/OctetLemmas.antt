@@ -1,8 +1,10 @@
 -- What is written is octets.
-use Rattle.std.proofs.Common.{ℕ, zero, suc, ◌+◌, List, [], ◌∷◌, ◌++◌, length, arith}
+use Rattle.std.proofs.Common.{◌≡◌, ℕ, zero, suc, ◌+◌, true, List, [], ◌∷◌, ◌++◌, length, replicate, refl, arith}
 use Rattle.std.specs.Int.{byte_at}
 use Rattle.std.proofs.Math.Nat.{mod-lt}
 use Rattle.std.proofs.lemmas.List.Elements.{All-nil, All-cons, All-append, All-head, All-tail}
+use Rattle.std.proofs.lemmas.Slice.Eq.{bytes_eq-Decides}
+use Rattle.std.specs.Str.{bytes_eq}
 use Rattle.byteorder.specs.Endian.{big_bytes}
 use Rattle.group_terms.specs.Octets.{IsOctet, AreOctets}
 use Rattle.gd_wire.specs.declared.headers.Header.{Header}
@@ -20,6 +22,14 @@ one_more octet octets = All-cons IsOctet octet octets
 
 pub both : (octets more : List ℕ) → AreOctets octets → AreOctets more → AreOctets (octets ++ more)
 both octets more = All-append IsOctet octets more
+
+pub zeros_are_octets : (count : ℕ) → AreOctets (replicate count 0)
+zeros_are_octets zero = none
+zeros_are_octets (suc count) = one_more 0 (replicate count 0) (omega arith) (zeros_are_octets count)
+
+-- octets are the same as themselves
+pub same_octets : (octets : List ℕ) → bytes_eq octets octets ≡ true
+same_octets octets = (bytes_eq-Decides octets octets).1 refl
 
 -- the octets of a number
 small_byte : (k number : ℕ) → IsOctet (byte_at k number)

@@ -2,14 +2,14 @@
 use Rattle.std.proofs.Common.{◌≡◌, ℕ, ◌+◌, ◌-◌, ◌<◌, ◌≤◌, List, [], ◌∷◌, ◌++◌, length, take, drop, leb, Ok, refl, sym, ap, ◌∙◌, subst, arith}
 use Rattle.std.specs.Prelude.{◌==◌}
 use Rattle.std.proofs.lemmas.Bool.{eqb-true, leb-true, le-leb}
-use Rattle.std.proofs.lemmas.List.{take-append-drop, length-take-le}
+use Rattle.std.proofs.lemmas.List.{take-append-drop, length-take, length-take-le}
 use Rattle.std.proofs.lemmas.List.Elements.{All-head}
 use Rattle.byteorder.specs.Endian.{big_from, big_bytes}
 use Rattle.group_terms.specs.Octets.{IsOctet, AreOctets}
 use Rattle.gd_wire.specs.declared.chains.Part.{Part}
 use Rattle.gd_wire.specs.declared.chains.Named.{Named}
-use Rattle.gd_wire.specs.Readings.{Cursor, number, octet, octets, part, due_octet}
-use Rattle.gd_wire.specs.Chains.{payload, payload_text}
+use Rattle.gd_wire.specs.Readings.{Cursor, from_start, number, octet, octets, part, due_octet}
+use Rattle.gd_wire.specs.Chains.{PartFits, GoesThrough, body_of, payload, payload_text}
 use Rattle.gd_wire.proofs.NumberLemmas.{big_from-small, big_bytes-big_from}
 use Rattle.gd_wire.proofs.ReadingLemmas.{check_ok, there_ok, same_value}
 
@@ -70,3 +70,18 @@ payload_read kind named base at (next ∷ reserved ∷ high ∷ low ∷ rest) re
           ∙ big_bytes-big_from 2 2 left octets (omega arith) in
           λ i. next ∷ none i ∷ (sym told i ++ sym (take-append-drop (size - 4) rest) i);
     })
+
+-- ---- payloads in the text of a datagram, after its header
+
+-- the start of a text
+pub at_start : (text : List ℕ) (base : ℕ) (cursor : Cursor) → cursor ≡ from_start base text → GoesThrough text base cursor
+at_start text base cursor is = subst (GoesThrough text base) (sym is) (record { base_is = refl; within = omega arith; left = refl })
+
+-- the place after a payload has 32 bits
+pub part_small : (text : List ℕ) (part : Part) → 28 + length text ≤ 65507 → PartFits text 28 part → part.at + 4 + part.length ≤ 4294967295
+part_small text part few fits = omega (arith, few, fits.within, fits.place)
+
+pub body_small : (text body : List ℕ) (part : Part) → 28 + length text ≤ 65507 → PartFits text 28 part → body ≡ body_of text part → part.at + 4 + length body ≤ 4294967295
+body_small text body part few fits is =
+    let long = length-take part.length (drop part.start text) in
+    omega (arith, few, fits.within, fits.place, ap length is, long)

@@ -7,6 +7,7 @@ use Rattle.std.specs.Prelude.{if◌then◌else◌, All}
 use Rattle.byteorder.specs.Endian.{big_from, big_bytes}
 use Rattle.group_terms.specs.declared.wires.WireWhat.TheVariants.{Short, Length, Version, Value}
 use Rattle.gd_wire.specs.declared.headers.Header.{Header}
+use Rattle.gd_wire.specs.Kinds.{pull_exchange, push_exchange}
 use Rattle.gd_wire.specs.Readings.{Reading, ◌>>=◌, ◌>>◌, give, here, check, octets_left, octets, octet, long_number, due_octet, due_kind}
 
 -- the text of a header
@@ -17,8 +18,8 @@ header_text header = header.cookies ++ header.next ∷ 16 ∷ header.exchange �
 -- other exchanges nothing is asked
 abbrev pub suits_exchange : ℕ → ℕ → Bool
 suits_exchange exchange message =
-    if exchange == 32 then not (message == 0)
-    else (if exchange == 33 then message == 0
+    if exchange == pull_exchange then not (message == 0)
+    else (if exchange == push_exchange then message == 0
     else true)
 
 -- the length in the header is that of the datagram, which has whole blocks of 16 octets after the header (RFC 2409 appendix B), at least

@@ -3,6 +3,7 @@ pub mod Bodies
 pub mod Chains
 pub mod Faults
 pub mod Headers
+pub mod Kinds
 pub mod Payloads
 pub mod Readings
 pub mod RoomViews

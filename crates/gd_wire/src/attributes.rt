@@ -146,10 +146,9 @@ pub fn write_short(kind: u16, number: u16, out: &mut Octets) -> Result<(), NoMem
     ensures ok { OnOk result (out.new ≡ out.old ++ short_text kind number) }
     ensures err { OnErr result (out.new ≡ out.old) }
 {
-    let mut text = [0; 4];
-    BigEndian::write_u16(&mut text, SHORT_FORM + kind);
-    BigEndian::write_u16(&mut text[2..], number);
-    out.extend(&text)
+    let [form, low] = (SHORT_FORM + kind).to_be_bytes();
+    let [first, second] = number.to_be_bytes();
+    out.extend(&[form, low, first, second])
 }
 
 /// Appends an attribute in the long form.
@@ -159,10 +158,9 @@ pub fn write_long(kind: u16, value: &[u8], out: &mut Octets) -> Result<(), NoMem
     ensures ok { OnOk result (out.new ≡ out.old ++ long_text kind value.now) }
     ensures err { OnErr result (out.new ≡ out.old) }
 {
-    let mut head = [0; 4];
-    BigEndian::write_u16(&mut head, kind);
-    BigEndian::write_u16(&mut head[2..], value.len() as u16);
-    append(&head, value, out)
+    let [high, low] = kind.to_be_bytes();
+    let [first, second] = (value.len() as u16).to_be_bytes();
+    append(&[high, low, first, second], value, out)
 }
 
 /// Appends two pieces, or neither.

@@ -8,12 +8,10 @@ ghost use Rattle.gd_wire.specs.Bodies.{sequence_text, identification, identifica
 use crate::attributes::append;
 use crate::chains::Part;
 use crate::faults::fault;
+use crate::kinds::{HASH_OCTETS, SEQUENCE_OCTETS};
+use crate::numbers::write_u32;
 use crate::readers::Reader;
-use byteorder::{BigEndian, ByteOrder};
 use group_terms::{NoMemory, Octets, WireFault, WireWhat};
-
-/// The octets of a hash.
-pub const HASH_OCTETS: usize = 32;
 
 /// Who or what a payload names (RFC 2408 section 3.8).
 #[derive(Clone, Copy, PartialEq, Eq)]
@@ -137,7 +135,7 @@ fn signature<'a>(reader: &mut Reader<'a>, at: u32) -> Result<&'a [u8], WireFault
 fn sequence(reader: &mut Reader, at: u32) -> Result<u32, WireFault>
     ensures { Gives result reader.new (sequence at reader.old) }
 {
-    due_size(reader, 4, at)?;
+    due_size(reader, SEQUENCE_OCTETS, at)?;
     reader.long_number()
 }
 
@@ -159,9 +157,7 @@ pub fn write_sequence(number: u32, out: &mut Octets) -> Result<(), NoMemory>
     ensures ok { OnOk result (out.new ≡ out.old ++ sequence_text number) }
     ensures err { OnErr result (out.new ≡ out.old) }
 {
-    let mut text = [0; 4];
-    BigEndian::write_u32(&mut text, number);
-    out.extend(&text)
+    write_u32(number, out)
 }
 
 /// Appends the body of an ID payload (RFC 2408 section 3.8), with protocol and port zero.

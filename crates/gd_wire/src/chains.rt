@@ -1,28 +1,23 @@
-//! Payloads one after the other.
-ghost use Rattle.std.specs.Prelude.{◌≡◌, ℕ, List, ◌+◌, ◌≤◌, ◌<◌, ◌++◌, [], ◌∷◌, length, OnOk, OnErr, IfOk, IfErr, All};
+//! Payloads one after the other, and the zeros after the last one.
+ghost use Rattle.std.specs.Prelude.{◌≡◌, ℕ, List, ◌+◌, ◌-◌, ◌%◌, ◌≤◌, ◌<◌, ◌++◌, [], ◌∷◌, length, replicate, OnOk, OnErr, IfOk, IfErr, All};
 ghost use Rattle.gd_wire.specs.Readings.{Cursor, Gives, value_of, from_start};
 ghost use Rattle.gd_wire.specs.Chains.{due_named, named_first, payload, chain_end, chain, payload_text};
 ghost use Rattle.gd_wire.specs.Chains.{PartFits, GoesThrough, body_of};
+ghost use Rattle.gd_wire.specs.Payloads.{payload_head};
 
 use crate::attributes::append;
 use crate::faults::fault;
+use crate::kinds::{BLOCK_OCTETS, HEADER_OCTETS, PAYLOAD_HEAD_OCTETS};
 use crate::readers::Reader;
 use arrayvec::ArrayVec;
-use byteorder::{BigEndian, ByteOrder};
 use group_terms::{NoMemory, Octets, WireFault, WireWhat};
 use std::marker::Model;
 
 /// How many payloads a chain has at the most.
 pub const MOST_PAYLOADS: usize = 8;
 
-/// The size of a payload's header.
-const HEADER: usize = 4;
-
 /// Where the header of a datagram names the kind of the first payload.
 const FIRST: u32 = 16;
-
-/// The zeros after a chain are fewer than a block of the cipher has.
-const BLOCK: usize = 16;
 
 /// Where a payload stands.
 #[derive(Clone, Copy, Default, PartialEq, Eq)]
@@ -173,18 +168,18 @@ fn next_payload(reader: &mut Reader, kind: u8, named: Named) -> Result<(Part, Na
 {
     named.due(kind)?;
     let at = reader.here();
-    if reader.left().len() < HEADER {
+    if reader.left().len() < PAYLOAD_HEAD_OCTETS {
         return Err(fault(WireWhat::Short, at));
     }
     let next = reader.octet()?;
     reader.due_octet(0, WireWhat::Reserved)?;
     let length_at = reader.here();
     let size = usize::from(reader.number()?);
-    if size < HEADER {
+    if size < PAYLOAD_HEAD_OCTETS {
         return Err(fault(WireWhat::Length, length_at));
     }
     let start = reader.place();
-    let length = size - HEADER;
+    let length = size - PAYLOAD_HEAD_OCTETS;
     reader.part(length, WireWhat::Length, length_at)?;
     let part = Part {
         kind,
@@ -202,7 +197,7 @@ pub fn chain_end(reader: &Reader, named: Named) -> Result<(), WireFault>
     ensures { result ≡ value_of (chain_end named reader.now) }
 {
     named.due(0)?;
-    if reader.left().len() >= BLOCK {
+    if reader.left().len() >= BLOCK_OCTETS {
         return Err(fault(WireWhat::Length, reader.here()));
     }
     reader.padding_end()
@@ -214,7 +209,36 @@ pub fn write_payload(next: u8, body: &[u8], out: &mut Octets) -> Result<(), NoMe
     ensures ok { OnOk result (out.new ≡ out.old ++ payload_text next body.now) }
     ensures err { OnErr result (out.new ≡ out.old) }
 {
-    let mut head = [next, 0, 0, 0];
-    BigEndian::write_u16(&mut head[2..], body.len() as u16 + 4);
-    append(&head, body, out)
+    append(&payload_head(next, body.len()), body, out)
+}
+
+/// Appends the header of a payload, whose body of so many octets is appended next: the kind of the payload after it or 0, and its length
+/// (RFC 2408 section 3.2).
+pub fn write_payload_head(next: u8, size: usize, out: &mut Octets) -> Result<(), NoMemory>
+    requires { size ≤ 65531 }
+    ensures ok { OnOk result (out.new ≡ out.old ++ payload_head next size) }
+    ensures err { OnErr result (out.new ≡ out.old) }
+{
+    out.extend(&payload_head(next, size))
+}
+
+/// Appends zeros up to the end of a block of the octets after the header of the datagram (RFC 2409 appendix B).
+pub fn write_padding(out: &mut Octets) -> Result<(), NoMemory>
+    requires { 28 ≤ length out.old }
+    ensures ok { OnOk result (out.new ≡ out.old ++ replicate ((16 - (length out.old - 28) % 16) % 16) 0) }
+    ensures err { OnErr result (out.new ≡ out.old) }
+{
+    let over = (out.len() - HEADER_OCTETS) % BLOCK_OCTETS;
+    let zeros = (BLOCK_OCTETS - over) % BLOCK_OCTETS;
+    out.extend(&[0; BLOCK_OCTETS][..zeros])?;
+    Ok(())
+}
+
+/// The header of a payload whose body has so many octets.
+fn payload_head(next: u8, size: usize) -> [u8; PAYLOAD_HEAD_OCTETS]
+    requires { size ≤ 65531 }
+    ensures { result ≡ payload_head next size }
+{
+    let [high, low] = (size as u16 + 4).to_be_bytes();
+    [next, 0, high, low]
 }

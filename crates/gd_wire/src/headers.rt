@@ -5,22 +5,11 @@ ghost use Rattle.gd_wire.specs.Headers.{header_text, header, header_fields, mess
 ghost use Rattle.gd_wire.specs.Headers.{suits_exchange, is_due_length, HasPayloads};
 
 use crate::faults::fault;
+use crate::kinds::{BLOCK_OCTETS, HEADER_OCTETS, MOST_OCTETS, PULL, PUSH};
 use crate::readers::Reader;
 use arrayvec::ArrayVec;
 use byteorder::{BigEndian, ByteOrder};
 use group_terms::{WireFault, WireWhat};
-
-/// The size of a header.
-const HEADER: usize = 28;
-
-/// The octets that UDP over IPv4 holds.
-const MOST: usize = 65_507;
-
-/// The exchange of a GROUPKEY-PULL (RFC 6407 section 3).
-const PULL: u8 = 32;
-
-/// The exchange of a GROUPKEY-PUSH (RFC 6407 section 4).
-const PUSH: u8 = 33;
 
 /// What a header says (RFC 2408 section 3.1).
 #[derive(Clone, Copy, PartialEq, Eq)]
@@ -51,11 +40,11 @@ fn header_of(datagram: &[u8], exchange: u8) -> Result<Header, WireFault>
     ensures { result ≡ value_of (header exchange (from_start 0 datagram.now)) }
 {
     let size = datagram.len();
-    if size < HEADER {
+    if size < HEADER_OCTETS {
         return Err(fault(WireWhat::Short, size as u32));
     }
-    if size > MOST {
-        return Err(fault(WireWhat::Length, MOST as u32));
+    if size > MOST_OCTETS {
+        return Err(fault(WireWhat::Length, MOST_OCTETS as u32));
     }
     header_fields(&mut Reader::new(datagram, 0), exchange, size)
 }
@@ -122,14 +111,14 @@ fn suits_exchange(exchange: u8, message: u32) -> bool
 fn is_due_length(told: u32, long: usize) -> bool
     ensures { result ≡ is_due_length told long }
 {
-    told as usize == long && long > HEADER && (long - HEADER) % 16 == 0
+    told as usize == long && long > HEADER_OCTETS && (long - HEADER_OCTETS) % BLOCK_OCTETS == 0
 }
 
 /// The 28 octets of a header.
-pub fn write_header(header: &Header) -> [u8; 28]
+pub fn write_header(header: &Header) -> [u8; HEADER_OCTETS]
     ensures { result ≡ header_text header.now }
 {
-    let mut text = ArrayVec::<u8, HEADER>::new();
+    let mut text = ArrayVec::<u8, HEADER_OCTETS>::new();
     text.try_extend_from_slice(&header.cookies).unwrap();
     text.try_extend_from_slice(&[header.next, 0x10, header.exchange, 0x01])
         .unwrap();

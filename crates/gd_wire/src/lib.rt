@@ -5,11 +5,13 @@ pub use attributes::{
     AttrValue, Attribute, AttributeType, attribute_type, long_value, next_attribute, next_has_kind,
     no_more_attributes, read_attribute, write_long, write_short,
 };
-pub use bodies::{HASH_OCTETS, Identification, write_identification, write_sequence};
+pub use bodies::{Identification, write_identification, write_sequence};
 pub use chains::{
-    Chain, ChainFault, MOST_PAYLOADS, Named, Part, chain_end, payload, read_chain, write_payload,
+    Chain, ChainFault, MOST_PAYLOADS, Named, Part, chain_end, payload, read_chain, write_padding,
+    write_payload, write_payload_head,
 };
 pub use faults::fault;
+pub use fits::{are_octets, has_four_octets, has_two_octets};
 pub use group_terms::{WireFault, WireWhat};
 pub use headers::{Header, read_header, write_header};
 pub use laws::{
@@ -18,7 +20,7 @@ pub use laws::{
     a_written_payload_is_read, an_attribute_has_one_text, parts_of_octets_are_octets,
     what_is_read_can_be_written, written_payloads_are_read,
 };
-pub use payloads::{write_padding, write_payload_head};
+pub use numbers::{write_u16, write_u32};
 pub use readers::Reader;
 pub use rooms::Room;
 pub use text_laws::{a_payload_is_its_head_and_its_body, written_framing_is_octets};
@@ -27,9 +29,11 @@ mod attributes;
 mod bodies;
 mod chains;
 mod faults;
+mod fits;
 mod headers;
+pub mod kinds;
 mod laws;
-mod payloads;
+mod numbers;
 mod readers;
 mod rooms;
 mod text_laws;

@@ -5,12 +5,10 @@ ghost use Rattle.gd_wire.specs.Readings.{Gives, Shows, value_of, from_start, fro
 ghost use Rattle.gd_wire.specs.Readings.{due_octet, due_number, due_long_number, due_kind, due_long_kind, end, padding_end, section};
 
 use crate::faults::fault;
+use crate::kinds::PAYLOAD_HEAD_OCTETS;
 use byteorder::{BigEndian, ByteOrder};
 use group_terms::{WireFault, WireWhat};
 use std::marker::Model;
-
-/// The size of a section's header.
-const HEADER: usize = 4;
 
 /// What is left of a text, whose fields are read one after the other. It takes no memory.
 ///
@@ -261,10 +259,10 @@ impl<'a> Reader<'a> {
         self.due_octet(0, WireWhat::Reserved)?;
         let at = self.here();
         let size = usize::from(self.number()?);
-        if size < HEADER {
+        if size < PAYLOAD_HEAD_OCTETS {
             return Err(fault(WireWhat::Length, at));
         }
-        let body = self.part(size - HEADER, WireWhat::Length, at)?;
+        let body = self.part(size - PAYLOAD_HEAD_OCTETS, WireWhat::Length, at)?;
         Ok((kind, body))
     }
 

@@ -1,4 +1,5 @@
 pub mod AttributeLemmas
-pub mod WrittenLemmas
 pub mod OctetLemmas
+pub mod PlacedLemmas
 pub mod PolicyFacts
+pub mod WrittenLemmas

@@ -3,11 +3,11 @@
 -- `rw` wants the whole test (`takes (any 6) (..) ≡ true`): `leb n 65535` alone leaves `leb 0 n`, which does not compute.
 use Rattle.std.proofs.Common.{◌≡◌, ℕ, ◌<◌, true, [], ◌++◌, map, Option, None, Some, Ok, refl, subst, inl, inr, arith, List, length, sym}
 use Rattle.std.specs.List.{range_with_len}
-use Rattle.std.proofs.lemmas.List.FromFn.{fill_by_all}
 use Rattle.std.proofs.lemmas.Bool.{le-leb, false≢true}
 use Rattle.byteorder.specs.Endian.{big_from, big_bytes}
 use Rattle.byteorder.specs.Numbers.{big_number-reads_back}
 use Rattle.gd_wire.specs.Readings.{octet_at}
+use Rattle.gd_wire.proofs.FieldLemmas.{written_out}
 use Rattle.sa_wire.specs.declared.policies.SaPolicy.{SaPolicy}
 use Rattle.sa_wire.specs.declared.policies.KekPolicy.{KekPolicy}
 use Rattle.sa_wire.specs.declared.policies.TekPolicy.{TekPolicy}
@@ -24,10 +24,6 @@ use Rattle.sa_wire.specs.Texts.{sa_text, KekPolicyFits, TekPolicyFits, PolicyFit
 -- the text of these policies is read as these
 abbrev pub Reads : SaPolicy → Type 0
 Reads policy = (base : ℕ) → sa base (sa_text policy) ≡ Ok policy
-
--- octets of a known length are their octets, one by one
-written_out : (size : ℕ) (octets : List ℕ) → length octets ≡ size → map (octet_at octets) (range_with_len 0 size) ≡ octets
-written_out size octets long = sym (fill_by_all (octet_at octets) octets size 0 long (λ k within. refl))
 
 -- policies of which each may be missing
 abbrev policies : Option KekPolicy → Option TekPolicy → SaPolicy

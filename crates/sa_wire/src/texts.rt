@@ -13,7 +13,6 @@ use crate::numbers::{
     TEK_KEY_LENGTH, TUNNEL,
 };
 use crate::{KekPolicy, SaPolicy, SignKind, TekPolicy};
-use byteorder::{BigEndian, ByteOrder};
 use gd_wire::{write_long, write_short};
 use group_terms::{NoMemory, Octets};
 
@@ -132,9 +131,8 @@ fn append_id(port: u16, address: &[u8; 4], out: &mut Octets) -> Result<(), NoMem
     ensures ok { OnOk result (out.new ≡ out.old ++ address_text port address.now) }
     ensures err { OnErr result (take (length out.old) out.new ≡ out.old) }
 {
-    let mut head = [ID_IPV4_ADDR, 0, 0, 4];
-    BigEndian::write_u16(&mut head[1..3], port);
-    out.extend(&head)?;
+    let [high, low] = port.to_be_bytes();
+    out.extend(&[ID_IPV4_ADDR, high, low, 4])?;
     out.extend(address)
 }
 
@@ -188,7 +186,5 @@ fn write_duration(kind: u16, seconds: u32, out: &mut Octets) -> Result<(), NoMem
     ensures ok { OnOk result (out.new ≡ out.old ++ long_text kind (big_bytes 4 seconds)) }
     ensures err { OnErr result (out.new ≡ out.old) }
 {
-    let mut value = [0; 4];
-    BigEndian::write_u32(&mut value, seconds);
-    write_long(kind, &value, out)
+    write_long(kind, &seconds.to_be_bytes(), out)
 }

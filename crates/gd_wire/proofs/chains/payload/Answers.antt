@@ -1,4 +1,3 @@
-use Rattle.std.proofs.Common.{List, ℕ, Ok, Err}
 use Rattle.gd_wire.proofs.ChainReadings.{payload_lies, payload_rises}
 use Rattle.gd_wire.proofs.chains.payload.Goals as goal
 

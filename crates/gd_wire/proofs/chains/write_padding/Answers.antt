@@ -1,6 +1,6 @@
-use Rattle.std.proofs.Common.{◌∙◌, ◌++◌, ◌-◌, ◌%◌, take, replicate, ap, arith}
+use Rattle.std.proofs.Common.{◌∙◌, ◌++◌, ◌-◌, ◌%◌, replicate, ap, arith}
 use Rattle.std.proofs.lemmas.List.{take-replicate}
-use Rattle.gd_wire.proofs.payloads.write_padding.Goals as goal
+use Rattle.gd_wire.proofs.chains.write_padding.Goals as goal
 
 pub returns-clause-ok : goal.returns-clause-ok
 returns-clause-ok c =
