@@ -30,11 +30,12 @@ use Rattle.group_policy.specs.declared.verdicts.Verdict.{Verdict}
 use Rattle.group_policy.specs.declared.verdicts.Verdict.TheVariants.{Allowed, Denied}
 use Rattle.pull_msgs.specs.Pulls.{IsAnswer, first_awaited, third_awaited}
 use Rattle.pull_msgs.specs.Sent.{IsSomeSecond}
+use Rattle.pull_msgs.specs.Texts.{IsPullText, second_message}
 use Rattle.pull_msgs.specs.declared.messages.First.{First}
 use Rattle.pull_msgs.specs.declared.messages.Third.{Third}
 use Rattle.pull_sessions.specs.Builds.{IsFirstFrom, IsThirdFrom, begun_session, session_after_third}
 use Rattle.pull_sessions.specs.Looks.{IsAgainOf, IsLook}
-use Rattle.pull_sessions.specs.Sessions.{AreApart, HasSession, has_cookies, is_of, is_queued, put_session, sa_of, with_session}
+use Rattle.pull_sessions.specs.Sessions.{AreApart, HasSession, has_cookies, is_of, is_queued, put_session, sa_of, session_of, with_session}
 use Rattle.pull_sessions.specs.declared.answers.Kept.{Kept}
 use Rattle.pull_sessions.specs.declared.answers.Kept.TheVariants as kept
 use Rattle.pull_sessions.specs.declared.answers.Looked.{Looked}
@@ -47,7 +48,7 @@ use Rattle.pull_sessions.specs.declared.sas.Sa.{Sa}
 use Rattle.pull_sessions.specs.declared.sas.Session.{Session}
 use Rattle.server_steps.specs.Hosts.{Host, with_server, with_sessions}
 use Rattle.server_steps.specs.Messages.{AnswersPeer, IsAnswerNow, IsFourthTo, IsKeptTo, IsMessageNow, IsMessageOf, IsSecondTo, IsSound, KeepsMessage}
-use Rattle.server_steps.specs.Messages.{KeptAreMessages, SendsMessages}
+use Rattle.server_steps.specs.Messages.{KeepsSent, KeptAreMessages, SendsMessages}
 use Rattle.server_steps.specs.Outsides.{Says}
 use Rattle.server_steps.specs.Pulls.{AnswersFirst, AnswersFound, AnswersLook, AnswersThird, Begins, IsAnswering, Queues, Replies}
 use Rattle.server_steps.specs.Pulls.{nonce_next, present_policy, reply_now}
@@ -56,8 +57,9 @@ use Rattle.server_steps.proofs.FitLemmas.{fits_joined}
 use Rattle.server_steps.proofs.GoesLemmas.{Goes, IsGood, IsWritten, no_item, not_opened, quiet, refused, same_sound, still}
 use Rattle.server_steps.proofs.GoesLemmas.{silent_queued, silent_refused}
 use Rattle.server_steps.proofs.LookLemmas.{IsPeer, its_peer, took_last}
-use Rattle.server_steps.proofs.SasLemmas.{IsOwn, each_own, found_has, put_keeps, put_phase, same_sa, same_session, still_apart}
+use Rattle.server_steps.proofs.SasLemmas.{IsOwn, each_own, found_has, put_keeps, put_phase, put_there, same_sa, same_session, still_apart}
 use Rattle.server_steps.proofs.SentLemmas.{has_begun, member_now, reply_of}
+use Rattle.server_steps.proofs.SessionLemmas.{session_is}
 use Rattle.server_steps.proofs.WaitLemmas.{its_name, same_self}
 
 -- the laws of lower crates that are needed
@@ -140,7 +142,8 @@ module _ {D G : Type 0} (needs : Needs) (g : SignerGhosts G) (signer : G) (block
     -- a message is the answer to the peer whose cookies the datagram has
     module _ (made : Host D) (octets : List ℕ) (names : Option SymReply) (same : entry.answer ≡ Datagram octets names) (looked : Looked)
         (peer : IsPeer sas datagram looked) (message : IsMessageOf kind first made peer.sa.phase octets names)
-        (now : IsAnswerNow kind made peer.sa.session peer.sa.phase datagram octets names) (deep : 1 ≤ made.server.depth) where
+        (now : IsAnswerNow kind made peer.sa.session peer.sa.phase datagram octets names)
+        (held : KeepsSent made.sessions.sas peer.sa.phase.member octets names) (last : held.session.last ≡ datagram) (deep : 1 ≤ made.server.depth) where
       one_answer : (m : Name) (given sent : List ℕ) (says : Option SymReply) → entry.asked ≡ Serve m given → entry.answer ≡ Datagram sent says
           → AnswersPeer kind first host entry made given sent says
       one_answer m given sent says asks is =
@@ -148,7 +151,16 @@ module _ {D G : Type 0} (needs : Needs) (g : SignerGhosts G) (signer : G) (block
           let two : octets ≡ sent = those_octets (sym same ∙ is) in
           let three : names ≡ says = those_names (sym same ∙ is) in
           subst (λ (x : List ℕ × List ℕ × Option SymReply). AnswersPeer kind first host entry made x.0 x.1 x.2) (λ i. (one i, two i, three i))
-          (record { head = peer.head; has_header = peer.has_header; sa = peer.sa; is_there = peer.there; message = message; now = now })
+          (record {
+            head = peer.head;
+            has_header = peer.has_header;
+            sa = peer.sa;
+            is_there = peer.there;
+            message = message;
+            now = now;
+            keeps = held;
+            last = last;
+          })
 
       one_told : (says : Option SymReply) → IsMessageOf kind first made peer.sa.phase octets says → (reply : SymReply)
           → Contains (reply_in says) reply → IsReplyOf made.server.depth first (batches_made made.server.list) reply
@@ -178,6 +190,12 @@ module _ {D G : Type 0} (needs : Needs) (g : SignerGhosts G) (signer : G) (block
     peer_there looked peer =
         ap (sa_of sas) peer.own ∙ found_has (has_cookies peer.head.cookies) (IsOwn sas) sas peer.sa (each_own sas good.sound.apart.members) peer.there
 
+    -- and has the session that it was given
+    given_there : (looked : Looked) (peer : IsPeer sas datagram looked) (session : Session) (sa : Sa) → sa_of sas looked.member ≡ Some sa
+        → session_of (with_session host.sessions looked.member session).sas peer.sa.phase.member ≡ Some session
+    given_there looked peer session sa there =
+        subst (λ m. session_of (with_session host.sessions looked.member session).sas m ≡ Some session) peer.own (put_there looked.member session sas sa there)
+
     -- ---- the answer is given again
 
     kept_by : (m : Name) (given : Kept) (from : IsAgainOf sas m datagram given)
@@ -191,7 +209,7 @@ module _ {D G : Type 0} (needs : Needs) (g : SignerGhosts G) (signer : G) (block
     kept_message : (phase : Phase1) (session : Session) (octets : List ℕ) (names : Option SymReply)
         → IsKeptTo kind first host.server.depth host.head.spi host.server.list phase session (kept.Datagram octets names)
         → IsMessageOf kind first host phase octets names
-    kept_message phase session octets None is = is
+    kept_message phase session octets None is = is.message
     kept_message phase session octets (Some says) is = is.message
 
     again : (next : Host D) (outside : Outside) (m : Name) (given : Kept) → IsLook sas datagram (Ok (record { member = m; what = Repeat given }))
@@ -206,7 +224,12 @@ module _ {D G : Type 0} (needs : Needs) (g : SignerGhosts G) (signer : G) (block
         (kept_message from.sa.phase from.session octets names (kept_by m (kept.Datagram octets names) from)))
         (kept_answer kind host peer.sa.phase datagram octets names peer.sa.session from.session (ap (λ (sa : Sa). sa.session) (sym same) ∙ from.has.has)
         from.same from.answered)
-        good.sound.deep next says.stays good.sound good.keeps
+        (record {
+          session = from.session;
+          is_there = subst (λ m. session_of sas m ≡ Some from.session) peer.own (session_is sas m from.sa from.session from.has);
+          kept = sym from.answered;
+        })
+        (sym from.same) good.sound.deep next says.stays good.sound good.keeps
     again next outside m kept.Queued look says = still entry good next Queued says.stays says.answers silent_queued refl
 
     -- ---- first messages
@@ -243,6 +266,7 @@ module _ {D G : Type 0} (needs : Needs) (g : SignerGhosts G) (signer : G) (block
         (subst (λ (sa : Sa). IsMessageOf kind first host sa.phase step.second None) same second)
         (fresh_answer kind made peer.sa.phase datagram step.second None peer.sa.session peer.repeats
         (subst (λ (sa : Sa). IsMessageNow kind host sa.phase step.second None) same (nr, text)))
+        (record { session = begun; is_there = given_there looked peer begun step.sa step.is_there; kept = refl }) refl
         good.sound.deep next step.becomes.now
         (record {
           deep = good.sound.deep;
@@ -251,7 +275,14 @@ module _ {D G : Type 0} (needs : Needs) (g : SignerGhosts G) (signer : G) (block
           apart = still_apart (put_session m (Some begun)) (put_phase m (Some begun)) sas good.sound.apart;
           written = put_keeps IsWritten sas m (Some begun) step.sa good.sound.apart step.is_there (λ is. absurd (not_queued refl is)) good.sound.written;
         })
-        (put_keeps Keeps sas m (Some begun) step.sa good.sound.apart step.is_there second good.keeps)
+        (put_keeps Keeps sas m (Some begun) step.sa good.sound.apart step.is_there
+        (record {
+          message = second;
+          iv = said.next_iv;
+          own = subst (λ front. IsPullText step.sa.phase said.next_iv (second_message said.message said.ni nr (present_policy host.head.spi kind front)) step.second)
+              (sym (take-length host.server.list)) step.is_text;
+          left = refl;
+        }) good.keeps)
 
     taking_first : (next : Host D) (outside : Outside) (m : Name) (said : First) (reason : Option Refusal)
         → IsLook sas datagram (Ok (record { member = m; what = NewFirst said }))
@@ -302,6 +333,7 @@ module _ {D G : Type 0} (needs : Needs) (g : SignerGhosts G) (signer : G) (block
           answered made step.fourth (Some says) step.becomes.answers looked peer
           (subst (λ (sa : Sa). IsMessageOf kind first host sa.phase step.fourth (Some says)) same fourth)
           (fresh_answer kind made peer.sa.phase datagram step.fourth (Some says) peer.sa.session peer.repeats refl)
+          (record { session = session; is_there = given_there looked peer session step.sa step.has.is_there; kept = refl }) refl
           good.sound.deep next step.becomes.now
           (record {
             deep = good.sound.deep;

@@ -11,6 +11,7 @@ mod LookLemmas
 mod OpenLemmas
 mod PairLemmas
 mod ReopenLemmas
+pub mod RepliedLemmas
 mod ReplyLemmas
 mod SasLemmas
 mod SeenLemmas

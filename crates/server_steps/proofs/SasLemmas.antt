@@ -1,6 +1,6 @@
 -- SAs that are apart: each is found by its member, also where their sessions change.
 use Rattle.std.proofs.Common.{◌≡◌, ◌∙◌, ◌||◌, ℕ, Bool, true, false, List, [], ◌∷◌, ◌++◌, Option, None, Some, map, get_or, refl, sym, ap, subst, inl, inr}
-use Rattle.std.specs.Prelude.{if◌then◌else◌}
+use Rattle.std.specs.Prelude.{if◌then◌else◌, option_and_then, option_map}
 use Rattle.std.specs.List.{All, AllByRecursion, IsDistinct, find, list_any}
 use Rattle.std.specs.Str.{bytes_eq}
 use Rattle.std.proofs.lemmas.Bool.{cases_Bool, cond-true, cond-false}
@@ -8,13 +8,13 @@ use Rattle.std.proofs.lemmas.List.Elements.{All-cons, All-head, All-map, All-nil
 use Rattle.group_terms.specs.Names.{Name, same_name}
 use Rattle.group_terms.specs.declared.phases.Phase1.{Phase1}
 use Rattle.pull_sessions.specs.Sessions.{AreApart, HasSession, Sessions, has_cookies, is_of, is_taken_by, members_of, new_sa, put_session, put_sessions, sa_of}
-use Rattle.pull_sessions.specs.Sessions.{why_no_introduction}
+use Rattle.pull_sessions.specs.Sessions.{session_of, why_no_introduction}
 use Rattle.pull_sessions.specs.declared.refusals.SessionRefusal.{SessionRefusal}
 use Rattle.pull_sessions.specs.declared.refusals.SessionRefusal.TheVariants.{PhaseTaken}
 use Rattle.pull_sessions.specs.declared.sas.Sa.{Sa}
 use Rattle.pull_sessions.specs.declared.sas.Session.{Session}
 use Rattle.server_steps.proofs.SessionLemmas.{session_is}
-use Rattle.server_steps.proofs.WaitLemmas.{is_same, same_self}
+use Rattle.server_steps.proofs.WaitLemmas.{is_same, of_changed, same_self}
 
 -- ---- what is found
 
@@ -112,6 +112,13 @@ put_keeps P sas m session its apart there new all =
           subst P (sym (cond-true (is_of m sa) (record sa { session = session }) sa here)) (subst (λ (one : Sa). P (record one { session = session })) same new)
       | inr other ↦ subst P (sym (cond-false (is_of m sa) (record sa { session = session }) sa other)) has
     ]
+
+-- the session that the SA of a member was given
+pub put_there : (m : Name) (session : Session) (sas : List Sa) (sa : Sa) → sa_of sas m ≡ Some sa → session_of (put_sessions m (Some session) sas) m ≡ Some session
+put_there m session sas sa there =
+    ap (option_and_then (λ (sa : Sa). sa.session))
+    (of_changed (put_session m (Some session)) (put_phase m (Some session)) m sas ∙ ap (option_map (put_session m (Some session))) there)
+    ∙ ap (λ (sa : Sa). sa.session) (cond-true (is_of m sa) (record sa { session = Some session }) sa (found_passes (is_of m) sas sa there))
 
 -- ---- one SA more
 

@@ -21,6 +21,7 @@ use Rattle.group_model.specs.Replies.{reply_at}
 use Rattle.group_model.specs.Stayed.{sequence_at, somebody_stayed}
 use Rattle.group_model.specs.declared.entries.SymReply.{SymReply}
 use Rattle.pull_msgs.specs.Sent.{IsSomeSecond}
+use Rattle.pull_msgs.specs.Texts.{IsPullText, second_message}
 use Rattle.pull_sessions.specs.declared.answers.Kept.{Kept}
 use Rattle.pull_sessions.specs.declared.answers.Kept.TheVariants as kept
 use Rattle.pull_sessions.specs.declared.sas.Session.{Session}
@@ -132,8 +133,14 @@ module _ (laws : Laws) (kind : SignKind) (first depth : ℕ) (spi : List ℕ) (l
 
   pub kept_more : (session : Session) (given : Kept) → IsKeptTo kind first depth spi list phase session given
       → IsKeptTo kind first depth spi (list ++ later) phase session given
-  unfolding fourth_more
-  kept_more session (kept.Datagram octets None) is = second_more octets is
+  unfolding second_more fourth_more
+  kept_more session (kept.Datagram octets None) is = record {
+    message = second_more octets is.message;
+    iv = is.iv;
+    own = subst (λ front. IsPullText phase is.iv (second_message session.message session.ni session.nr (present_policy spi kind front)) octets)
+        (sym (take-append-le is.message.epoch list later is.message.within)) is.own;
+    left = is.left;
+  }
   kept_more session (kept.Datagram octets (Some says)) is = record { message = fourth_more octets says is.message; own = is.own }
   kept_more session kept.Queued is = tt
 

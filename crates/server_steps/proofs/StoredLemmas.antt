@@ -1,6 +1,6 @@
 -- The replies of a batch that is stored are messages of the group, and so is what sessions keep then.
-use Rattle.std.proofs.Common.{◌≡◌, ◌∙◌, ◌≤◌, ℕ, List, [], ◌∷◌, ◌++◌, length, map, get_or, take, Option, None, Some, refl, sym, ap, subst, inl, inr}
-use Rattle.std.specs.Prelude.{Contains, IfSome}
+use Rattle.std.proofs.Common.{◌≡◌, ◌∙◌, ◌≤◌, ℕ, true, List, [], ◌∷◌, ◌++◌, length, map, get_or, take, Option, None, Some, refl, sym, ap, subst, inl, inr}
+use Rattle.std.specs.Prelude.{Contains, IfSome, option_and_then}
 use Rattle.std.specs.List.{All}
 use Rattle.std.specs.Option.{option_map}
 use Rattle.std.proofs.Math.Seq.{take-length}
@@ -16,7 +16,8 @@ use Rattle.group_values.specs.Values.{Made, batches_made}
 use Rattle.group_keys.specs.Replies.{IsKeyedOf}
 use Rattle.group_model.specs.Derivations.{replies_in}
 use Rattle.group_model.specs.Growth.{IsReplyOf}
-use Rattle.group_model.specs.Places.{IsValid, holders_of, no_holders}
+use Rattle.group_model.proofs.QueueLemmas.{joiners_once}
+use Rattle.group_model.specs.Places.{IsValid, holders_of, names_once, no_holders}
 use Rattle.group_model.specs.Replies.{replies_to, reply_at, says_of}
 use Rattle.group_model.specs.Servers.{present_batches, with_batch}
 use Rattle.group_model.specs.declared.entries.Answer.TheVariants.{Batched}
@@ -27,20 +28,22 @@ use Rattle.group_model.specs.declared.entries.SentReply.{SentReply}
 use Rattle.group_model.specs.declared.entries.SymReply.{SymReply}
 use Rattle.pull_sessions.specs.Builds.{IsFourthOf, settled_session}
 use Rattle.pull_sessions.specs.Sessions.{is_of, is_queued, sa_of}
+use Rattle.pull_sessions.specs.declared.answers.Kept.{Kept}
 use Rattle.pull_sessions.specs.declared.answers.Kept.TheVariants as kept
 use Rattle.pull_sessions.specs.declared.sas.Sa.{Sa}
 use Rattle.pull_sessions.specs.declared.sas.Session.{Session}
 use Rattle.server_steps.specs.Batches.{IsStored, drawn_next, list_next, made_next}
 use Rattle.server_steps.specs.Fourths.{IsFourthReply, reply_to, settle, settled, settled_by, settled_in}
 use Rattle.server_steps.specs.Hosts.{Host}
-use Rattle.server_steps.specs.Messages.{HasSizes, IsFourthTo, IsKeptTo, IsOwnFourth, IsSound, KeepsMessage, KeptAreMessages}
+use Rattle.server_steps.specs.Messages.{HasSizes, IsFourthTo, IsKeptTo, IsOwnFourth, IsSound, KeepsMessage, KeepsSent, KeptAreMessages}
 use Rattle.server_steps.specs.Messages.{RepliesToPeer, SendsMessages}
 use Rattle.server_steps.proofs.DatagramLemmas.{Needs, no_other, not_queued}
 use Rattle.server_steps.proofs.FitLemmas.{fit_more}
 use Rattle.server_steps.proofs.GoesLemmas.{Goes, IsGood, IsWritten, not_opened}
 use Rattle.server_steps.proofs.SasLemmas.{IsOwn, each_own, found_has, found_passes, only, still_apart}
+use Rattle.server_steps.proofs.RepliedLemmas.{replied_joiners, replies_own}
 use Rattle.server_steps.proofs.SentLemmas.{batches_more, kept_more, length_made}
-use Rattle.server_steps.proofs.WaitLemmas.{is_same, its_name}
+use Rattle.server_steps.proofs.WaitLemmas.{is_same, its_name, of_changed}
 
 that_output : {a b : Output} → Batched a ≡ Batched b → a ≡ b
 that_output e = cc
@@ -127,6 +130,7 @@ module _ {D G : Type 0} (needs : Needs) (d : DiskGhosts D) (g : SignerGhosts G) 
       session : Session
       has : sa.session ≡ Some session
       own : IsFourthOf sa.phase session session.iv message.keyed reply.datagram
+      waits : is_queued session.step ≡ true
 
     to_peer : (reply : SentReply) → IsSaid reply.says → IsFourthReply host.server.depth host.head.spi list_after sas reply → IsToPeer reply
     to_peer reply said is =
@@ -159,6 +163,7 @@ module _ {D G : Type 0} (needs : Needs) (d : DiskGhosts D) (g : SignerGhosts G) 
           session = is.session;
           has = is.has.has;
           own = is.is_text;
+          waits = ap is_queued is.awaits;
         }
 
     all_to_peers : All IsToPeer stored.output.replies
@@ -251,12 +256,47 @@ module _ {D G : Type 0} (needs : Needs) (d : DiskGhosts D) (g : SignerGhosts G) 
 
     -- ---- what is sent
 
+    -- the session of a reply's member keeps the reply
+    keeps_reply : (reply : SentReply) → IsToPeer reply → reply_to stored.output.replies reply.says.member ≡ Some reply
+        → KeepsSent (map (settle stored.output.replies) sas) reply.says.member reply.datagram (Some reply.says)
+    keeps_reply reply peer own =
+        let m : Name = reply.says.member in
+        let answer : Kept = kept.Datagram reply.datagram (Some reply.says) in
+        let found : sa_of (map (settle stored.output.replies) sas) m ≡ Some (settle stored.output.replies peer.sa) =
+        of_changed (settle stored.output.replies) (λ sa. refl) m sas ∙ ap (option_map (settle stored.output.replies)) peer.there in
+        let its : settled_in stored.output.replies peer.sa.phase.member peer.session ≡ settled_session peer.session answer =
+        ap (λ m. settled_in stored.output.replies m peer.session) (sym (its_name sas m peer.sa peer.there))
+        ∙ cond-true (is_queued peer.session.step) (settled_by peer.session (reply_to stored.output.replies m)) peer.session peer.waits
+        ∙ ap (settled_by peer.session) own in
+        record {
+          session = settled_session peer.session answer;
+          is_there =
+              ap (option_and_then (λ (sa : Sa). sa.session)) found ∙ ap (option_map (settled_in stored.output.replies peer.sa.phase.member)) peer.has
+              ∙ ap Some its;
+          kept = refl;
+        }
+
+    -- no two replies go to one member
+    each_own_reply : All (λ (reply : SentReply). reply_to stored.output.replies reply.says.member ≡ Some reply) stored.output.replies
+    each_own_reply =
+        replies_own stored.output.replies
+        (ap names_once (replied_joiners host.server.depth batches_after host.server.queue stored.output.replies stored.puts_out.says.replies)
+        ∙ joiners_once host.server.queue good.sound.fits.once)
+
     stored_sends : SendsMessages kind first host entry host_after
     stored_sends = record {
       answers = λ m datagram octets names asks is. absurd (no_other (sym is ∙ stored.answers));
       replies = λ output is.
           subst (λ (given : Output). All (RepliesToPeer kind first host entry host_after) given.replies) (that_output (sym stored.answers ∙ is))
-          (λ k d less. let peer = all_to_peers k d less in record { sa = peer.sa; is_there = peer.there; message = peer.message; now = peer.now });
+          (λ k d less.
+          let peer = all_to_peers k d less in
+          record {
+            sa = peer.sa;
+            is_there = peer.there;
+            message = peer.message;
+            now = peer.now;
+            keeps = keeps_reply (get_or stored.output.replies k d) peer (each_own_reply k d less);
+          });
       tells = λ reply c.
           (All-contains IsSaid (says_of stored.output.replies) reply replies_said (subst (λ told. Contains told reply) (ap replies_in stored.answers) c)).tells;
     }

@@ -54,7 +54,7 @@ its_name (first ∷ sas) n sa is = elim (cases_Bool (is_of n first)) [
 
 -- what changes sessions alone finds the same SA
 module _ (f : Sa → Sa) (same : (sa : Sa) → (f sa).phase ≡ sa.phase) where
-  of_changed : (n : Name) (sas : List Sa) → sa_of (map f sas) n ≡ option_map f (sa_of sas n)
+  pub of_changed : (n : Name) (sas : List Sa) → sa_of (map f sas) n ≡ option_map f (sa_of sas n)
   of_changed n [] = refl
   of_changed n (sa ∷ sas) =
       let still : is_of n (f sa) ≡ is_of n sa = ap (λ (phase : Phase1). same_name n phase.member) (same sa) in

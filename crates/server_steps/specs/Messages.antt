@@ -25,9 +25,9 @@ use Rattle.group_model.specs.declared.entries.Output.{Output}
 use Rattle.group_model.specs.declared.entries.SentReply.{SentReply}
 use Rattle.group_model.specs.declared.entries.SymReply.{SymReply}
 use Rattle.pull_msgs.specs.Sent.{IsSomeSecond}
-use Rattle.pull_msgs.specs.Texts.{IsPullText, fourth_message, pull_exchange}
+use Rattle.pull_msgs.specs.Texts.{IsPullText, fourth_message, next_iv, pull_exchange, second_message}
 use Rattle.pull_sessions.specs.Builds.{IsFourthOf}
-use Rattle.pull_sessions.specs.Sessions.{AreApart, sa_of, sa_with}
+use Rattle.pull_sessions.specs.Sessions.{AreApart, sa_of, sa_with, session_of}
 use Rattle.pull_sessions.specs.declared.answers.Kept.{Kept}
 use Rattle.pull_sessions.specs.declared.answers.Kept.TheVariants as kept
 use Rattle.pull_sessions.specs.declared.answers.Step.TheVariants as steps
@@ -77,9 +77,17 @@ module _ (kind : SignKind) (first depth : ℕ) (spi : List ℕ) (list : List Mad
     pub message : IsFourthTo phase octets says
     pub own : IsFourthOf phase session session.iv message.keyed octets
 
+  -- A session keeps the second message of its own pull: it has that one's message id and nonces, and its last block is the IV of the session's next message
+  -- (RFC 2409 appendix B).
+  pub record IsOwnSecond (phase : Phase1) (session : Session) (octets : List ℕ) : Type 0 where
+    pub message : IsSecondTo phase octets
+    pub iv : List ℕ
+    pub own : IsPullText phase iv (second_message session.message session.ni session.nr (present_policy spi kind (take message.epoch list))) octets
+    pub left : session.iv ≡ next_iv octets
+
   -- what a session keeps is such a message, if it is a datagram
   abbrev pub IsKeptTo : Phase1 → Session → Kept → Type 0
-  IsKeptTo phase session (kept.Datagram octets None) = IsSecondTo phase octets
+  IsKeptTo phase session (kept.Datagram octets None) = IsOwnSecond phase session octets
   IsKeptTo phase session (kept.Datagram octets (Some says)) = IsOwnFourth phase session octets says
   IsKeptTo phase session kept.Queued = Unit {0}
 
@@ -130,9 +138,15 @@ module _ {D : Type 0} (kind : SignKind) (host : Host D) where
   IsAnswerNow (Some session) phase datagram octets names =
       MatchBool (bytes_eq datagram session.last) (session.kept ≡ kept.Datagram octets names) (IsMessageNow phase octets names)
 
+-- the session of a member keeps this datagram as its answer, with what that says by key names, if it is a fourth message
+pub record KeepsSent (sas : List Sa) (m : Name) (octets : List ℕ) (names : Option SymReply) : Type 0 where
+  pub session : Session
+  pub is_there : session_of sas m ≡ Some session
+  pub kept : session.kept ≡ kept.Datagram octets names
+
 -- what a server sent since an epoch where it answered so, by which its host is this one then
 module _ {D : Type 0} (kind : SignKind) (first : ℕ) (host : Host D) (entry : Entry) (next : Host D) where
-  -- a datagram was answered by a message to the member of the SA whose cookies it has
+  -- A datagram was answered by a message to the member of the SA whose cookies it has. The session of that member keeps it then, as the answer to that datagram.
   pub record AnswersPeer (datagram octets : List ℕ) (names : Option SymReply) : Type 0 where
     pub head : Header
     pub has_header : value_of (header pull_exchange (from_start 0 datagram)) ≡ Ok head
@@ -140,13 +154,16 @@ module _ {D : Type 0} (kind : SignKind) (first : ℕ) (host : Host D) (entry : E
     pub is_there : sa_with host.sessions.sas head.cookies ≡ Some sa
     pub message : IsMessageOf kind first next sa.phase octets names
     pub now : IsAnswerNow kind next sa.session sa.phase datagram octets names
+    pub keeps : KeepsSent next.sessions.sas sa.phase.member octets names
+    pub last : keeps.session.last ≡ datagram
 
-  -- a reply of a batch is a fourth message to the member of an SA, with the keys of the epoch that the batch made
+  -- a reply of a batch is a fourth message to the member of an SA, with the keys of the epoch that the batch made, and the session of that member keeps it then
   pub record RepliesToPeer (reply : SentReply) : Type 0 where
     pub sa : Sa
     pub is_there : sa_of host.sessions.sas reply.says.member ≡ Some sa
     pub message : IsMessageOf kind first next sa.phase reply.datagram (Some reply.says)
     pub now : reply.says.keyed_epoch ≡ length next.server.list
+    pub keeps : KeepsSent next.sessions.sas reply.says.member reply.datagram (Some reply.says)
 
   -- each datagram that was sent is such a message, and each reply tells a member its keys
   pub record SendsMessages : Type 0 where
