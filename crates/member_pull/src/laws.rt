@@ -4,12 +4,12 @@ ghost use Rattle.gd_cipher.specs.Bytes.{AreBytes};
 ghost use Rattle.group_terms.specs.declared.paths.Keyed.{Keyed};
 ghost use Rattle.group_terms.specs.declared.phases.Phase1.{Phase1};
 ghost use Rattle.kd_wire.specs.Texts.{IsPath};
-ghost use Rattle.member_pull.specs.declared.pulls.Step.TheVariants.{Second, Fourth};
+ghost use Rattle.member_pull.specs.declared.pulls.Step.TheVariants.{Ended, Fourth, Second};
 ghost use Rattle.member_pull.specs.declared.refusals.PullRefusal.{PullRefusal};
 ghost use Rattle.member_pull.specs.declared.refusals.PullRefusal.TheVariants.{NoMemory};
 ghost use Rattle.member_pull.specs.Fits.{PullFits};
 ghost use Rattle.member_pull.specs.Paths.{root_of};
-ghost use Rattle.member_pull.specs.Pulls.{IsBegun, IsSecond, IsFourth, IsRefused, Agrees, Ends};
+ghost use Rattle.member_pull.specs.Pulls.{IsBegun, IsSecond, IsFourth, IsRefused, Agrees, Ends, at_step};
 ghost use Rattle.member_pull.specs.Views.{Pull};
 ghost use Rattle.pull_msgs.specs.Fits.{PhaseFits, MessageFits, NonceFits, PoliciesFit, ReplyFits};
 ghost use Rattle.pull_msgs.specs.Sent.{IsSomeSecond, IsSomeFourth};
@@ -22,7 +22,7 @@ use pull_msgs::{
 };
 
 /// A server's answer is taken where it is awaited, and so are its keys: those that the fourth message was written from. Only memory may be
-/// short.
+/// short. That the pull ends with these keys is a step.
 pub fn a_pull_gives_the_keys()
     ensures second { (old new : Pull) (iv nr datagram : List ℕ) (policy : SaPolicy) (result : Result (List ℕ) PullRefusal) →
         PhaseFits old.phase → MessageFits old.message → AreBytes 16 iv → NonceFits nr → PoliciesFit policy →
@@ -35,6 +35,10 @@ pub fn a_pull_gives_the_keys()
         old.step ≡ Fourth iv nr keyed.spi → IsPullText old.phase iv (fourth_message old.message old.ni nr keyed) datagram →
         IsFourth old datagram result new →
         IsRefused Keyed old NoMemory result new ⊎ Ends old keyed result new }
+    ensures ends { (old : Pull) (iv nr datagram : List ℕ) (keyed : Keyed) →
+        PhaseFits old.phase → MessageFits old.message → AreBytes 16 iv → ReplyFits keyed →
+        old.step ≡ Fourth iv nr keyed.spi → IsPullText old.phase iv (fourth_message old.message old.ni nr keyed) datagram →
+        IsFourth old datagram (Ok keyed) (at_step old Ended) }
 {
     a_written_message_is_read();
 }

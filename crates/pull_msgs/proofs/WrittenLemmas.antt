@@ -109,6 +109,11 @@ pub record Laws : Type 0 where
   pub opens_as : (key iv text sealed : List ℕ) → IsKey key → AreBytes 16 iv → All IsByte text → IsSealed key iv text sealed → IsOpened key iv sealed text
   pub once : (key iv sealed one other : List ℕ) → IsOpened key iv sealed one → IsOpened key iv sealed other → one ≡ other
 
+-- this is an answer for a datagram where a message is awaited, and the only one but that memory is short
+pub record IsRead {A B : Type 0} (phase : Phase1) (awaited : Awaited A B) (datagram : List ℕ) (gives : B) : Type 0 where
+  pub can_be : IsAnswer phase awaited datagram (Ok gives)
+  pub alone : (answer : Result B PullFault) → IsAnswer phase awaited datagram answer → (answer ≡ Err NoMemory) ⊎ (answer ≡ Ok gives)
+
 module _ (laws : Laws) (phase : Phase1) (iv : List ℕ) (said : Message) (datagram : List ℕ)
     (phase_fits : PhaseFits phase) (message_fits : MessageFits said.message) (iv_fits : AreBytes 16 iv)
     (kind_small : first_kind said.payloads < 256) (payload_octets : AreOctets (payloads_text said.payloads))
@@ -157,12 +162,12 @@ module _ (laws : Laws) (phase : Phase1) (iv : List ℕ) (said : Message) (datagr
       subst (λ octets. IsOpened phase.key iv octets plain) (sym (sealed_is phase iv said datagram phase_fits.cookies message_fits.size is))
       (laws.opens_as phase.key iv plain is.sealed (inl phase_fits.key) iv_fits (plain_octets laws.octets_of phase said kind_small payload_octets) is.is_sealed)
 
-  -- the answer where that message is awaited, and its payloads are read
-  module _ (A B : Type 0) (awaited : Awaited A B) (answer : Result B PullFault) (read : PullRead A)
+  -- where that message is awaited, and its payloads are read
+  module _ (A B : Type 0) (awaited : Awaited A B) (read : PullRead A)
       (due : (cursor : Cursor) → due_message awaited.known said.message cursor ≡ Ok (tt, cursor)) (same_iv : awaited.iv said.message ≡ iv)
       (same_nonces : awaited.nonces ≡ said.nonces)
       (reads : value_of (awaited.payloads plain 8 (from_start 28 plain)) ≡ Ok read)
-      (carried : read.hash ≡ digest) (covers : read.covered ≡ rest) (answered : IsAnswer phase awaited datagram answer) where
+      (carried : read.hash ≡ digest) (covers : read.covered ≡ rest) where
     abbrev expected : List ℕ
     expected = hash_of phase said.message awaited.nonces read.covered
 
@@ -172,8 +177,8 @@ module _ (laws : Laws) (phase : Phase1) (iv : List ℕ) (said : Message) (datagr
     taken : answer_for (hash_of phase said.message awaited.nonces) (awaited.gives top datagram) (Ok read) ≡ Ok (awaited.gives top datagram read.said)
     taken = rw (ap (bytes_eq read.hash) (sym due_is) ∙ same_bytes read.hash) refl
 
-    of_text : (found : IsOfText A B phase awaited datagram top answer) → answer ≡ Ok (awaited.gives top datagram read.said)
-    of_text found =
+    of_text : (answer : Result B PullFault) (found : IsOfText A B phase awaited datagram top answer) → answer ≡ Ok (awaited.gives top datagram read.said)
+    of_text answer found =
         let opened = subst (λ iv. IsOpened phase.key iv (drop 28 datagram) found.text) same_iv found.opened in
         let same : found.text ≡ plain = laws.once phase.key iv (drop 28 datagram) found.text plain opened is_opened in
         found.is
@@ -181,9 +186,15 @@ module _ (laws : Laws) (phase : Phase1) (iv : List ℕ) (said : Message) (datagr
         ∙ ap (answer_for (hash_of phase said.message awaited.nonces) (awaited.gives top datagram)) reads
         ∙ taken
 
-    pub is_answered : (answer ≡ Err NoMemory) ⊎ (answer ≡ Ok (awaited.gives top datagram read.said))
-    is_answered =
-        elim (subst (IsOfHead A B phase awaited datagram answer) (has_head awaited.known due) answered) [
-          | inl none ↦ inl none
-          | inr found ↦ inr (of_text found)
-        ]
+    pub is_read : IsRead phase awaited datagram (awaited.gives top datagram read.said)
+    is_read = record {
+      can_be = subst (IsOfHead A B phase awaited datagram (Ok (awaited.gives top datagram read.said))) (sym (has_head awaited.known due)) (inr (record {
+        text = plain;
+        opened = subst (λ iv. IsOpened phase.key iv (drop 28 datagram) plain) (sym same_iv) is_opened;
+        is = sym (ap (answer_for (hash_of phase said.message awaited.nonces) (awaited.gives top datagram)) reads ∙ taken);
+      }));
+      alone = λ answer answered. elim (subst (IsOfHead A B phase awaited datagram answer) (has_head awaited.known due) answered) [
+        | inl none ↦ inl none
+        | inr found ↦ inr (of_text answer found)
+      ];
+    }

@@ -34,7 +34,8 @@ use sa_wire::{
     written_policies_are_octets, written_policies_are_read, written_policies_have_their_size,
 };
 
-/// A message that was written is read as what it was written of, where it is awaited; only memory may be short.
+/// A message that was written is read as what it was written of, where it is awaited; only memory may be short. That a fourth message gives its keys is
+/// an answer.
 pub fn a_written_message_is_read()
     ensures first { (phase : Phase1) (message ni group datagram : List ℕ) (answer : Result First PullFault) →
         PhaseFits phase → MessageFits message → NonceFits ni → AreOctets group → length group ≤ 32 →
@@ -62,6 +63,10 @@ pub fn a_written_message_is_read()
         IsPullText phase iv (fourth_message message ni nr keyed) datagram →
         IsAnswer phase (fourth_awaited message iv ni nr keyed.spi) datagram answer →
         (answer ≡ Err NoMemory) ⊎ (answer ≡ Ok keyed) }
+    ensures keys { (phase : Phase1) (message iv ni nr datagram : List ℕ) (keyed : Keyed) →
+        PhaseFits phase → MessageFits message → AreBytes 16 iv → ReplyFits keyed →
+        IsPullText phase iv (fourth_message message ni nr keyed) datagram →
+        IsAnswer phase (fourth_awaited message iv ni nr keyed.spi) datagram (Ok keyed) }
 {
     a_text_is_opened_in_one_way();
     what_was_sealed_opens();
