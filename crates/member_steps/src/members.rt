@@ -1,5 +1,6 @@
 //! The members of a group that runs.
 ghost use Rattle.std.specs.Prelude.{◌≡◌, ◌≤◌, ◌+◌, ℕ, true, false, [], List, Some, IfOk, OnErr, OnOk, IsTrue, option_copied};
+ghost use Rattle.group_values.specs.Drawing.{place_after};
 ghost use Rattle.group_peers.specs.Peers.{introduced, is_peer, phase_of, sent_by, store_of, was_introduced};
 ghost use Rattle.member_steps.specs.Acts.{BeginsPull, IsFirstUse};
 ghost use Rattle.member_steps.specs.Keys.{key_of};
@@ -114,7 +115,7 @@ impl Members {
     }
 
     /// Who was introduced begins a pull for a group (RFC 6407 section 3.2): message id and nonce are drawn, two blocks, and its first message is what
-    /// it sent last then. Where memory is short, the blocks are drawn.
+    /// it sent last then. Where memory is short, the blocks are drawn all the same.
     pub fn begin_pull<P: Draws>(
         &mut self,
         alloc: Global,
@@ -127,6 +128,7 @@ impl Members {
         ensures begins { OnOk result ((mail : List Mail) →
             BeginsPull (P.block_at draws.old) group.now member.now (members_with self.old mail) (members_with self.new mail)) }
         ensures place { OnOk result (P.place_of draws.new ≡ self.new.place) }
+        ensures drawn { P.place_of draws.new ≡ place_after 2 (P.place_of draws.old) }
         ensures blocks { (k : ℕ) → P.block_at draws.new k ≡ P.block_at draws.old k }
         ensures err { OnErr result (self.new ≡ self.old) }
         ensures spare { self.new.spare ≡ self.old.spare }
