@@ -1,10 +1,12 @@
 -- After each history what is on its way to members are messages to them, and so is what they are answered.
-use Rattle.std.proofs.Common.{◌≡◌, ◌∙◌, ◌⊎◌, ℕ, true, List, [], ◌∷◌, ◌++◌, Option, None, Some, take, refl, sym, ap, subst, arith, inl, inr}
+use Rattle.std.proofs.Common.{◌≡◌, ◌∙◌, ◌⊎◌, ℕ, true, List, [], ◌∷◌, ◌++◌, map, Option, None, Some, take, refl, sym, ap, subst, arith, inl, inr}
 use Rattle.std.specs.Prelude.{All}
 use Rattle.std.proofs.lemmas.Bool.{false≢true}
 use Rattle.std.proofs.lemmas.List.Elements.{All-nil, All-weaker}
+use Rattle.group_terms.specs.Changes.{joiners}
 use Rattle.group_terms.specs.Names.{Name}
 use Rattle.group_terms.specs.declared.signatures.SignKind.{SignKind}
+use Rattle.group_values.specs.Values.{batches_made}
 use Rattle.group_model.specs.Answers.{opens}
 use Rattle.group_model.specs.Laws.{Laws}
 use Rattle.group_model.specs.declared.entries.Answer.{Answer}
@@ -23,6 +25,7 @@ use Rattle.server_steps.specs.Batches.{IsBatching, list_next}
 use Rattle.server_steps.specs.Fourths.{IsFourthReply}
 use Rattle.server_steps.specs.Hosts.{Host}
 use Rattle.server_steps.specs.Messages.{KeepsMessage, MessagesAreOfTheGroup, MessagesStay}
+use Rattle.server_steps.proofs.RepliedLemmas.{replied_joiners}
 use Rattle.group_steps.specs.Devices.{Devices, Keying}
 use Rattle.group_steps.specs.Mails.{AnswersMember, MailIsOfTheGroup, MembersAreAnswered, RepliesAreMessages, RepliesToMember, SessionsKeepMessages}
 use Rattle.group_steps.specs.Runs.{Outset, Run, no_run, run_of, with_members}
@@ -33,6 +36,9 @@ use Rattle.group_steps.proofs.MailLemmas.{IsMail, given_is, sender}
 use Rattle.group_steps.proofs.PeerLemmas.{found_has}
 use Rattle.group_steps.proofs.PhaseLemmas.{sa_phase}
 use Rattle.group_steps.proofs.SoundLemmas.{IsInOrder, new_opened, new_order, order_step}
+
+that_output : {one other : Output} → Batched one ≡ Batched other → other ≡ one
+that_output is = cc
 
 clash : {X : Type 0} {one : Option X} {item : X} → one ≡ None → one ≡ Some item → ⊥
 clash none some = cc
@@ -56,17 +62,27 @@ module _ {D G V : Type 0} (laws : Laws) (stay : MessagesStay) (on : Devices D G 
       → IsBatching on.disks on.signers by.signer by.block host (Batched output) outside next → (P : SentReply → Type 0) → All P output.replies
   none_replied host output outside next empty (inl stored) P =
       All-weaker IsReply P (λ reply is. absurd (clash (ap (λ sas. sa_of sas reply.says.member) empty) is.has.is_there)) output.replies
-      (subst (λ (output : Output). All IsReply output.replies) (same output stored.output stored.answers) stored.puts_out.replies)
+      (subst (λ (output : Output). All IsReply output.replies) (that_output stored.answers) stored.puts_out.replies)
     where
       IsReply : SentReply → Type 0
       IsReply reply =
           IsFourthReply host.server.depth host.head.spi (list_next on.disks on.signers by.signer by.block host) host.sessions.sas reply
-
-      same : (one other : Output) → Batched one ≡ Batched other → other ≡ one
-      same one other is = cc
   none_replied host output outside next empty (inr (inl doubt)) P = absurd (cc (doubt.answers))
   none_replied host output outside next empty (inr (inr (inl refused))) P = absurd (cc (refused.says.answers))
   none_replied host output outside next empty (inr (inr (inr short))) P = absurd (cc (short.answers))
+
+  -- a batch replies to those whose joins waited
+  replied_waiting : (host : Host D) (output : Output) (outside : Outside) (next : Host D)
+      → IsBatching on.disks on.signers by.signer by.block host (Batched output) outside next
+      → map (λ (reply : SentReply). reply.says.member) output.replies ≡ joiners host.server.queue
+  replied_waiting host output outside next (inl stored) =
+      let same : stored.output ≡ output = that_output stored.answers in
+      subst (λ (output : Output). map (λ (reply : SentReply). reply.says.member) output.replies ≡ joiners host.server.queue) same
+      (replied_joiners host.server.depth (batches_made (list_next on.disks on.signers by.signer by.block host)) host.server.queue stored.output.replies
+      stored.puts_out.says.replies)
+  replied_waiting host output outside next (inr (inl doubt)) = absurd (cc (doubt.answers))
+  replied_waiting host output outside next (inr (inr (inl refused))) = absurd (cc (refused.says.answers))
+  replied_waiting host output outside next (inr (inr (inr short))) = absurd (cc (short.answers))
 
   -- ---- the first step
 
@@ -172,11 +188,14 @@ module _ {D G V : Type 0} (laws : Laws) (stay : MessagesStay) (on : Devices D G 
       let serving = step.answered.answered in
       let acted = with_members run step.acted in
       let kept = kept_acted kind run step.acted (keeps_acts by.members_block by.group run.members step.acted step.acts) after.kept in
-      elim after.host [
-        | inl order ↦
-            subst (λ (members : Members). All (RepliesToMember kind next.host members.all) output.replies) (sym serving.gets)
-            (replied_by laws stay on by messages acted order kept output outside next.host
-            (record { answered = serving.served; keeps = step.answered.keeps; counts = step.answered.counts }))
-        | inr empty ↦
-            none_replied run.host output outside next.host empty serving.served (RepliesToMember kind next.host next.members.all)
-      ]
+      record {
+        each = elim after.host [
+          | inl order ↦
+              subst (λ (members : Members). All (RepliesToMember kind next.host members.all) output.replies) (sym serving.gets)
+              (replied_by laws stay on by messages acted order kept output outside next.host
+              (record { answered = serving.served; keeps = step.answered.keeps; counts = step.answered.counts }))
+          | inr empty ↦
+              none_replied run.host output outside next.host empty serving.served (RepliesToMember kind next.host next.members.all)
+        ];
+        to = replied_waiting run.host output outside next.host serving.served;
+      }

@@ -33,7 +33,7 @@ use Rattle.pull_sessions.specs.declared.sas.Sa.{Sa}
 use Rattle.server_steps.specs.Batches.{made_next}
 use Rattle.server_steps.specs.Disks.{Counts}
 use Rattle.server_steps.specs.Hosts.{Host}
-use Rattle.server_steps.specs.Messages.{IsAnswerNow, IsMessageOf, IsMessageTo, MessagesAreOfTheGroup, MessagesStay, RepliesToPeer}
+use Rattle.server_steps.specs.Messages.{IsAnswerNow, IsMessageOf, IsMessageTo, KeepsSent, MessagesAreOfTheGroup, MessagesStay, RepliesToPeer}
 use Rattle.server_steps.specs.Pulls.{IsIntroducing, answer_introduced}
 use Rattle.server_steps.specs.Steps.{IsServerStep}
 use Rattle.group_steps.specs.Devices.{Devices, Keying}
@@ -133,10 +133,14 @@ module _ {D G V : Type 0} (laws : Laws) (stay : MessagesStay) (on : Devices D G 
         ∙ sym (ap (λ (phase : Phase1). phase.cookies) sa.2) in
         let one : answers.sa ≡ sa.0 = only (sym answers.is_there ∙ ap (sa_with sas) cookies
         ∙ own_cookies sas m sa.0 order.sound.apart.cookies sa.1) in
+        let held : (keeps : KeepsSent next.sessions.sas sa.0.phase.member octets names) × (keeps.session.last ≡ datagram) =
+        subst (λ (sa : Sa). (keeps : KeepsSent next.sessions.sas sa.phase.member octets names) × (keeps.session.last ≡ datagram)) one
+        (answers.keeps, answers.last) in
         answered_under kind run.host next run.members.all m datagram octets names sa.0 sa.1
         (ap (option_map (λ (peer : Peer). peer.phase)) peer.1 ∙ ap Some (sym sa.2))
         (subst (λ (sa : Sa). IsMessageOf kind 0 next sa.phase octets names) one answers.message)
         (subst (λ (sa : Sa). IsAnswerNow kind next sa.session sa.phase datagram octets names) one answers.now)
+        held.0 held.1
 
     -- a reply of a batch is a fourth message to its member
     pub replied_by : (output : Output) (outside : Outside) (next : Host D) → Serves run.host (entry_of Batch (Batched output) outside) next
@@ -155,6 +159,7 @@ module _ {D G V : Type 0} (laws : Laws) (stay : MessagesStay) (on : Devices D G 
               message = sent_under kind next run.members.all m reply.datagram (Some reply.says) to.sa.phase
                   (ap (option_map (λ (peer : Peer). peer.phase)) peer.1 ∙ ap Some peer.2) to.message;
               now = to.now;
+              keeps = to.keeps;
             }
 
     -- ---- the request that introduces somebody

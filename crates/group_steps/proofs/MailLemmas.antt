@@ -13,13 +13,13 @@ use Rattle.group_model.specs.declared.entries.SymReply.{SymReply}
 use Rattle.group_peers.specs.Peers.{peer_of, phase_of, sent_by}
 use Rattle.group_peers.specs.declared.members.Peer.{Peer}
 use Rattle.member_steps.specs.Members.{Mail}
-use Rattle.pull_sessions.specs.Sessions.{cookies_of, has_cookies, sa_of, sa_with, session_of}
+use Rattle.pull_sessions.specs.Sessions.{cookies_of, has_cookies, is_of, sa_of, sa_with, session_of}
 use Rattle.pull_sessions.specs.declared.sas.Sa.{Sa}
 use Rattle.pull_sessions.specs.declared.sas.Session.{Session}
 use Rattle.server_steps.specs.Hosts.{Host}
-use Rattle.server_steps.specs.Messages.{IsAnswerNow, IsMessageOf}
+use Rattle.server_steps.specs.Messages.{IsAnswerNow, IsMessageOf, KeepsSent}
 use Rattle.group_steps.specs.Mails.{AnswersMember, IsSentTo}
-use Rattle.group_steps.proofs.PeerLemmas.{given_at, given_by, mark_of, name_is, name_self, only}
+use Rattle.group_steps.proofs.PeerLemmas.{found_passes, given_at, given_by, mark_of, name_is, name_self, only}
 use Rattle.group_steps.proofs.PhaseLemmas.{phase_there, sa_phase}
 
 -- ---- SAs by their cookies
@@ -120,15 +120,22 @@ module _ {D : Type 0} (kind : SignKind) where
   -- what answers a datagram under an SA answers the peer that has it
   pub answered_under : (host next : Host D) (peers : List Peer) (m : Name) (datagram octets : List ℕ) (names : Option SymReply) (sa : Sa)
       → sa_of host.sessions.sas m ≡ Some sa → phase_of peers m ≡ Some sa.phase → IsMessageOf kind 0 next sa.phase octets names
-      → IsAnswerNow kind next sa.session sa.phase datagram octets names → AnswersMember kind host next peers m datagram octets names
+      → IsAnswerNow kind next sa.session sa.phase datagram octets names
+      → (keeps : KeepsSent next.sessions.sas sa.phase.member octets names) → keeps.session.last ≡ datagram
+      → AnswersMember kind host next peers m datagram octets names
   unfolding sent_under
-  answered_under host next peers m datagram octets names sa there is message now =
+  answered_under host next peers m datagram octets names sa there is message now keeps last =
       let peer = phase_there peers m sa.phase is in
       let session : sa.session ≡ session_of host.sessions.sas m = sym (ap (option_and_then (λ (sa : Sa). sa.session)) there) in
       let its : sa.phase ≡ peer.0.phase = sym peer.2 in
+      let own : sa.phase.member ≡ m = sym (name_is m sa.phase.member (found_passes (is_of m) host.sessions.sas sa there)) in
+      let held : (keeps : KeepsSent next.sessions.sas m octets names) × (keeps.session.last ≡ datagram) =
+      subst (λ m. (keeps : KeepsSent next.sessions.sas m octets names) × (keeps.session.last ≡ datagram)) own (keeps, last) in
       record {
         message = sent_under next peers m octets names sa.phase is message;
         now = subst (λ (x : Option Session × Phase1). IsAnswerNow kind next x.0 x.1 datagram octets names) (λ i. (session i, its i)) now;
+        keeps = held.0;
+        last = held.1;
       }
 
   -- messages of a group stay messages of it

@@ -1,5 +1,6 @@
 -- What is known of the datagrams that are on their way to members (RFC 6407 section 3.2).
-use Rattle.std.specs.Prelude.{◌≡◌, ℕ, List, length, All, Option, Some}
+use Rattle.std.specs.Prelude.{◌≡◌, ℕ, List, length, map, All, Option, Some}
+use Rattle.group_terms.specs.Changes.{joiners}
 use Rattle.group_terms.specs.Names.{Name}
 use Rattle.group_terms.specs.declared.signatures.SignKind.{SignKind}
 use Rattle.group_model.specs.declared.entries.Answer.TheVariants.{Batched, Datagram}
@@ -13,7 +14,7 @@ use Rattle.group_peers.specs.Peers.{peer_of}
 use Rattle.group_peers.specs.declared.members.Peer.{Peer}
 use Rattle.pull_sessions.specs.Sessions.{session_of}
 use Rattle.server_steps.specs.Hosts.{Host}
-use Rattle.server_steps.specs.Messages.{IsAnswerNow, IsMessageOf, KeptAreMessages}
+use Rattle.server_steps.specs.Messages.{IsAnswerNow, IsMessageOf, KeepsSent, KeptAreMessages}
 use Rattle.member_steps.specs.Members.{Mail}
 use Rattle.group_steps.specs.Devices.{Devices, Keying}
 use Rattle.group_steps.specs.Runs.{Outset, Run, no_run}
@@ -26,16 +27,25 @@ module _ {D : Type 0} (kind : SignKind) where
     pub is_there : peer_of peers m ≡ Some peer
     pub message : IsMessageOf kind 0 host peer.phase octets names
 
-  -- From one host to the next a member's datagram was answered by a message of the group to it. That is what its session keeps, if it took this datagram last,
-  -- and else a message of the present epoch.
+  -- From one host to the next a member's datagram was answered by a message of the group to it. That is what its session kept, if it had taken this datagram
+  -- last, and else a message of the present epoch. Its session keeps it from then on, as the answer to this datagram.
   pub record AnswersMember (host next : Host D) (peers : List Peer) (m : Name) (datagram octets : List ℕ) (names : Option SymReply) : Type 0 where
     pub message : IsSentTo next peers m octets names
     pub now : IsAnswerNow kind next (session_of host.sessions.sas m) message.peer.phase datagram octets names
+    pub keeps : KeepsSent next.sessions.sas m octets names
+    pub last : keeps.session.last ≡ datagram
 
-  -- a reply of a batch, by which the host is this one, is a fourth message to its member, with the keys of the epoch that the batch made
+  -- A reply of a batch, by which the host is this one, is a fourth message to its member, with the keys of the epoch that the batch made. The session of that
+  -- member keeps it from then on.
   pub record RepliesToMember (next : Host D) (peers : List Peer) (reply : SentReply) : Type 0 where
     pub message : IsSentTo next peers reply.says.member reply.datagram (Some reply.says)
     pub now : reply.says.keyed_epoch ≡ length next.server.list
+    pub keeps : KeepsSent next.sessions.sas reply.says.member reply.datagram (Some reply.says)
+
+  -- the replies of a batch, by which the host is the next one, are such messages, one to each whose join waited, in that order
+  pub record RepliesToWaiting (host next : Host D) (peers : List Peer) (replies : List SentReply) : Type 0 where
+    pub each : All (RepliesToMember next peers) replies
+    pub to : map (λ (reply : SentReply). reply.says.member) replies ≡ joiners host.server.queue
 
   -- each datagram on its way is one to whom it goes
   abbrev pub AreMessages : Run D → Type 0
@@ -61,10 +71,10 @@ MembersAreAnswered {D} on by =
     → IsRunStep on by before run (record { asked = Serve m datagram; outside = outside; answer = Datagram octets names }) next
     → AnswersMember (on.signers.kind_of by.signer) run.host next.host next.members.all m datagram octets names
 
--- And each reply of a batch is a fourth message to its member, with the keys of the epoch that the batch made.
+-- And each reply of a batch is a fourth message to its member, with the keys of the epoch that the batch made; they go to those whose joins waited.
 abbrev pub RepliesAreMessages : {D G V : Type 0} → Devices D G V → Keying G → Type 0
 RepliesAreMessages {D} on by =
     (outset : Outset D) (before : List Entry) (run : Run D) (output : Output) (outside : Outside) (next : Run D)
     → IsHistory on by (no_run outset) before run
     → IsRunStep on by before run (record { asked = Batch; outside = outside; answer = Batched output }) next
-    → All (RepliesToMember (on.signers.kind_of by.signer) next.host next.members.all) output.replies
+    → RepliesToWaiting (on.signers.kind_of by.signer) run.host next.host next.members.all output.replies

@@ -71,7 +71,7 @@ pub fn what_is_served_are_steps_of_a_run<D: Disk, G: Signer, V: Verifier>()
 }
 
 /// After each history each datagram that is on its way to a member is a message to it; so is what its session keeps, what its own datagrams are
-/// answered by, and each reply of a batch.
+/// answered by, and each reply of a batch. Sessions keep what was sent, and a batch replies to those whose joins waited.
 pub fn mail_is_of_the_group<D: Disk, G: Signer, V: Verifier>()
     ensures mail { (verifier : V) (by : Keying G) → MailIsOfTheGroup (devices D.Disk G.Signer V.Verifier verifier) by }
     ensures kept { (verifier : V) (by : Keying G) → SessionsKeepMessages (devices D.Disk G.Signer V.Verifier verifier) by }

@@ -1,5 +1,5 @@
 -- To whom the replies of a batch go.
-use Rattle.std.proofs.Common.{◌≡◌, ◌∙◌, ℕ, ◌||◌, Bool, true, false, List, [], ◌∷◌, Some, get_or, map, sym, ap}
+use Rattle.std.proofs.Common.{◌≡◌, ◌∙◌, ℕ, true, false, List, [], ◌∷◌, Some, get_or, map, sym, ap}
 use Rattle.std.specs.Prelude.{not}
 use Rattle.std.specs.List.{All, list_any}
 use Rattle.std.proofs.lemmas.Bool.{and_parts, cond-true, cond-false, not-true, or_parts}

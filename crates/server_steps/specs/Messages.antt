@@ -146,7 +146,8 @@ pub record KeepsSent (sas : List Sa) (m : Name) (octets : List ℕ) (names : Opt
 
 -- what a server sent since an epoch where it answered so, by which its host is this one then
 module _ {D : Type 0} (kind : SignKind) (first : ℕ) (host : Host D) (entry : Entry) (next : Host D) where
-  -- A datagram was answered by a message to the member of the SA whose cookies it has. The session of that member keeps it then, as the answer to that datagram.
+  -- A datagram was answered by a message to the member of the SA whose cookies it has. The session of that member keeps it then, as the answer to that
+  -- datagram.
   pub record AnswersPeer (datagram octets : List ℕ) (names : Option SymReply) : Type 0 where
     pub head : Header
     pub has_header : value_of (header pull_exchange (from_start 0 datagram)) ≡ Ok head
