@@ -7,6 +7,7 @@ ghost use Rattle.group_terms.specs.declared.pushes.PushRefusal.TheVariants.{Malf
 ghost use Rattle.group_values.specs.Values.{Made, batches_made};
 ghost use Rattle.group_keys.specs.Replies.{IsKeyedOf};
 ghost use Rattle.group_model.specs.Places.{holders_at, holders_of, is_member};
+ghost use Rattle.group_model.specs.Stayed.{sequence_at};
 ghost use Rattle.group_model.specs.Wraps.{node_wraps};
 ghost use Rattle.group_model.specs.declared.entries.PushPair.{PushPair};
 ghost use Rattle.kd_wire.specs.Texts.{KeyedFits};
@@ -29,13 +30,13 @@ use key_ways::each_law_holds;
 use member_store::{a_refusal_changes_nothing, each_cause_has_its_refusal};
 use push_msg::a_written_push_is_read;
 
-/// A store that is made of what a member is told at an epoch is at its root, and has its traffic key.
+/// A store that is made of what a member is told at an epoch is at its root, and has its traffic key; the number that it is told is that of the last push then.
 pub fn a_reply_is_at_its_root()
     ensures { (depth epoch : ℕ) (spi : List ℕ) (list : List Made) (m : Name) (keyed : Keyed) →
         IsKeyedGroup depth spi list → epoch ≤ length list →
         is_member (holders_at depth (batches_made list) epoch) m ≡ true →
         IsKeyedOf depth spi (take epoch list) m keyed →
-        IsReply keyed × HasKeysOf depth spi list epoch m (store_of keyed) }
+        IsReply keyed × HasKeysOf depth spi list epoch m (store_of keyed) × (keyed.sequence ≡ sequence_at depth (batches_made list) epoch) }
 {
     first_epochs_stay();
     each_law_holds();

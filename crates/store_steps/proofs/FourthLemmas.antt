@@ -1,6 +1,6 @@
 -- After each history a member takes the fourth message that its session keeps, where its pull is in step with that session.
 use Rattle.std.proofs.Common.{◌≡◌, ◌∙◌, ◌⊎◌, ap, arith, refl, subst, sym, inl, inr, ℕ, ◌≤◌, true, false, Bool, List, [], ◌∷◌, length, take, Option, Some}
-use Rattle.std.specs.Prelude.{IfSome, MatchBool, Result, Err}
+use Rattle.std.specs.Prelude.{IfSome, MatchBool, None, Result, Ok, Err, if◌then◌else◌}
 use Rattle.std.specs.List.{All, Contains}
 use Rattle.std.specs.Option.{option_map}
 use Rattle.std.proofs.lemmas.Bool.{cases_Bool, cond-true, cond-false, false≢true}
@@ -13,14 +13,13 @@ use Rattle.group_terms.specs.declared.phases.Phase1.{Phase1}
 use Rattle.group_terms.specs.declared.signatures.SignKind.{SignKind}
 use Rattle.group_values.specs.Values.{Made}
 use Rattle.group_keys.specs.Replies.{IsKeyedOf}
-use Rattle.group_model.specs.Laws.{HoldersStay}
 use Rattle.group_model.specs.Places.{is_member}
 use Rattle.group_model.specs.declared.entries.Answer.{Answer}
-use Rattle.group_model.specs.declared.entries.Answer.TheVariants.{Lost}
+use Rattle.group_model.specs.declared.entries.Answer.TheVariants.{Kept, Lost, Older}
 use Rattle.group_model.specs.declared.entries.Entry.{Entry}
 use Rattle.group_model.specs.declared.entries.SymReply.{SymReply}
-use Rattle.group_peers.specs.Peers.{peer_of, store_of}
-use Rattle.group_peers.specs.Pulls.{PassesOver, PassesOverAt}
+use Rattle.group_peers.specs.Peers.{is_named, peer_of, put, store_of, with_loss, with_store}
+use Rattle.group_peers.specs.Pulls.{IsTold, PassesOver, PassesOverAt}
 use Rattle.group_peers.specs.declared.members.Peer.{Peer}
 use Rattle.pull_msgs.specs.Fits.{MessageFits, PhaseFits, ReplyFits}
 use Rattle.pull_msgs.specs.Sent.{IsSomeFourth}
@@ -28,7 +27,7 @@ use Rattle.pull_msgs.specs.Texts.{IsPullText, fourth_message}
 use Rattle.pull_sessions.specs.Sessions.{is_of, sa_of}
 use Rattle.pull_sessions.specs.declared.sas.Sa.{Sa}
 use Rattle.pull_sessions.specs.declared.sas.Session.{Session}
-use Rattle.member_pull.specs.Pulls.{Ends, IsFourth, IsRefused}
+use Rattle.member_pull.specs.Pulls.{Ends, IsFourth, IsRefused, at_step}
 use Rattle.member_pull.specs.Views.{Pull}
 use Rattle.member_pull.specs.declared.pulls.Step.{Step}
 use Rattle.member_pull.specs.declared.pulls.Step.TheVariants as steps
@@ -36,20 +35,20 @@ use Rattle.member_pull.specs.declared.refusals.PullRefusal.{PullRefusal}
 use Rattle.member_pull.specs.declared.refusals.PullRefusal.TheVariants as refusals
 use Rattle.member_roots.specs.Groups.{IsKeyedGroup}
 use Rattle.member_roots.specs.Roots.{IsStoreOf}
-use Rattle.member_store.specs.Stores.{Store, is_older, root_epoch}
+use Rattle.member_store.specs.Stores.{Store, is_older, root_epoch, store_of as store_made}
 use Rattle.member_steps.specs.Acts.{Acts, IsIgnoring}
-use Rattle.member_steps.specs.Members.{Mail, Members}
-use Rattle.member_steps.specs.Steps.{GoesMissing, IsKeeping, TakesFourth}
+use Rattle.member_steps.specs.Members.{Mail, Members, with_all, with_mail_left}
+use Rattle.member_steps.specs.Steps.{GoesMissing, Gets, IsKeeping, IsOld, TakesFourth, TakesReply}
 use Rattle.server_steps.specs.Messages.{IsFourthTo, IsKeptTo, IsOwnFourth, KeepsMessage}
 use Rattle.group_steps.specs.Devices.{Devices, Keying}
 use Rattle.group_steps.specs.Mails.{IsSentTo, MailIsOfTheGroup, SessionsKeepMessages}
 use Rattle.group_steps.specs.Runs.{Outset, Run, no_run}
 use Rattle.group_steps.specs.Steps.{IsHistory}
+use Rattle.group_steps.proofs.PeerLemmas.{changed_peer, found_passes}
 use Rattle.store_steps.specs.Follow.{IsKeptAt, IsOurs, KeepsItsStore, OpenedGroupsHaveKeys, holders_in}
-use Rattle.store_steps.specs.Fourths.{GetsOwnFourth, OwnFourthsAreTaken, TakesOwn, TakesOwnFourth}
+use Rattle.store_steps.specs.Fourths.{GetsOwnFourth, HasPeer, OwnFourthsAreTaken, TakesOwn, TakesOwnFourth}
 use Rattle.store_steps.proofs.ActLemmas.{Stay, all_after, stay}
 use Rattle.store_steps.proofs.MailLemmas.{Tells, TellsLaws, reply_fits}
-use Rattle.store_steps.proofs.NumberLemmas.{told_number}
 use Rattle.store_steps.proofs.OpenedLemmas.{keyed_told}
 use Rattle.store_steps.proofs.PeerLemmas.{there}
 use Rattle.store_steps.proofs.PullLemmas.{FitsUnder, each_after, fit_kept, fit_pull}
@@ -58,12 +57,14 @@ use Rattle.store_steps.proofs.ReplyLemmas.{keeps_keys, missing}
 
 -- the laws of lower crates that are needed
 pub record FourthLaws : Type 0 where
-  pub holders_stay : HoldersStay
   pub tells : TellsLaws
   pub taken : (old new : Pull) (iv nr datagram : List ℕ) (keyed : Keyed) (result : Result Keyed PullRefusal) → PhaseFits old.phase → MessageFits old.message
       → AreBytes 16 iv → ReplyFits keyed → old.step ≡ steps.Fourth iv nr keyed.spi
       → IsPullText old.phase iv (fourth_message old.message old.ni nr keyed) datagram → IsFourth old datagram result new
       → IsRefused Keyed old refusals.NoMemory result new ⊎ Ends old keyed result new
+  pub ends : (old : Pull) (iv nr datagram : List ℕ) (keyed : Keyed) → PhaseFits old.phase → MessageFits old.message → AreBytes 16 iv → ReplyFits keyed
+      → old.step ≡ steps.Fourth iv nr keyed.spi → IsPullText old.phase iv (fourth_message old.message old.ni nr keyed) datagram
+      → IsFourth old datagram (Ok keyed) (at_step old steps.Ended)
   pub fresh : (depth epoch : ℕ) (spi : List ℕ) (list : List Made) (m : Name) (keyed : Keyed) (store : Store) → IsStoreOf depth spi list m store
       → epoch ≤ length list → root_epoch store ≤ epoch → IsKeyedOf depth spi (take epoch list) m keyed → is_older store keyed ≡ false
 
@@ -203,6 +204,9 @@ module _ (laws : FourthLaws) {D G V : Type 0} (on : Devices D G V) (by : Keying 
     awaits : gets.pull.step ≡ steps.Fourth gets.session.iv gets.session.nr own.message.keyed.spi
     awaits = gets.in_step.awaits ∙ ap (λ spi. steps.Fourth gets.session.iv gets.session.nr spi) (sym keys.spi)
 
+    phase_fits : PhaseFits gets.pull.phase
+    phase_fits = subst PhaseFits (sym under.under) ready.fit.phase
+
     -- ---- it is not ignored
 
     none_passes : (step : Step) → gets.pull.step ≡ step → step ≡ steps.Fourth gets.session.iv gets.session.nr spi → PassesOverAt step gets.pull gets.octets → ⊥
@@ -210,7 +214,7 @@ module _ (laws : FourthLaws) {D G V : Type 0} (on : Devices D G V) (by : Keying 
     none_passes (steps.Fourth iv nr awaited) has is passes =
         refused_else passes.0 own.message.keyed gets.pull gets.pull passes.1
         (laws.taken gets.pull gets.pull gets.session.iv gets.session.nr gets.octets own.message.keyed (Err passes.0)
-        (subst PhaseFits (sym under.under) ready.fit.phase) reads.message iv_fits fits awaits text passes.2)
+        phase_fits reads.message iv_fits fits awaits text passes.2)
     none_passes steps.Ended has is passes = absurd (cc (is))
 
     not_ignored : (other : Members) → IsIgnoring acted other → ⊥
@@ -223,6 +227,74 @@ module _ (laws : FourthLaws) {D G V : Type 0} (on : Devices D G V) (by : Keying 
         none_passes gets.pull.step refl gets.in_step.awaits
         (subst (λ (x : Option Pull × List ℕ). PassesOver x.0 x.1) (λ i. (sym pull i, sym octets i)) ignores.ignored)
 
+    -- ---- it can be kept
+
+    -- the peer once its pull has ended
+    abbrev told : Peer
+    told = record gets.peer { pull = Some (at_step gets.pull steps.Ended) }
+
+    tells_keys : IsTold gets.octets own.message.keyed gets.peer told
+    tells_keys = record {
+      pull = gets.pull;
+      has = gets.pulls;
+      ended = at_step gets.pull steps.Ended;
+      takes = laws.ends gets.pull gets.session.iv gets.session.nr gets.octets own.message.keyed phase_fits reads.message iv_fits fits awaits text;
+      now = refl;
+    }
+
+    can_take : (had : Option Store) (left : Members) → (answer : Answer) × (after : Members) × TakesReply had m own.message.keyed left answer after
+    can_take had left = by_store had
+      where
+        gets_it : (answer : Answer) × (after : Members) × Gets m own.message.keyed left answer after
+        gets_it = (
+          Kept own.message.keyed.epoch,
+          with_all left (with_store left.all m (store_made own.message.keyed)),
+          record { answers = refl; now = refl },
+        )
+
+        by_age : (store : Store) (age : Bool)
+            → (answer : Answer) × (after : Members)
+            × MatchBool age (IsOld store own.message.keyed left answer after) (Gets m own.message.keyed left answer after)
+        by_age store true = (Older store.sequence own.message.keyed.sequence, left, record { answers = refl; stays = refl })
+        by_age store false = gets_it
+
+        by_store : (had : Option Store) → (answer : Answer) × (after : Members) × TakesReply had m own.message.keyed left answer after
+        by_store None = gets_it
+        by_store (Some store) = by_age store (is_older store own.message.keyed)
+
+    can_be_kept : (answer : Answer) × (after : Members) × IsKeeping m acted answer after
+    can_be_kept = elim (cases_Bool gets.peer.loses) [
+      | inl loses ↦ (
+        Lost,
+        with_mail_left (with_all acted (with_loss acted.all m false)) gets.later,
+        inl (record {
+          datagram = gets.octets;
+          later = gets.later;
+          is_first = gets.is_first;
+          peer = gets.peer;
+          is_there = gets.is_there;
+          loses = loses;
+          answers = refl;
+          now = refl;
+        }),
+      )
+      | inr comes ↦
+          let takes = can_take gets.peer.store (with_mail_left (with_all acted (put acted.all told)) gets.later) in (
+            takes.0,
+            takes.1,
+            inr (record {
+              datagram = gets.octets;
+              later = gets.later;
+              peer = gets.peer;
+              gets = record { is_first = gets.is_first; is_there = gets.is_there; comes = comes };
+              keyed = own.message.keyed;
+              after = told;
+              told = tells_keys;
+              takes = takes.2;
+            }),
+          )
+    ]
+
     -- ---- it is kept
 
     module _ (answer : Answer) (next : Run D) (ours : (store : Store) → store_of run.members.all m ≡ Some store → IsOurs run m store) where
@@ -232,12 +304,22 @@ module _ (laws : FourthLaws) {D G V : Type 0} (on : Devices D G V) (by : Keying 
       abbrev Goal : Type 0
       Goal = TakesOwn run gets.peer says m answer next
 
+      -- the next datagram to the member comes
+      comes_next : GoesMissing m acted answer next.members → HasPeer next m (record gets.peer { loses = false })
+      comes_next goes =
+          let change : Peer → Peer = λ peer. record peer { loses = false } in
+          ap (λ (members : Members). peer_of members.all m) goes.now
+          ∙ changed_peer change (λ peer. refl) m acted.all m
+          ∙ ap (option_map (λ (peer : Peer). if is_named m peer then change peer else peer)) gets.is_there
+          ∙ ap Some (cond-true (is_named m gets.peer) (change gets.peer) gets.peer (found_passes (is_named m) acted.all gets.peer gets.is_there))
+
       by_missing : GoesMissing m acted answer next.members → Goal
       by_missing goes =
           let same : goes.peer ≡ gets.peer = only (sym goes.is_there ∙ gets.is_there) in
           let loses : gets.peer.loses ≡ true = ap (λ (peer : Peer). peer.loses) (sym same) ∙ goes.loses in
-          chosen gets.peer.loses ((answer ≡ Lost) × KeepsItsStore run m next) (IsKeptAt run says m answer next)
-          (λ lost. missing kind run acted stays m answer next goes) (λ comes. absurd (false≢true (sym comes ∙ loses)))
+          let lost = missing kind run acted stays m answer next goes in
+          chosen gets.peer.loses ((answer ≡ Lost) × KeepsItsStore run m next × HasPeer next m (record gets.peer { loses = false })) (IsKeptAt run says m answer next)
+          (λ is. (lost.0, lost.1, comes_next goes)) (λ comes. absurd (false≢true (sym comes ∙ loses)))
 
       kept_at : (fourth : TakesFourth m acted answer next.members) → IsKeptAt run says m answer next
       kept_at fourth =
@@ -269,16 +351,15 @@ module _ (laws : FourthLaws) {D G V : Type 0} (on : Devices D G V) (by : Keying 
             member = member;
             keys = its_keys;
           } in
-          keeps_keys kind run acted stays m answer next fourth tells
-          (laws.tells.reply depth says.keyed_epoch spi list m fourth.keyed group own.message.within member its_keys).1
-          (told_number laws.holders_stay depth says.keyed_epoch spi list m fourth.keyed own.message.within its_keys ∙ sym tells.number)
+          let reply = laws.tells.reply depth says.keyed_epoch spi list m fourth.keyed group own.message.within member its_keys in
+          keeps_keys kind run acted stays m answer next fourth tells reply.1 (reply.2 ∙ sym tells.number)
           (λ store had later. laws.fresh depth says.keyed_epoch spi list m fourth.keyed store (ours store had) own.message.within later its_keys)
 
       by_fourth : TakesFourth m acted answer next.members → Goal
       by_fourth fourth =
           let same : fourth.peer ≡ gets.peer = only (sym fourth.gets.is_there ∙ gets.is_there) in
           let comes : gets.peer.loses ≡ false = ap (λ (peer : Peer). peer.loses) (sym same) ∙ fourth.gets.comes in
-          chosen gets.peer.loses ((answer ≡ Lost) × KeepsItsStore run m next) (IsKeptAt run says m answer next)
+          chosen gets.peer.loses ((answer ≡ Lost) × KeepsItsStore run m next × HasPeer next m (record gets.peer { loses = false })) (IsKeptAt run says m answer next)
           (λ lost. absurd (false≢true (sym comes ∙ lost))) (λ still. kept_at fourth)
 
       by_kind : IsKeeping m acted answer next.members → Goal
@@ -288,6 +369,7 @@ module _ (laws : FourthLaws) {D G V : Type 0} (on : Devices D G V) (by : Keying 
     takes_own : TakesOwnFourth on by before run acted m says gets
     takes_own = record {
       not_ignored = not_ignored;
+      can_be_kept = can_be_kept;
       taken = λ answer outside next ours step. by_kind answer next ours step.answered.acted;
     }
 

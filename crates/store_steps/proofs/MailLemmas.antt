@@ -57,7 +57,7 @@ pub record TellsLaws : Type 0 where
       → IsFourth old datagram (Ok taken) new → ⊥
   pub reply : (depth epoch : ℕ) (spi : List ℕ) (list : List Made) (m : Name) (keyed : Keyed) → IsKeyedGroup depth spi list → epoch ≤ length list
       → is_member (holders_at depth (batches_made list) epoch) m ≡ true → IsKeyedOf depth spi (take epoch list) m keyed
-      → IsReply keyed × HasKeysOf depth spi list epoch m (store_made keyed)
+      → IsReply keyed × HasKeysOf depth spi list epoch m (store_made keyed) × (keyed.sequence ≡ sequence_at depth (batches_made list) epoch)
   pub written : (depth epoch : ℕ) (spi : List ℕ) (list : List Made) (m : Name) (keyed : Keyed) → IsKeyedGroup depth spi list → epoch ≤ length list
       → is_member (holders_at depth (batches_made list) epoch) m ≡ true → IsKeyedOf depth spi (take epoch list) m keyed
       → KeyedFits keyed × (keyed.sequence < 4294967296)

@@ -4,10 +4,7 @@ use Rattle.std.specs.List.{take-map}
 use Rattle.std.proofs.lemmas.Bool.{cases_eq, cases_lt}
 use Rattle.std.proofs.lemmas.List.{length-take-le}
 use Rattle.gd_edges.specs.declared.signers.Signer.{Ghosts as SignerGhosts}
-use Rattle.group_terms.specs.Names.{Name}
 use Rattle.group_terms.specs.declared.changes.Change.{Change}
-use Rattle.group_terms.specs.declared.paths.Keyed.{Keyed}
-use Rattle.group_keys.specs.Replies.{IsKeyedOf}
 use Rattle.group_values.specs.Values.{Made, batches_made}
 use Rattle.group_model.specs.Laws.{HoldersStay}
 use Rattle.group_model.specs.Stayed.{sequence_at, somebody_stayed, stayed_at}
@@ -26,14 +23,6 @@ module _ (holders_stay : HoldersStay) (depth : ℕ) where
       let before = holders_stay depth n (suc epoch - 1) batches (omega arith) in
       let after = holders_stay depth n (suc epoch) batches early in
       λ i. numbers_stay n epoch batches (omega arith) i + cond (somebody_stayed (before i) (after i)) 2 0
-
-  -- the number that a member is told is that of the epoch
-  pub told_number : (epoch : ℕ) (rekey : List ℕ) (list : List Made) (m : Name) (keyed : Keyed) → epoch ≤ length list
-      → IsKeyedOf depth rekey (take epoch list) m keyed → keyed.sequence ≡ sequence_at depth (batches_made list) epoch
-  told_number epoch rekey list m keyed early told =
-      told.sequence ∙ ap (sequence_at depth (batches_made (take epoch list))) (length-take-le epoch list early)
-      ∙ ap (λ batches. sequence_at depth batches epoch) (sym (take-map (λ (made : Made). made.changes) epoch list))
-      ∙ numbers_stay epoch epoch (batches_made list) (omega arith)
 
   two_more : (batches : List (List Change)) (epoch : ℕ) → stayed_at depth batches (suc epoch) ≡ true
       → sequence_at depth batches (suc epoch) ≡ sequence_at depth batches epoch + 2

@@ -1,5 +1,5 @@
 -- A member whose pull is in step with its session at the server takes the fourth message of that session (RFC 6407 section 3.2).
-use Rattle.std.specs.Prelude.{◌≡◌, ℕ, List, ◌∷◌, MatchBool, Some}
+use Rattle.std.specs.Prelude.{◌≡◌, ℕ, false, List, ◌∷◌, MatchBool, Some}
 use Rattle.group_terms.specs.Names.{Name}
 use Rattle.group_model.specs.declared.entries.Answer.{Answer}
 use Rattle.group_model.specs.declared.entries.Answer.TheVariants.{Lost}
@@ -13,6 +13,7 @@ use Rattle.member_pull.specs.Views.{Pull}
 use Rattle.member_pull.specs.declared.pulls.Step.TheVariants as steps
 use Rattle.member_steps.specs.Acts.{Acts, IsIgnoring}
 use Rattle.member_steps.specs.Members.{Mail, Members}
+use Rattle.member_steps.specs.Steps.{IsKeeping}
 use Rattle.member_store.specs.Stores.{Store}
 use Rattle.pull_sessions.specs.Sessions.{HasSession}
 use Rattle.pull_sessions.specs.declared.answers.Kept.TheVariants as kept
@@ -47,16 +48,23 @@ module _ {D : Type 0} where
     pub pulls : peer.pull ≡ Some pull
     pub in_step : IsInStep run.host.head.spi sa session pull
 
-  -- By whether its next datagram goes missing: then its store stays; else it has the keys that this message says, unless they are older than its store's.
+  -- this is the peer of a name
+  abbrev pub HasPeer : Run D → Name → Peer → Type 0
+  HasPeer run m peer = peer_of run.members.all m ≡ Some peer
+
+  -- By whether its next datagram goes missing: then its store stays, and the one after it comes; else it has the keys that this message says, unless they are
+  -- older than its store's.
   abbrev pub TakesOwn : Run D → Peer → SymReply → Name → Answer → Run D → Type 0
   TakesOwn run peer says m answer next =
-      MatchBool peer.loses ((answer ≡ Lost) × KeepsItsStore run m next) (IsKeptAt run says m answer next)
+      MatchBool peer.loses ((answer ≡ Lost) × KeepsItsStore run m next × HasPeer next m (record peer { loses = false })) (IsKeptAt run says m answer next)
 
 module _ {D G V : Type 0} (on : Devices D G V) (by : Keying G) where
-  -- Members that acted after a history do not ignore it; and where m is asked next to keep it, that becomes of it, if m has no store yet or one of the group.
+  -- Members that acted after a history do not ignore it: that m keeps it is a step of theirs. And where m is asked next to keep it, that becomes of it, if m
+  -- has no store yet or one of the group.
   pub record TakesOwnFourth (before : List Entry) (run : Run D) (acted : Members) (m : Name) (says : SymReply) (gets : GetsOwnFourth run acted m says)
       : Type 0 where
     pub not_ignored : (other : Members) → IsIgnoring acted other → ⊥
+    pub can_be_kept : (answer : Answer) × (after : Members) × IsKeeping m acted answer after
     pub taken : (answer : Answer) (outside : Outside) (next : Run D) → ((store : Store) → store_of run.members.all m ≡ Some store → IsOurs run m store)
         → IsAnsweredAfter on by acted before run (record { asked = Keep m; outside = outside; answer = answer }) next
         → TakesOwn run gets.peer says m answer next

@@ -50,7 +50,6 @@ pub fn each_store_is_one_of_the_group<D: Disk, G: Signer, V: Verifier>()
 pub fn a_reply_is_kept_in_a_history<D: Disk, G: Signer, V: Verifier>()
     ensures { (verifier : V) (by : Keying G) → RepliesAreKept (devices D.Disk G.Signer V.Verifier verifier) by }
 {
-    first_epochs_stay();
     an_opened_group_has_keys::<D, G, V>();
     mail_is_of_the_group::<D, G, V>();
     a_pull_always_fits();
@@ -60,13 +59,12 @@ pub fn a_reply_is_kept_in_a_history<D: Disk, G: Signer, V: Verifier>()
     a_later_reply_is_not_older();
 }
 
-/// After a history a member does not ignore the fourth message that its session keeps, where its pull is in step with that session, but keeps the keys
-/// that it tells, if the member has no store yet or one of the group, unless they are older than those of the store, whose root is of a later epoch then;
-/// or the datagram goes missing.
+/// After a history a member does not ignore the fourth message that its session keeps, where its pull is in step with that session, but can keep it, and
+/// keeps the keys that it tells, if the member has no store yet or one of the group, unless they are older than those of the store, whose root is of a later
+/// epoch then; or the datagram goes missing, and the one after it comes.
 pub fn an_own_fourth_message_is_taken_in_a_history<D: Disk, G: Signer, V: Verifier>()
     ensures { (verifier : V) (by : Keying G) → OwnFourthsAreTaken (devices D.Disk G.Signer V.Verifier verifier) by }
 {
-    first_epochs_stay();
     an_opened_group_has_keys::<D, G, V>();
     mail_is_of_the_group::<D, G, V>();
     a_pull_always_fits();

@@ -2,7 +2,6 @@ use Rattle.std.proofs.Common.{◌∙◌, sym}
 use Rattle.group_steps.specs.Devices.{devices}
 use Rattle.store_steps.proofs.ActLemmas.{stay}
 use Rattle.store_steps.proofs.MailLemmas.{tells}
-use Rattle.store_steps.proofs.NumberLemmas.{told_number}
 use Rattle.store_steps.proofs.OpenedLemmas.{keyed_told}
 use Rattle.store_steps.proofs.ReplyLemmas.{takes_or_loses}
 use Rattle.store_steps.proofs.laws.a_reply_is_kept_in_a_history.Goals as goal
@@ -29,12 +28,13 @@ returns g c verifier by outset before run m answer outside next history ours ste
     })
     on by have (c.mail_is_of_the_group.ensures.mail verifier by) outset before run step.acted m answer next.members history step.acts fourth in
     let is = told.1 in
-    let group = keyed_told on by have outset before run history (m, fourth.datagram) told.0 in (
+    let group = keyed_told on by have outset before run history (m, fourth.datagram) told.0 in
+    let reply = c.a_reply_is_at_its_root.ensures depth is.says.keyed_epoch spi list m fourth.keyed group is.early is.member is.keys in (
       told.0,
       (
         is,
-        (c.a_reply_is_at_its_root.ensures depth is.says.keyed_epoch spi list m fourth.keyed group is.early is.member is.keys).1,
-        told_number c.first_epochs_stay.ensures.holders depth is.says.keyed_epoch spi list m fourth.keyed is.early is.keys ∙ sym is.number,
+        reply.1,
+        reply.2 ∙ sym is.number,
         λ store had later.
             c.a_later_reply_is_not_older.ensures depth is.says.keyed_epoch spi list m fourth.keyed store (ours store had) is.early later is.keys,
       ),

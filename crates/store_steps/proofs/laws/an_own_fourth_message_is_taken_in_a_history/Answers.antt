@@ -8,7 +8,6 @@ returns g c verifier by =
     let takes = c.a_pull_takes_messages_as_they_were_written.ensures in
     own_fourths
     (record {
-      holders_stay = c.first_epochs_stay.ensures.holders;
       tells = record {
         pulls = record { begun = fits.begun; second = fits.second; fourth = fits.fourth };
         as_written = takes.fourth;
@@ -17,6 +16,7 @@ returns g c verifier by =
         written = c.a_reply_can_be_written.ensures;
       };
       taken = c.a_pull_gives_the_keys.ensures.fourth;
+      ends = c.a_pull_gives_the_keys.ensures.ends;
       fresh = c.a_later_reply_is_not_older.ensures;
     })
     (devices g.D.Disk g.G.Signer g.V.Verifier verifier) by (c.an_opened_group_has_keys.ensures verifier by)
