@@ -9,7 +9,6 @@ use crate::Kept;
 use crate::bells::{Bells, Patience};
 use crate::plays::{Count, Draw, Look, PassOn, Read};
 use crate::rules::{COUNT, Place, SERVED, TICKET, Top};
-use crossbeam_utils::sync::EventCount;
 use std::sync::Wait;
 use std::sync::atomic::Ordering::SeqCst;
 use std::thread::Threads;
@@ -24,38 +23,21 @@ fn draw<K: Kept>(top: &Top<K>, seat: &mut Place<K>) -> u64
     top.fetch_add::<Draw>(seat, TICKET, 1)
 }
 
-/// How many turns come before that of the ticket.
-fn turns_before<K: Kept>(top: &Top<K>, ticket: u64) -> u64
-    requires { IsSized top.now.table_id (terms_of K.listed K.tag top.now.key) }
-{
-    ticket.wrapping_sub(top.peek(SERVED))
-}
-
 /// Sleeps until the bell of the ticket is rung, unless it is served.
-fn sleep<K: Kept, R: Wait>(rt: &R, top: &Top<K>, bell: &EventCount, ticket: u64)
+fn sleep<K: Kept, R: Wait>(rt: &R, top: &Top<K>, bells: &Bells, ticket: u64)
     requires { IsSized top.now.table_id (terms_of K.listed K.tag top.now.key) }
 {
-    let key = bell.prepare_wait();
-    if turns_before(top, ticket) == 0 {
+    bells.sleepers.fetch_add(1, SeqCst);
+    let key = bells.of(ticket).prepare_wait();
+    if top.peek(SERVED) == ticket {
         drop(key);
     } else {
         key.wait(rt);
     }
-}
-
-/// Lets others go on. At first the thread stays ready to run, longer where few turns come before its own; then it sleeps.
-fn pause<K: Kept, R: Wait>(rt: &R, top: &Top<K>, bells: &Bells, patience: &Patience, ticket: u64)
-    requires { IsSized top.now.table_id (terms_of K.listed K.tag top.now.key) }
-{
-    if patience.lasts(turns_before(top, ticket)) {
-        return;
-    }
-    bells.sleepers.fetch_add(1, SeqCst);
-    sleep(rt, top, bells.of(ticket), ticket);
     bells.sleepers.fetch_sub(1, SeqCst);
 }
 
-/// Waits until the ticket is served. The seat then has the slot in hand.
+/// Waits until the ticket is served: at first ready to run, longer where few turns come before its own, then asleep. The seat then has the slot in hand.
 fn wait_for<K: Kept, R: Wait>(rt: &R, top: &Top<K>, bells: &Bells, seat: &mut Place<K>, ticket: u64)
     requires table { IsSized top.now.table_id (terms_of K.listed K.tag top.now.key) }
     requires seat { IsSeatOf top.now.table_id (terms_of K.listed K.tag top.now.key) seat.old }
@@ -66,10 +48,13 @@ fn wait_for<K: Kept, R: Wait>(rt: &R, top: &Top<K>, bells: &Bells, seat: &mut Pl
 {
     let patience = Patience::new();
     for _ in rt.forever() {
-        if top.load::<Look>(seat, SERVED) == ticket {
+        let served = top.load::<Look>(seat, SERVED);
+        if served == ticket {
             return;
         }
-        pause(rt, top, bells, &patience, ticket);
+        if !patience.lasts(ticket.wrapping_sub(served)) {
+            sleep(rt, top, bells, ticket);
+        }
     }
     unreachable!()
 }

@@ -3,8 +3,8 @@ use Rattle.desk.specs.Opened.{terms_of}
 use Rattle.desk.proofs.Steps.{looks}
 use Rattle.desk.proofs.rounds.wait_for.Goals as goal
 
-pub load-requires : goal.load-requires
-load-requires g c =
+pub load-served-requires : goal.load-served-requires
+load-served-requires g c =
     let still = c.loop.invariant.2 in let waits = c.requires.waits in let player = c.requires.player.2 in
     let words = c.requires.table.words in let short = c.requires.player.1 in let count = player.count in (
       c.loop.invariant.0 ∙ c.requires.seat.table_is,
