@@ -6,7 +6,7 @@ ghost use Rattle.desk.specs.Turned.{IsTurn};
 use crate::desks::{desk_of, taken};
 use crate::published::{Told, Waiting};
 use crate::sums::Sums;
-use desk::{Closed, Desk, DeskMade, DeskOpen, Kept, LedgerFull, Pass};
+use desk::{Closed, Desk, DeskLost, DeskMade, DeskOpen, Kept, LedgerFull, Pass};
 use desk_sites::{Bench, Site, do_all};
 use epoch_board::{BoardMade, BoardPass, EpochBoard, Publisher, Seen};
 use group_terms::{List, NoMemory};
@@ -41,7 +41,8 @@ fn boards_cross() -> bool {
 fn desks_cross<K: Kept + Send>() -> bool {
     let desk = shares::<Desk<K>>() & sends::<DeskMade<K>>();
     let passes = sends::<Pass<K>>() & sends::<List<Pass<K>>>();
-    desk & passes & sends::<Closed<K>>() & sends::<DeskOpen<K>>() & sends::<LedgerFull>()
+    let back = sends::<Closed<K>>() & sends::<DeskOpen<K>>() & sends::<DeskLost<K>>();
+    desk & passes & back & sends::<LedgerFull>()
 }
 
 /// A turn at a site. What it promises is what a turn at the desk does.

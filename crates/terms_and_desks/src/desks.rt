@@ -112,7 +112,7 @@ fn comes_back<'a>(open: DeskOpen<Sums<'a>>, away: Pass<Sums<'a>>) -> bool
     match closed(desk, passes) {
         Some(sums) => {
             let both = sums.entries.items() == [5, 7].as_slice();
-            one_was_away & both & (sums.misplaced == 0)
+            one_was_away & both & (sums.last == 1)
         }
         None => false,
     }

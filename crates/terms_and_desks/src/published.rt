@@ -108,7 +108,8 @@ impl Kept for Waiting<'_> {
 
     ghost begun = { λ _. 0 };
 
-    ghost Same = { λ waiting other. (other.epochs.items ≡ waiting.epochs.items) × (other.publisher ≡ waiting.publisher) };
+    ghost Same = { λ waiting other.
+        (other.epochs.items ≡ waiting.epochs.items) × (other.hall ≡ waiting.hall) × (other.publisher ≡ waiting.publisher) };
 
     ghost Suits = { λ event tag. event.pass.board ≡ tag.board };
 

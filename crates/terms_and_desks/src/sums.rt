@@ -1,4 +1,4 @@
-ghost use Rattle.std.specs.Prelude.{◌≡◌, [], ⊤};
+ghost use Rattle.std.specs.Prelude.{◌≡◌, [], length};
 
 use desk::Kept;
 use group_terms::{List, Log, NoMemory};
@@ -11,21 +11,33 @@ use std::thread::Threads;
 pub(crate) struct Sums<'a> {
     pub entries: Log<u64>,
     pub sum: u64,
-    /// How many entries came with the number of another place.
-    pub misplaced: u64,
+    /// How many entries there were when its desk was made.
+    pub begun: u64,
+    /// The place of the entry that came last, or 0.
+    pub last: u64,
     rate: &'a u64,
 }
 
 impl<'a> Sums<'a> {
     pub fn new(alloc: Global, rate: &'a u64) -> Self
-        ensures { result.entries.items ≡ [] }
+        ensures { (result.entries.items ≡ []) × (result.begun ≡ 0) }
     {
         Sums {
             entries: Log::of(List::new(alloc)),
             sum: 0,
-            misplaced: 0,
+            begun: 0,
+            last: 0,
             rate,
         }
+    }
+
+    /// The same, for another desk.
+    pub fn begun_anew(self) -> Self
+        ensures { length result.entries.items ≡ result.begun }
+    {
+        let mut sums = self;
+        sums.begun = sums.entries.items().len() as u64;
+        sums
     }
 }
 
@@ -36,7 +48,7 @@ impl Kept for Sums<'_> {
 
     type Answer = u64;
 
-    type Tag = ();
+    type Tag = u64;
 
     ghost use Rattle.std.specs.Prelude.{◌≡◌, ⊤};
 
@@ -44,20 +56,18 @@ impl Kept for Sums<'_> {
 
     ghost spare = { λ sums. sums.entries.spare };
 
-    ghost tag = { λ _. tt };
+    ghost tag = { λ sums. sums.begun };
 
-    ghost begun = { λ _. 0 };
+    ghost begun = { λ begun. begun };
 
-    ghost Same = { λ sums other. (other.entries.items ≡ sums.entries.items) × (other.sum ≡ sums.sum) };
+    ghost Same = { λ sums other. other ≡ record sums { entries = record sums.entries { spare = other.entries.spare } } };
 
     ghost Suits = { λ _ _. ⊤ };
 
     ghost Relates = { λ _ event entry _. entry ≡ event };
 
     fn take<R: Threads + Wait + Sync>(&mut self, _rt: &R, number: u64, event: u64) -> u64 {
-        if number != self.entries.items().len() as u64 {
-            self.misplaced = self.misplaced.saturating_add(1);
-        }
+        self.last = self.begun.saturating_add(number);
         self.sum = self.sum.wrapping_add(event.wrapping_mul(*self.rate));
         self.entries.add(event);
         self.sum

@@ -1,5 +1,5 @@
 //! What comes of many turns, in several threads.
-ghost use Rattle.std.specs.Prelude.{◌<◌, ◌≤◌};
+ghost use Rattle.std.specs.Prelude.{◌≡◌, ◌<◌, ◌≤◌, length};
 
 use crate::desks::closed;
 use crate::sums::Sums;
@@ -53,7 +53,8 @@ fn threads_make_all_turns(rt: HostRuntime) {
     let two = makes_all(&rt, rt.alloc(), &TWO_THREADS) == Ok(true);
     let at_a_rate = makes_all(&rt, rt.alloc(), &AT_A_RATE) == Ok(true);
     let sixteen = makes_all(&rt, rt.alloc(), &SIXTEEN_THREADS) == Ok(true);
-    assert!(rt; two & at_a_rate & sixteen);
+    let again = found_after_two_desks(&rt, rt.alloc(), &TWO_THREADS) == Ok((200, 199, 9900));
+    assert!(rt; two & at_a_rate & sixteen & again);
 }
 
 /// Whether each number of the case comes once, and the sum is that of the case.
@@ -62,7 +63,7 @@ fn makes_all<R: Threads + Wait + Sync>(rt: &R, alloc: Global, case: &Case) -> Re
     requires turns { (1 ≤ case.now.turns) × (case.now.turns ≤ 4096) }
     requires threads { 0 < case.now.threads }
 {
-    let sums = sums_of(rt, alloc, case)?;
+    let sums = turned(rt, alloc, Sums::new(alloc, &case.rate), case)?;
     let are_due = are_due(alloc, &sums, case);
     drop(sums);
     are_due
@@ -73,20 +74,39 @@ fn are_due(alloc: Global, sums: &Sums, case: &Case) -> Result<bool, NoMemory> {
     let mut found = vec![in alloc; false; case.entries]?;
     let once = each_once(&mut found, sums.entries.items());
     drop(found);
-    Ok(once & (sums.sum == case.sum) & (sums.misplaced == 0))
+    let at_the_end = sums.last.saturating_add(1) == case.entries as u64;
+    Ok(once & at_the_end & (sums.sum == case.sum))
 }
 
-/// Makes all turns of a desk, and answers the value.
-fn sums_of<'a, R: Threads + Wait + Sync>(
+/// How many entries there are, the place of the last one, and the sum, after all turns of a desk, and then all turns of a second one at the same value.
+fn found_after_two_desks<R: Threads + Wait + Sync>(
     rt: &R,
     alloc: Global,
-    case: &'a Case,
-) -> Result<Sums<'a>, NoMemory>
+    case: &Case,
+) -> Result<(usize, u64, u64), NoMemory>
     requires passes { (1 ≤ case.now.passes) × (case.now.passes ≤ 64) }
     requires turns { (1 ≤ case.now.turns) × (case.now.turns ≤ 4096) }
     requires threads { 0 < case.now.threads }
 {
-    let sums = Sums::new(alloc, &case.rate);
+    let first = turned(rt, alloc, Sums::new(alloc, &case.rate), case)?;
+    let second = turned(rt, alloc, first.begun_anew(), case)?;
+    let found = (second.entries.items().len(), second.last, second.sum);
+    drop(second);
+    Ok(found)
+}
+
+/// Makes all turns of a desk at a value, and answers the value.
+fn turned<'a, R: Threads + Wait + Sync>(
+    rt: &R,
+    alloc: Global,
+    sums: Sums<'a>,
+    case: &Case,
+) -> Result<Sums<'a>, NoMemory>
+    requires begun { length sums.entries.items ≡ sums.begun }
+    requires passes { (1 ≤ case.now.passes) × (case.now.passes ≤ 64) }
+    requires turns { (1 ≤ case.now.turns) × (case.now.turns ≤ 4096) }
+    requires threads { 0 < case.now.threads }
+{
     let made = Desk::new(alloc, sums, case.passes, u64::from(case.turns));
     let DeskMade { desk, passes } = made.ok().ok_or(NoMemory)?;
     let mut passes = passes.into_vec();

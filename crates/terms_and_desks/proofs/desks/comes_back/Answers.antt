@@ -13,7 +13,7 @@ well (Err why) P fine is = absurd (true≢false fine)
 
 pub closed-requires : goal.closed-requires
 closed-requires c =
-    let Own : Pass Sums ℕ ℕ ℕ (Unit {0}) → Type 0 = λ pass. pass.desk ≡ c.args.open.desk.id in
+    let Own : Pass Sums ℕ ℕ ℕ ℕ → Type 0 = λ pass. pass.desk ≡ c.args.open.desk.id in
     let all = All-push Own c.args.open.passes c.args.away c.requires.passes c.requires.away in
     All-same Own c.push.new.self (c.args.open.passes ++ c.args.away ∷ [])
     (well c.push.result (c.push.new.self ≡ c.args.open.passes ++ c.args.away ∷ []) (sym c.is_err.ensures.value ∙ c.if-is_err.false) c.push.ensures.ok) all
