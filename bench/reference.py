@@ -67,17 +67,17 @@ def long(kind, value): return n2(kind) + n2(len(value)) + value
 def padded(text): return text + bytes(-len(text) % 16)
 def identity(port, address): return b'\x01' + n2(port) + b'\x04' + bytes.fromhex(address)
 
-def sak(next_, spi):
+def sak(next_, spi, kind=SIGN_KIND):
     return payload(next_, n1(17) + identity(848, 'c0000201') + identity(848, 'e9fc0001') + spi + bytes(4)
         + short(1, 1) + short(2, 3) + short(3, 128) + long(4, n4(86400)) + short(5, 3)
-        + short(6, SIGN_KIND[0]) + short(7, SIGN_KIND[1]))
+        + short(6, kind[0]) + short(7, kind[1]))
 
 def sat(spi):
     return payload(0, n1(1) + n1(17) + identity(0, 'c0000201') + identity(0, 'e9fc0001') + n1(12) + spi
         + short(1, 1) + long(2, n4(3600)) + short(4, 1) + short(5, 5) + short(6, 128))
 
-def sa_body(kek_spi, tek_spi):
-    parts = (sak(SAT if tek_spi else 0, kek_spi) if kek_spi else b'') + (sat(tek_spi) if tek_spi else b'')
+def sa_body(kek_spi, tek_spi, kind=SIGN_KIND):
+    parts = (sak(SAT if tek_spi else 0, kek_spi, kind) if kek_spi else b'') + (sat(tek_spi) if tek_spi else b'')
     return n4(2) + n4(0) + n2(SAK if kek_spi else SAT) + n2(0) + parts
 
 def packet(kind, spi, attributes):
@@ -271,8 +271,8 @@ def write_first(phase, message, ni, group):
     row = payload(ID, ni) + id_payload(group)
     return pull_text(phase, message, phase2_iv(phase['last'], message), (NONCE, message + row, row))
 
-def write_second(phase, message, iv, ni, nr, kek_spi, tek_spi):
-    row = payload(SA, nr) + payload(0, sa_body(kek_spi, tek_spi))
+def write_second(phase, message, iv, ni, nr, kek_spi, tek_spi, kind=SIGN_KIND):
+    row = payload(SA, nr) + payload(0, sa_body(kek_spi, tek_spi, kind))
     return pull_text(phase, message, iv, (NONCE, message + ni + row, row))
 
 def write_third(phase, message, iv, ni, nr):
@@ -518,15 +518,33 @@ class Disk:
         self.synced, self.unsynced = bytes(self.image), []
 
     def crashed(self, choice):
-        """Of what was not synced: nothing, all, the first, half of each, 0xff, the last, 0."""
+        """Of what was not synced: nothing, all, the first, half of each, 0xff, the last, 0, octets drawn by the choice."""
         image, pending = bytearray(self.synced), self.unsynced
-        if choice % 8 == 7: assert not pending                  # octets drawn by the choice are not told here
-        kept = {0: [], 2: pending[:1], 5: pending[-1:], 7: []}.get(choice % 8, pending)
-        for at, octets in kept:
+        for at, octets in {0: [], 2: pending[:1], 5: pending[-1:]}.get(choice % 8, pending):
             if octets is None: del image[at:]; continue
-            octets = {3: octets[:len(octets) // 2], 4: b'\xff' * len(octets), 6: bytes(len(octets))}.get(choice % 8, octets)
+            size = len(octets)
+            octets = {3: octets[:size // 2], 4: b'\xff' * size, 6: bytes(size), 7: chance(choice, at, size)}.get(choice % 8, octets)
             image[at:at + len(octets)] = octets
         return Disk(image)
+
+def chance(seed, stream, size):
+    """Octets of ChaCha8 (words of 32 bits, a block counter and a stream of 64 bits each), whose key is made of the seed by PCG32."""
+    def turned(x, n): return (x << n | x >> 32 - n) & 0xffffffff
+    key = []
+    for _ in range(8):
+        seed = (seed * 6364136223846793005 + 11634580027462260723) % 2**64
+        key.append(turned((seed >> 18 ^ seed) >> 27 & 0xffffffff, -(seed >> 59) % 32))
+    def block(count):
+        words = [0x61707865, 0x3320646e, 0x79622d32, 0x6b206574, *key, count, 0, stream % 2**32, stream >> 32]
+        x = words[:]
+        for k in range(32):                                     # four double rounds: columns, then diagonals
+            i, turn = k % 4, k // 4 % 2
+            a, b, c, d = i, 4 + (i + turn) % 4, 8 + (i + 2 * turn) % 4, 12 + (i + 3 * turn) % 4
+            for p, q, r, n in ((a, b, d, 16), (c, d, b, 12), (a, b, d, 8), (c, d, b, 7)):
+                x[p] = (x[p] + x[q]) & 0xffffffff
+                x[r] = turned(x[r] ^ x[p], n)
+        return b''.join(((u + v) & 0xffffffff).to_bytes(4, 'little') for u, v in zip(x, words))
+    return b''.join(block(count) for count in range(-(-size // 64)))[:size]
 
 MAGIC = b'GDOIJRNL'
 

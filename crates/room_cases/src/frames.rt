@@ -10,6 +10,8 @@
 //! kd BASE OCTETS                     `traffic` with its keys and SPI, `lkh` with its SPI, and each key
 //! head OCTETS                        what is written of the head of a group that is read
 //! batch OCTETS                       what is written of the record of a batch that is read
+//! head-fields OCTETS                 `depth`, `limit`, `name` and `spi` of the head of a group that is read
+//! batch-fields OCTETS                `epoch`, `sequence`, who comes `in` and goes `out`, and the `values` of the record of a batch that is read
 //! push LAST OCTETS                   the number of the push after a last one, and what it gives
 //! first OCTETS                       the nonce, the octets of the identification and its type
 //! second OCTETS                      the nonce and both policies
@@ -25,7 +27,7 @@
 use crate::frames::bodies::{attribute, chain, header, kd, sa};
 use crate::frames::pulls::{first, fourth, second, third};
 use crate::frames::pushes::push;
-use crate::journals::forms::{batch, head};
+use crate::journals::forms::{batch, batch_fields, head, head_fields};
 use case_lines::{Text, number, octets};
 pub use known::Known;
 use std::alloc::Global;
@@ -74,6 +76,8 @@ fn ask_of(
         "kd" => kd(first % 65_536, octets, text),
         "head" => head(alloc, octets, text),
         "batch" => batch(alloc, octets, text),
+        "head-fields" => head_fields(octets, text),
+        "batch-fields" => batch_fields(alloc, octets, text),
         _ => return ask_known(alloc, known, word, first, octets, text),
     }
     Some(())

@@ -1,12 +1,12 @@
 //! Has threads share a board, or a desk, many times over, so that the time of it can be taken from outside. Each line is answered by one.
 //!
 //! ```text
-//! looks THREADS COUNT      each of so many threads looks so often at a board while another one publishes
+//! looks THREADS COUNT      each of so many threads looks so often at a board while another one publishes under a lock that it keeps
 //! turns THREADS            so many threads together make the turns of a desk
 //! ```
 //!
-//! The answer to `looks` is `rises`, or `falls` where a pair fell, and that to `turns` is the sum of all turns: those of a new desk of 64 passes, 262,144 in
-//! all, which is closed after them.
+//! The answer to `looks` is `rises`, or `falls` where a pair fell, or where not all see the last pair when they are done. That to `turns` is the sum of all
+//! turns: those of a new desk of 64 passes, 262,144 in all, which is closed after them.
 ghost use Rattle.std.specs.Prelude.{◌<◌};
 
 use boards::look_together;

@@ -1,6 +1,6 @@
 //! Tests of stores on files in memory, of which calls fail and the power is lost, and of lists of batches that are stored and read; and of what is below
 //! a store: disks and journals. What a store reads of files is asked of `room_cases`, and so is each call of a disk in memory that fails as a group is made,
-//! stores batches or is opened again, with each kind of a crash but that of drawn octets.
+//! stores batches or is opened again, with each kind of a crash.
 #![tactic(auto)]
 
 #[cfg(test)]

@@ -4,13 +4,14 @@ use crate::threads::parts::{Ledger, Watch};
 use epoch_board::{BoardMade, EpochBoard};
 use group_terms::NoMemory;
 use std::alloc::Global;
-use std::sync::Wait;
 use std::sync::atomic::AtomicUsize;
 use std::sync::atomic::Ordering::SeqCst;
+use std::sync::{Mutex, Wait};
 use std::thread;
 use std::thread::Threads;
 
-/// So many threads look so often while another publishes. Says whether each saw whole pairs that never fell.
+/// So many threads look so often while another publishes, which keeps a lock all the while. Says whether each saw whole pairs that never fell, and sees the
+/// last one when they are done.
 pub fn look_together<R: Threads + Wait + Sync>(
     rt: &R,
     alloc: Global,
@@ -22,16 +23,16 @@ pub fn look_together<R: Threads + Wait + Sync>(
         publisher,
         reader,
     } = EpochBoard::new(alloc)?;
-    let mut ledger = Ledger {
+    let ledger = Mutex::new(Ledger {
         board: &board,
         publisher,
-    };
+    });
     let mut first = Watch {
         board: &board,
         pass: reader,
         rises: true,
     };
-    let looked = look_with(rt, alloc, &mut ledger, &mut first, threads, looks);
+    let looked = look_with(rt, alloc, &ledger, &mut first, threads, looks);
     drop(first);
     drop(ledger);
     drop(board);
@@ -42,7 +43,7 @@ pub fn look_together<R: Threads + Wait + Sync>(
 fn look_with<R: Threads + Wait + Sync>(
     rt: &R,
     alloc: Global,
-    ledger: &mut Ledger,
+    ledger: &Mutex<Ledger>,
     first: &mut Watch,
     threads: u32,
     looks: u32,
@@ -71,17 +72,21 @@ fn add_watches<'a>(
 /// Each looks so often while another one publishes.
 fn look_on<R: Threads + Wait + Sync>(
     rt: &R,
-    ledger: &mut Ledger,
+    ledger: &Mutex<Ledger>,
     watches: &mut [Watch],
     looks: u32,
 ) -> bool {
     let (done, threads) = (AtomicUsize::new(0), watches.len());
-    thread::join(
+    let ((), last) = thread::join(
         rt,
         || look_all(rt, watches, looks, &done),
         || publish_until(rt, ledger, &done, threads),
     );
-    watches.iter().all(|watch| watch.rises)
+    let mut rise = true;
+    for watch in watches.iter_mut() {
+        rise &= watch.rises_to(last);
+    }
+    rise
 }
 
 /// Each looks so often, in a thread of its own, and is then counted.
@@ -98,14 +103,21 @@ fn look_all<R: Threads + Sync>(rt: &R, watches: &mut [Watch], looks: u32, done: 
     );
 }
 
-/// Publishes ever greater pairs until so many threads are done.
-fn publish_until<R: Wait>(rt: &R, ledger: &mut Ledger, done: &AtomicUsize, threads: usize) {
+/// Publishes ever greater pairs until so many threads are done, and gives the number of the last one. The lock is kept until then.
+fn publish_until<R: Wait>(
+    rt: &R,
+    ledger: &Mutex<Ledger>,
+    done: &AtomicUsize,
+    threads: usize,
+) -> u32 {
+    let mut turn = ledger.lock(rt);
     let mut number = 0u32;
     for _ in rt.forever() {
         if done.load(SeqCst) >= threads {
             break;
         }
         number = number.saturating_add(1);
-        ledger.publish(number);
+        turn.publish(number);
     }
+    number
 }

@@ -45,6 +45,12 @@ impl<'a> Watch<'a> {
             before = seen;
         }
     }
+
+    /// Whether what was seen rises to the pair of this number, which is seen now.
+    pub fn rises_to(&mut self, last: u32) -> bool {
+        let seen = self.board.now(&mut self.pass);
+        self.rises & (seen.epoch == last) & (seen.sequence == last)
+    }
 }
 
 /// Whether this pair has one number twice, and is not less than the one before it.
