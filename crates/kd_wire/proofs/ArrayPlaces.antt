@@ -15,9 +15,9 @@ use Rattle.kd_wire.specs.declared.updates.UpdateKey.{UpdateKey}
 use Rattle.kd_wire.specs.Arrays.{long_type, least_keys, most_keys, head_size, array_head, sealer, update_array, update_attribute}
 use Rattle.kd_wire.specs.Keys.{key_type, has_handle, given_key, given_keys}
 use Rattle.kd_wire.specs.Widths.{lkh_key_octets}
-use Rattle.kd_wire.proofs.ReadingLemmas.{ok_same, and_then_ok}
+use Rattle.gd_wire.proofs.ReadingLemmas.{same_value, and_then_ok}
 use Rattle.kd_wire.proofs.LoopLemmas.{array_by}
-use Rattle.kd_wire.proofs.ReadsLemmas.{cursor, Reads, reads_then, reads_here, reads_assoc, part_read}
+use Rattle.gd_wire.proofs.ReadsLemmas.{cursor, Reads, reads_then, reads_here, reads_assoc, part_read}
 use Rattle.kd_wire.proofs.PlaceLemmas.{Passed, passed_both, IsLocal, local_then, local_next, local_here, local_give, local_check}
 use Rattle.kd_wire.proofs.PlaceLemmas.{local_always, part_took, local_octets, local_number, local_long_number, local_due_octet}
 use Rattle.kd_wire.proofs.PlaceLemmas.{local_due_number}
@@ -148,7 +148,7 @@ local_long_type =
 
 pub back_ok : {A : Type 0} (mid after : Cursor) (value : A) (read : Result (A × Cursor) WireFault) → back_to mid read ≡ Ok (value, after)
     → (end : Cursor) × (read ≡ Ok (value, end)) × (mid ≡ after)
-back_ok mid after value (Ok read) is = let same = ok_same (read.0, mid) (value, after) is in
+back_ok mid after value (Ok read) is = let same = same_value (read.0, mid) (value, after) is in
     (read.1, (λ i. Ok ((same i).0, read.1)), ap (λ read. read.1) same)
 back_ok mid after value (Err fault) is = absurd (cc)
 

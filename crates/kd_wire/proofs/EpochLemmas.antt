@@ -24,11 +24,11 @@ use Rattle.kd_wire.specs.UpdateTexts.{OneEpoch}
 use Rattle.kd_wire.specs.Private.Seen.{handle_of_given}
 use Rattle.kd_wire.specs.Spis.{spi_place}
 use Rattle.kd_wire.specs.Traffic.{traffic}
-use Rattle.kd_wire.proofs.ReadingLemmas.{value_ok}
+use Rattle.gd_wire.proofs.ReadingLemmas.{value_ok}
 use Rattle.kd_wire.proofs.LoopLemmas.{array_by, handle_same}
 use Rattle.kd_wire.proofs.FormLemmas.{both_true, alone_of, both_of, given_of}
-use Rattle.kd_wire.proofs.AlwaysLemmas.{Always, always_give, always_if, always_check, always_inside, always_so, always_from, always_then}
-use Rattle.kd_wire.proofs.AlwaysLemmas.{always_next}
+use Rattle.gd_wire.proofs.AlwaysLemmas.{Always, always_give, always_if, always_check, always_inside, always_so, always_from, always_then}
+use Rattle.gd_wire.proofs.AlwaysLemmas.{always_next}
 
 -- ---- the keys of an array
 

@@ -20,9 +20,9 @@ use Rattle.kd_wire.specs.Traffic.{traffic}
 use Rattle.kd_wire.specs.Texts.{IsPath, LeadsUp}
 use Rattle.kd_wire.specs.Views.{GivesTraffic, GivesUpdates, GivesPath}
 use Rattle.kd_wire.proofs.WrittenKeys.{AboveFirst}
-use Rattle.kd_wire.proofs.ReadingLemmas.{value_ok}
-use Rattle.kd_wire.proofs.AlwaysLemmas.{Always, always_give, always_if, always_check, always_inside, always_so, always_from, always_then}
-use Rattle.kd_wire.proofs.AlwaysLemmas.{always_next}
+use Rattle.gd_wire.proofs.ReadingLemmas.{value_ok}
+use Rattle.gd_wire.proofs.AlwaysLemmas.{Always, always_give, always_if, always_check, always_inside, always_so, always_from, always_then}
+use Rattle.gd_wire.proofs.AlwaysLemmas.{always_next}
 
 pub both_true : (a b : Bool) → (a && b) ≡ true → (a ≡ true) × (b ≡ true)
 both_true true b is = (refl, is)

@@ -1,4 +1,3 @@
-pub mod AlwaysLemmas
 pub mod ArrayPlaces
 pub mod EpochLemmas
 pub mod FormLemmas
@@ -7,8 +6,6 @@ pub mod KeyFacts
 pub mod LoopLemmas
 pub mod NextPlaces
 pub mod PlaceLemmas
-pub mod ReadingLemmas
-pub mod ReadsLemmas
 pub mod SealedLemmas
 pub mod SizeLemmas
 pub mod SkipPlaces

@@ -8,7 +8,7 @@ use Rattle.group_terms.specs.declared.wires.WireFault.{WireFault}
 use Rattle.gd_wire.specs.declared.attributes.Attribute.{Attribute}
 use Rattle.gd_wire.specs.Attributes.{attribute, next_has_kind}
 use Rattle.gd_wire.specs.Readings.{Cursor, and_then, ◌>>=◌, ◌>>◌, mapped, give}
-use Rattle.kd_wire.proofs.ReadingLemmas.{mapped_step, mapped_ok, and_then_ok, ok_same, or_assoc}
+use Rattle.gd_wire.proofs.ReadingLemmas.{mapped_step, mapped_ok, and_then_ok, same_value}
 use Rattle.kd_wire.specs.declared.arrays.Found.{Found}
 use Rattle.kd_wire.specs.declared.arrays.Seen.{Seen}
 use Rattle.kd_wire.specs.declared.arrays.SeenArray.{SeenArray}
@@ -18,6 +18,10 @@ use Rattle.kd_wire.specs.Arrays.{signature_keys_of, next_update, PlacedArray, ar
 use Rattle.kd_wire.specs.Keys.{path_key, path_keys, given_key, given_keys}
 use Rattle.kd_wire.specs.Seals.{sealed_under, handle_after, is_root, read_or_none, keys_left}
 use Rattle.kd_wire.specs.Private.Seen.{handle_of_given, seen_after, with_seen, found_after}
+
+or_assoc : (a b c : Bool) → (a || (b || c)) ≡ ((a || b) || c)
+or_assoc true b c = refl
+or_assoc false b c = refl
 
 -- ---- signature keys
 
@@ -72,14 +76,14 @@ given_step seen left more cursor after key one is =
 pub keys_are_left : (count : ℕ) (handle : Option ℕ) (cursor after : Cursor) (keys : List UpdateKey) → given_keys count handle cursor
     ≡ Ok (keys, after)
     → keys_left count handle cursor ≡ keys
-keys_are_left zero handle cursor after keys is = ap (λ read. read.0) (ok_same ([], cursor) (keys, after) is)
+keys_are_left zero handle cursor after keys is = ap (λ read. read.0) (same_value ([], cursor) (keys, after) is)
 keys_are_left (suc more) handle cursor after keys is =
     let key = and_then_ok (given_key handle cursor) (λ (key : UpdateKey). given_keys more (Some key.made)
     >>= λ (keys : List UpdateKey). give (key ∷ keys)) keys after is in
     let rest = and_then_ok (given_keys more (Some key.0.made) key.1) (λ (keys : List UpdateKey). give (key.0 ∷ keys)) keys after key.3 in
     ap (λ (r : Result (UpdateKey × Cursor) WireFault). read_or_none r (λ key next. key ∷ keys_left more (Some key.made) next)) key.2
     ∙ ap (λ keys. key.0 ∷ keys) (keys_are_left more (Some key.0.made) key.1 rest.1 rest.0 rest.2)
-    ∙ ap (λ read. read.0) (ok_same (key.0 ∷ rest.0, rest.1) (keys, after) rest.3)
+    ∙ ap (λ read. read.0) (same_value (key.0 ∷ rest.0, rest.1) (keys, after) rest.3)
 
 root_same : (by made : ℕ) (keys : List UpdateKey) → list_any is_root (sealed_under by made keys)
     ≡ list_any (λ (key : UpdateKey). key.id == 1) keys

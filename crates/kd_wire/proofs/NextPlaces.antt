@@ -15,8 +15,8 @@ use Rattle.gd_wire.specs.Faults.{fault_at}
 use Rattle.gd_wire.specs.Readings.{Cursor, Reading, and_then, ◌>>=◌, ◌>>◌, give, here, ended, check, octets, part, number, inside}
 use Rattle.kd_wire.specs.declared.updates.UpdateArray.{UpdateArray}
 use Rattle.kd_wire.specs.Arrays.{long_type, signature_keys_of, signature_keys, update_array, update_attribute, next_update}
-use Rattle.kd_wire.proofs.ReadingLemmas.{ok_same, and_then_ok}
-use Rattle.kd_wire.proofs.ReadsLemmas.{cursor, Reads}
+use Rattle.gd_wire.proofs.ReadingLemmas.{same_value, and_then_ok}
+use Rattle.gd_wire.proofs.ReadsLemmas.{cursor, Reads}
 use Rattle.kd_wire.proofs.PlaceLemmas.{Passed, passed_none, passed_both}
 use Rattle.kd_wire.proofs.ArrayPlaces.{local_attribute}
 use Rattle.kd_wire.proofs.FormLemmas.{both_true}
@@ -65,7 +65,7 @@ keys_again first rest left (suc more) count base at enough one later is =
 key_took : (more : ℕ) (c mid : Cursor) → ((c : Cursor) → signature_keys_of more c ≡ Ok (tt, mid) → KeysTook c mid) → (is_one : Bool)
     → has c.left ≡ is_one
     → (if is_one then (attribute >> signature_keys_of more) else give tt) c ≡ Ok (tt, mid) → KeysTook c mid
-key_took more c mid later false none is = no_keys_took c mid (ap (λ read. read.1) (ok_same (tt, c) (tt, mid) is))
+key_took more c mid later false none is = no_keys_took c mid (ap (λ read. read.1) (same_value (tt, c) (tt, mid) is))
 key_took more c mid later true one is =
     let read = and_then_ok (attribute c) (λ (done : Attribute). signature_keys_of more) tt mid is in
     let first = attribute_moves c read.1 read.0 read.2 in
@@ -82,7 +82,7 @@ key_took more c mid later true one is =
     }
 
 keys_took : (most : ℕ) (c mid : Cursor) → signature_keys_of most c ≡ Ok (tt, mid) → KeysTook c mid
-keys_took zero c mid is = no_keys_took c mid (ap (λ read. read.1) (ok_same (tt, c) (tt, mid) is))
+keys_took zero c mid is = no_keys_took c mid (ap (λ read. read.1) (same_value (tt, c) (tt, mid) is))
 keys_took (suc more) c mid is = key_took more c mid (λ c is. keys_took more c mid is) (has c.left) refl is
 
 -- ---- an array
@@ -104,7 +104,7 @@ array_ends handle c after array is =
     let first = (both_true (list_any (λ kind. kind == read.0.kind) (2 ∷ [])) (not read.0.is_short) due).0 in
     let two : 2 ≡ read.0.kind = eqb-true 2 read.0.kind (sym (or-false (2 == read.0.kind)) ∙ first) in
     let kind : told.0 % 32768 ≡ read.0.kind = ap (λ (read : AttributeType × Cursor). read.0.kind)
-    (ok_same (record { kind = told.0 % 32768; is_short = nat_le 32768 told.0 }, told.1) (read.0, read.1) told.3) in
+    (same_value (record { kind = told.0 % 32768; is_short = nat_le 32768 told.0 }, told.1) (read.0, read.1) told.3) in
     let value : big_from 0 2 c.left ≡ told.0 = number_is c told.1 told.0 told.2 in
     let same : big_from 0 2 c.left % 32768 ≡ 2 = ap (λ value. value % 32768) value ∙ kind ∙ sym two in
     ap (λ kind. nat_le 2 (length c.left) && (kind == 3)) same ∙ and_false (nat_le 2 (length c.left))
@@ -155,10 +155,10 @@ none_found = None
 some_of : (handle : Option ℕ) (nothing : Bool) (mid after : Cursor) (array : UpdateArray) → after_keys handle nothing mid
     ≡ Ok (Some array, after) → update_attribute handle mid ≡ Ok (array, after)
 some_of handle true mid after array is = let none : none_found ≡ Some array =
-    ap (λ (read : Option UpdateArray × Cursor). read.0) (ok_same (none_found, mid) (Some array, after) is) in absurd (cc)
+    ap (λ (read : Option UpdateArray × Cursor). read.0) (same_value (none_found, mid) (Some array, after) is) in absurd (cc)
 some_of handle false mid after array is =
     let read = and_then_ok (update_attribute handle mid) (λ (array : UpdateArray). give (Some array)) (Some array) after is in
-    let same = ok_same (Some read.0, read.1) (Some array, after) read.3 in
+    let same = same_value (Some read.0, read.1) (Some array, after) read.3 in
     let found : Some read.0 ≡ Some array = ap (λ (read : Option UpdateArray × Cursor). read.0) same in
     let one : read.0 ≡ array = cc in
     read.2 ∙ (λ i. Ok (one i, (same i).1))

@@ -14,8 +14,8 @@ use Rattle.group_terms.specs.declared.wires.WireWhat.{WireWhat}
 use Rattle.group_terms.specs.declared.wires.WireWhat.TheVariants.{Short, Kind}
 use Rattle.gd_wire.specs.Readings.{Cursor, Reading, ◌>>=◌, ◌>>◌, give, here, check, octets, part, octet, number, long_number, due_octet}
 use Rattle.gd_wire.specs.Readings.{due_number, due_kind}
-use Rattle.kd_wire.proofs.ReadingLemmas.{ok_same, and_then_ok}
-use Rattle.kd_wire.proofs.ReadsLemmas.{cursor, Reads, reads_then, reads_here, reads_give, reads_octets}
+use Rattle.gd_wire.proofs.ReadingLemmas.{same_value, and_then_ok}
+use Rattle.gd_wire.proofs.ReadsLemmas.{cursor, Reads, reads_then, reads_here, reads_give, reads_octets}
 
 -- between two cursors this text was read
 pub record Passed (before after : Cursor) (text : List ℕ) : Type 0 where
@@ -72,7 +72,7 @@ module _ {E A : Type 0} where
   pub local_give : (value : A) → IsLocal (λ (e : E). give value)
   local_give value = record {
     took = λ e before after given is.
-        let same = ok_same (value, before) (given, after) is in
+        let same = same_value (value, before) (given, after) is in
         record {
           text = [];
           passed = subst (λ after. Passed before after []) (ap (λ read. read.1) same) (passed_none before);
@@ -112,7 +112,7 @@ local_checked false what at = record { took = λ e before after value is. absurd
 part_of : (fits : Bool) (field behind v mid : Cursor) (fault : WireFault)
     → if◌then◌else◌ {A = Result (Cursor × Cursor) WireFault} fits (Ok (field, behind)) (Err fault) ≡ Ok (v, mid) → (fits ≡ true)
     × (field ≡ v) × (behind ≡ mid)
-part_of true field behind v mid fault is = let same = ok_same (field, behind) (v, mid) is in
+part_of true field behind v mid fault is = let same = same_value (field, behind) (v, mid) is in
     (refl, ap (λ read. read.0) same, ap (λ read. read.1) same)
 part_of false field behind v mid fault is = absurd (cc)
 
@@ -142,7 +142,7 @@ local_octets size = record {
   took = λ e before after field is.
       let read = and_then_ok (part size Short (before.base + before.at) before) (λ (field : Cursor). give field.left) field after is in
       let part = part_took size Short (before.base + before.at) before read.0 read.1 read.2 in
-      let same = ok_same (read.0.left, read.1) (field, after) read.3 in
+      let same = same_value (read.0.left, read.1) (field, after) read.3 in
       let text = read.0.left in
       record {
         text = text;

@@ -7,7 +7,7 @@ use Rattle.kd_wire.specs.Keys.{has_handle}
 use Rattle.kd_wire.specs.Texts.{Sealed, SealedFits, PathKeyFits, IsUpdate}
 use Rattle.kd_wire.specs.UpdateTexts.{array_of}
 use Rattle.kd_wire.specs.Widths.{update_octets}
-use Rattle.kd_wire.proofs.ReadsLemmas.{cursor}
+use Rattle.gd_wire.proofs.ReadsLemmas.{cursor}
 use Rattle.kd_wire.proofs.WrittenUpdates.{next_reads, text_long}
 
 module _ (job : WrapJob) (text : List ℕ) (by : PathKeyFits job.by) (gives : PathKeyFits job.gives) (is : IsUpdate job text) where

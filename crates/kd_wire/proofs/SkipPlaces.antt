@@ -16,8 +16,8 @@ use Rattle.gd_wire.specs.Attributes.{attribute_type, short_value, long_value, lo
 use Rattle.gd_wire.specs.Readings.{Cursor, Reading, and_then, ◌>>=◌, ◌>>◌, give, here, place, ended, check, octets, part, number}
 use Rattle.kd_wire.specs.declared.updates.UpdateArray.{UpdateArray}
 use Rattle.kd_wire.specs.Arrays.{long_type, signature_keys_of, signature_keys, update_attribute, next_update}
-use Rattle.kd_wire.proofs.ReadingLemmas.{ok_same, and_then_ok}
-use Rattle.kd_wire.proofs.ReadsLemmas.{cursor, part_read}
+use Rattle.gd_wire.proofs.ReadingLemmas.{same_value, and_then_ok}
+use Rattle.gd_wire.proofs.ReadsLemmas.{cursor, part_read}
 use Rattle.kd_wire.proofs.PlaceLemmas.{Passed, passed_both, Took, IsLocal, local_then, local_give, part_took, local_number}
 use Rattle.kd_wire.proofs.ArrayPlaces.{Nothing, local_attribute_type}
 
@@ -72,7 +72,7 @@ moves_made first next total before after given moves is =
     let read = and_then_ok (first before) next given after is in
     let one = moves read.0 read.1 read.2 in
     let made = total read.0 read.1 in
-    let same = ok_same (made.0, read.1) (given, after) (sym made.1 ∙ read.3) in
+    let same = same_value (made.0, read.1) (given, after) (sym made.1 ∙ read.3) in
     record {
       text = one.text;
       passed = subst (λ after. Passed before after one.text) (ap (λ read. read.1) same) one.passed;
@@ -150,7 +150,7 @@ number_of : (fits : Bool) (field behind : Cursor) (fault : WireFault) (value : �
     → and_then (and_then (if◌then◌else◌ {A = Result (Cursor × Cursor) WireFault} fits (Ok (field, behind)) (Err fault))
     (λ (field : Cursor). give field.left)) (λ (field : List ℕ). give (big_from 0 2 field)) ≡ Ok (value, after)
     → big_from 0 2 field.left ≡ value
-number_of true field behind fault value after is = ap (λ read. read.0) (ok_same (big_from 0 2 field.left, behind) (value, after) is)
+number_of true field behind fault value after is = ap (λ read. read.0) (same_value (big_from 0 2 field.left, behind) (value, after) is)
 number_of false field behind fault value after is = absurd (cc)
 
 pub number_is : (c after : Cursor) (value : ℕ) → number c ≡ Ok (value, after) → big_from 0 2 c.left ≡ value

@@ -12,14 +12,14 @@ use Rattle.kd_wire.specs.Arrays.{PlacedUpdates, updates, gives_root}
 use Rattle.kd_wire.specs.Bodies.{Kd, kd, kd_of, update_packet, traffic_alone, updates_alone, one_packet, two_packets}
 use Rattle.kd_wire.specs.Spans.{span_arrays}
 use Rattle.kd_wire.specs.Spis.{spi_place}
-use Rattle.kd_wire.proofs.AlwaysLemmas.{Always, always_give, always_check, always_then, always_next}
+use Rattle.gd_wire.proofs.AlwaysLemmas.{Always, always_give, always_check, always_then, always_next}
 use Rattle.kd_wire.proofs.ArrayPlaces.{back_ok}
 use Rattle.kd_wire.proofs.EpochLemmas.{NoUpdates, traffic_none, two_none}
 use Rattle.kd_wire.proofs.FormLemmas.{given_of}
 use Rattle.kd_wire.proofs.PlaceLemmas.{Passed, PartTook, part_took, local_octets, local_number, local_due_octet, local_due_number}
 use Rattle.kd_wire.proofs.PlaceLemmas.{local_due_kind}
-use Rattle.kd_wire.proofs.ReadingLemmas.{ok_same, and_then_ok, value_ok}
-use Rattle.kd_wire.proofs.ReadsLemmas.{cursor}
+use Rattle.gd_wire.proofs.ReadingLemmas.{same_value, and_then_ok, value_ok}
+use Rattle.gd_wire.proofs.ReadsLemmas.{cursor}
 use Rattle.kd_wire.proofs.SpanPlaces.{updates_took, span_has}
 
 -- what is left at a cursor stands in this body, at its place
@@ -77,7 +77,7 @@ section_stands body kinds c after packet stands is =
     let three = local_number.took tt zero_read.1 size.1 size.0 size.2 in
     let there = moved body zero_read.1 size.1 three.text three.passed (moved body kind.1 zero_read.1 two.text two.passed
     (moved body c kind.1 one.text one.passed stands)) in
-    subst (Stands body) (ap (λ (read : (ℕ × Cursor) × Cursor). read.0.1) (ok_same ((kind.0, field.0), field.1) (packet, after) field.3))
+    subst (Stands body) (ap (λ (read : (ℕ × Cursor) × Cursor). read.0.1) (same_value ((kind.0, field.0), field.1) (packet, after) field.3))
     (parted body (size.0 - 4) size.1 field.0 field.1 (part_took (size.0 - 4) Length at size.1 field.0 field.1 field.2) there)
 
 -- the span of a packet with update arrays has them
@@ -93,7 +93,7 @@ packet_has body packet after lkh small stands is =
     let spi = and_then_ok (octets rekey_spi_octets sized.1) (λ (spi : List ℕ). updates >>= given sized.0 spi) lkh after sized.3 in
     let placed = and_then_ok (updates spi.1) (given sized.0 spi.0) lkh after spi.3 in
     let one = (local_due_octet rekey_spi_octets Value).took tt packet octet.1 octet.0 octet.2 in
-    let same : octet.1 ≡ sized.1 = ap (λ (read : ℕ × Cursor). read.1) (ok_same (octet.1.base + octet.1.at, octet.1) (sized.0, sized.1)
+    let same : octet.1 ≡ sized.1 = ap (λ (read : ℕ × Cursor). read.1) (same_value (octet.1.base + octet.1.at, octet.1) (sized.0, sized.1)
     octet.3) in
     let two = (local_octets rekey_spi_octets).took tt sized.1 spi.1 spi.0 spi.2 in
     let there = moved body sized.1 spi.1 two.text two.passed (subst (Stands body) same
@@ -109,7 +109,7 @@ packet_has body packet after lkh small stands is =
     let has = span_has body (there.before ++ found.before) found.text (found.later ++ there.later) placed.0.span placed.0.arrays small whole
     start found.end (found.again 0 0 []) in
     subst (λ (lkh : ℕ × (List ℕ × PlacedUpdates)). span_arrays lkh.1.1.span body ≡ lkh.1.1.arrays)
-    (ap (λ (read : (ℕ × (List ℕ × PlacedUpdates)) × Cursor). read.0) (ok_same ((sized.0, (spi.0, placed.0)), placed.1) (lkh, after)
+    (ap (λ (read : (ℕ × (List ℕ × PlacedUpdates)) × Cursor). read.0) (same_value ((sized.0, (spi.0, placed.0)), placed.1) (lkh, after)
     placed.3)) has
 
 -- ---- a whole body

@@ -12,8 +12,8 @@ use Rattle.kd_wire.specs.Arrays.{signature_keys, update_attribute, next_update, 
 use Rattle.kd_wire.specs.Arrays.{PlacedUpdates, updates}
 use Rattle.kd_wire.specs.Seals.{handle_after, read_or_none}
 use Rattle.kd_wire.specs.Spans.{found_or_none, arrays_left, span_arrays}
-use Rattle.kd_wire.proofs.ReadingLemmas.{ok_same, and_then_ok}
-use Rattle.kd_wire.proofs.ReadsLemmas.{cursor}
+use Rattle.gd_wire.proofs.ReadingLemmas.{same_value, and_then_ok}
+use Rattle.gd_wire.proofs.ReadsLemmas.{cursor}
 use Rattle.kd_wire.proofs.NextPlaces.{NextTook, next_took, first_took, keys_passed}
 
 -- some arrays that were read are read again from their text
@@ -57,19 +57,19 @@ found_took : (more : ℕ) (handle : Option ℕ) (c mid after : Cursor) (next : O
     → ((handle : Option ℕ) (c after : Cursor) (placed : List PlacedArray) → more_updates more handle c ≡ Ok (placed, after)
     → ArraysTook handle c placed) → ArraysTook handle c placed
 found_took more handle c mid after None placed is rest later = no_arrays handle c placed
-    (ap (λ (read : List PlacedArray × Cursor). read.0) (ok_same ([], mid) (placed, after) rest))
+    (ap (λ (read : List PlacedArray × Cursor). read.0) (same_value ([], mid) (placed, after) rest))
 found_took more handle c mid after (Some array) placed is rest later =
     let read = and_then_ok (more_updates more (handle_after handle array.keys) mid)
     (λ (arrays : List PlacedArray). give (record { array = array; end = mid.at } ∷ arrays)) placed after rest in
     let others = later (handle_after handle array.keys) mid read.1 read.0 read.2 in
     subst (ArraysTook handle c) (ap (λ (read : List PlacedArray × Cursor). read.0)
-    (ok_same (record { array = array; end = mid.at } ∷ read.0, read.1) (placed, after) read.3))
+    (same_value (record { array = array; end = mid.at } ∷ read.0, read.1) (placed, after) read.3))
     (one_more handle c mid array read.0 (next_took handle c mid array is) others)
 
 more_took : (most : ℕ) (handle : Option ℕ) (c after : Cursor) (placed : List PlacedArray) → more_updates most handle c ≡ Ok (placed, after)
     → ArraysTook handle c placed
 more_took zero handle c after placed is = no_arrays handle c placed (ap (λ (read : List PlacedArray × Cursor). read.0)
-    (ok_same ([], c) (placed, after) is))
+    (same_value ([], c) (placed, after) is))
 more_took (suc more) handle c after placed is =
     let read = and_then_ok (next_update handle c) (λ (next : Option UpdateArray). place >>= λ end. placed_next more handle end next) placed
     after is in
@@ -108,7 +108,7 @@ updates_took c after placed is =
     (λ (more : List PlacedArray). give (placed_of mid.at first.0 next.at more)) placed after first.3 in
     let others = more_took (length mid.left - 1) (handle_after None first.0.keys) next more.1 more.0 more.2 in
     let all = one_more None mid next first.0 more.0 (first_took None mid next first.0 first.2) others in
-    subst (SpanTook c) (ap (λ (read : PlacedUpdates × Cursor). read.0) (ok_same (placed_of mid.at first.0 next.at more.0, more.1)
+    subst (SpanTook c) (ap (λ (read : PlacedUpdates × Cursor). read.0) (same_value (placed_of mid.at first.0 next.at more.0, more.1)
     (placed, after) more.3)) (record {
       before = passed.0;
       text = all.text;

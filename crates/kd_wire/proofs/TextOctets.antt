@@ -1,27 +1,18 @@
 -- What is written is octets.
 use Rattle.std.proofs.Common.{◌≡◌, ℕ, ◌+◌, List, [], ◌∷◌, ◌++◌, length, arith}
 use Rattle.std.specs.List.{All, flat_map}
-use Rattle.std.proofs.lemmas.List.Elements.{All-nil, All-cons, All-append, All-head, All-tail}
+use Rattle.std.proofs.lemmas.List.Elements.{All-head, All-tail}
 use Rattle.byteorder.specs.Endian.{big_bytes}
 use Rattle.group_terms.specs.Octets.{IsOctet, AreOctets, rekey_spi_octets}
 use Rattle.group_terms.specs.declared.paths.Keyed.{Keyed}
 use Rattle.group_terms.specs.declared.paths.PathKey.{PathKey}
 use Rattle.group_terms.specs.declared.values.TrafficValue.{TrafficValue}
 use Rattle.gd_wire.specs.Attributes.{long_text}
+use Rattle.gd_wire.proofs.OctetLemmas.{none, one_more, both}
 use Rattle.kd_wire.specs.declared.sealing.WrapJob.{WrapJob}
 use Rattle.kd_wire.specs.Texts.{packet_head, packet_text, body_text, key_text, data_of, traffic_text, path_text, download_text, update_text}
 use Rattle.kd_wire.specs.Texts.{updates_text, traffic_kd, update_kd, reply_kd, AreUpdateTexts}
 use Rattle.kd_wire.specs.Texts.{PathKeyFits, TrafficFits, KeyedFits, Sealed, SealedFits}
-
--- no octet, one more in front, and one list of octets after the other
-none : AreOctets []
-none = All-nil IsOctet
-
-one_more : (octet : ℕ) (octets : List ℕ) → IsOctet octet → AreOctets octets → AreOctets (octet ∷ octets)
-one_more octet octets = All-cons IsOctet octet octets
-
-both : (octets more : List ℕ) → AreOctets octets → AreOctets more → AreOctets (octets ++ more)
-both octets more = All-append IsOctet octets more
 
 module _
     (number_octets : (size number : ℕ) → AreOctets (big_bytes size number))

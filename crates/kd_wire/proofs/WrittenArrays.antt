@@ -24,9 +24,9 @@ use Rattle.kd_wire.specs.Seals.{sealed_under}
 use Rattle.kd_wire.specs.Texts.{Sealed, SealedFits, PathKeyFits, IsPath, key_text, key_of, path_text, update_text, download_text}
 use Rattle.kd_wire.specs.UpdateTexts.{array_of}
 use Rattle.kd_wire.proofs.LoopLemmas.{array_by}
-use Rattle.kd_wire.proofs.ReadsLemmas.{cursor, Reads, ReadsAll, and_assoc, reads_all, reads_then, reads_next, reads_made, reads_assoc}
-use Rattle.kd_wire.proofs.ReadsLemmas.{reads_here, reads_check, reads_give, reads_number, reads_long_number, reads_due_octet}
-use Rattle.kd_wire.proofs.ReadsLemmas.{reads_due_number, reads_inside}
+use Rattle.gd_wire.proofs.ReadsLemmas.{cursor, Reads, ReadsAll, and_assoc, reads_all, reads_then, reads_next, reads_made, reads_assoc}
+use Rattle.gd_wire.proofs.ReadsLemmas.{reads_here, reads_check, reads_give, reads_number, reads_long_number, reads_due_octet}
+use Rattle.gd_wire.proofs.ReadsLemmas.{reads_due_number, reads_inside}
 use Rattle.kd_wire.proofs.SizeLemmas.{path_size}
 use Rattle.kd_wire.proofs.WrittenKeys.{not_zero, given_reads, AboveFirst, path_reads}
 

@@ -14,8 +14,9 @@ use Rattle.kd_wire.specs.Bodies.{Kd, kd, kd_of, one_packet, two_packets, traffic
 use Rattle.kd_wire.specs.Spis.{spi_place}
 use Rattle.kd_wire.specs.Texts.{Sealed, AreOfOnePush, packet_text, body_text, updates_text, update_kd}
 use Rattle.kd_wire.specs.UpdateTexts.{AreUpdates}
-use Rattle.kd_wire.proofs.ReadingLemmas.{mapped_ok}
-use Rattle.kd_wire.proofs.ReadsLemmas.{cursor, reads_octets, reads_number, reads_due_octet, reads_due_number, section_read}
+use Rattle.gd_wire.proofs.ReadingLemmas.{mapped_ok}
+use Rattle.gd_wire.proofs.ReadsLemmas.{cursor, reads_octets, reads_number, reads_due_octet, reads_due_number, section_read}
+use Rattle.kd_wire.proofs.FormLemmas.{given_of}
 use Rattle.kd_wire.proofs.WrittenUpdates.{placed_of, updates_read, jobs_long, root_same}
 
 -- ---- what stands before the packets
@@ -76,23 +77,10 @@ lkh_read {A} inner spi attributes given base at after long is =
 
 -- ---- a body with update arrays
 
--- what is given of the place of the SPI, the SPI, and the arrays
-abbrev pub pushed : ℕ × (List ℕ × PlacedUpdates) → Kd
-pushed lkh = record {
-  view = record {
-    tek = None;
-    lkh_spi = Some lkh.1.0;
-    download = [];
-    updates = Some lkh.1.1.span;
-    spis = record { tek = None; lkh = Some lkh.0 };
-  };
-  arrays = lkh.1.1.arrays;
-}
-
 -- where this is read of the text of the arrays, with the root's key, the whole body is read
 pub arrays_read : (spi text : List ℕ) (placed : PlacedUpdates) (base : ℕ) (end_of_text : Cursor) → length spi ≡ rekey_spi_octets → length text ≤ 65000
     → updates (cursor base 25 text) ≡ Ok (placed, end_of_text) → gives_root placed.arrays ≡ true
-    → kd_of base (update_kd spi text) ≡ Ok (pushed (base + 9, (spi, placed)))
+    → kd_of base (update_kd spi text) ≡ Ok (given_of (base + 9, (spi, placed)))
 unfolding one_packet updates_alone update_packet end
 arrays_read spi text placed base end_of_text long few is root =
     let body : List ℕ = lkh_body spi text in
@@ -100,7 +88,7 @@ arrays_read spi text placed base end_of_text long few is root =
     let after : Cursor = cursor base (8 + length body) [] in
     let to_packet : ℕ × Cursor → Reading Kd = λ packet. if packet.0 == 1 then traffic_alone packet.1 else updates_alone packet.1 in
     let to_end : ℕ × (List ℕ × PlacedUpdates) → Reading Kd = λ lkh. end
-    >> (here >>= λ at. check (gives_root lkh.1.1.arrays) Short at >> give (pushed lkh)) in
+    >> (here >>= λ at. check (gives_root lkh.1.1.arrays) Short at >> give (given_of lkh)) in
     ap value_of (
     one_of (packet_text 3 spi text) base
     ∙ ap (λ left. one_packet (cursor base 4 left)) (lkh_text spi text long)
@@ -108,12 +96,12 @@ arrays_read spi text placed base end_of_text long few is root =
     (section_read (1 ∷ 3 ∷ []) 3 body base 4 [] refl (omega (arith, size, few)))
     ∙ ap (λ (read : Result ((ℕ × (List ℕ × PlacedUpdates)) × Cursor) WireFault). and_then (back_to after read) to_end)
     (lkh_read updates spi text placed base 8 end_of_text long is)
-    ∙ ap (λ root. (check root Short (base + (8 + length body)) >> give (pushed (base + 9, (spi, placed)))) after) root
+    ∙ ap (λ root. (check root Short (base + (8 + length body)) >> give (given_of (base + 9, (spi, placed)))) after) root
     )
 
 -- so that with the arrays of a push is
 pub push_reads : (spi : List ℕ) (jobs : List Sealed) (base : ℕ) → length spi ≡ rekey_spi_octets → AreOfOnePush jobs
-    → kd_of base (update_kd spi (updates_text jobs)) ≡ Ok (pushed (base + 9, (spi, placed_of 25 jobs)))
+    → kd_of base (update_kd spi (updates_text jobs)) ≡ Ok (given_of (base + 9, (spi, placed_of 25 jobs)))
 push_reads spi jobs base long push =
     let few = push.few in
     arrays_read spi (updates_text jobs) (placed_of 25 jobs) base (cursor base (25 + 64 * length jobs) []) long
@@ -121,12 +109,12 @@ push_reads spi jobs base long push =
 
 -- and that with any text of update attributes
 pub text_reads : (spi text : List ℕ) (arrays : List UpdateArray) (base : ℕ) → length spi ≡ rekey_spi_octets → length text ≤ 65000 → AreUpdates arrays text
-    → (span : UpdateSpan) × (kd_of base (update_kd spi text) ≡ Ok (pushed (base + 9, (spi, record { arrays = arrays; span = span }))))
+    → (span : UpdateSpan) × (kd_of base (update_kd spi text) ≡ Ok (given_of (base + 9, (spi, record { arrays = arrays; span = span }))))
 text_reads spi text arrays base long few are =
     let end_of_text = cursor base (25 + length text) [] in
     let read = mapped_ok (λ (placed : PlacedUpdates). placed.arrays) (updates (cursor base 25 text)) arrays end_of_text (are.reads base 25) in
     let root : gives_root read.0.arrays ≡ true = ap gives_root read.2 ∙ are.root in (
       read.0.span,
       arrays_read spi text read.0 base end_of_text long few read.1 root
-          ∙ ap (λ arrays. Ok (pushed (base + 9, (spi, record { arrays = arrays; span = read.0.span })))) read.2,
+          ∙ ap (λ arrays. Ok (given_of (base + 9, (spi, record { arrays = arrays; span = read.0.span })))) read.2,
     )

@@ -12,8 +12,8 @@ use Rattle.gd_wire.specs.Readings.{Reading, ◌>>=◌, ◌>>◌, here, give, che
 use Rattle.kd_wire.specs.declared.updates.UpdateKey.{UpdateKey}
 use Rattle.kd_wire.specs.Keys.{key_type, is_above, is_on_path, path_key, path_keys, has_handle, given_key}
 use Rattle.kd_wire.specs.Texts.{key_text, data_of, path_text, PathKeyFits, LeadsUp}
-use Rattle.kd_wire.proofs.ReadsLemmas.{Reads, reads_then, reads_next, reads_made, reads_give, reads_here, reads_check, reads_octets}
-use Rattle.kd_wire.proofs.ReadsLemmas.{reads_number, reads_long_number, reads_due_octet}
+use Rattle.gd_wire.proofs.ReadsLemmas.{Reads, reads_then, reads_next, reads_made, reads_give, reads_here, reads_check, reads_octets}
+use Rattle.gd_wire.proofs.ReadsLemmas.{reads_number, reads_long_number, reads_due_octet}
 
 type_reads : Reads key_type (3 ∷ 0 ∷ []) tt
 unfolding key_type

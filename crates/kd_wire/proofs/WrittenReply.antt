@@ -16,7 +16,8 @@ use Rattle.kd_wire.specs.Bodies.{Kd, kd_view, two_packets, download_packet}
 use Rattle.kd_wire.specs.Spis.{spi_place}
 use Rattle.kd_wire.specs.Texts.{packet_text, traffic_text, download_text, reply_kd, TrafficFits, KeyedFits}
 use Rattle.kd_wire.specs.Traffic.{traffic, traffic_keys, key_kind, cipher_key_first}
-use Rattle.kd_wire.proofs.ReadsLemmas.{cursor, section_read}
+use Rattle.gd_wire.proofs.ReadsLemmas.{cursor, section_read}
+use Rattle.kd_wire.proofs.FormLemmas.{both_of}
 use Rattle.kd_wire.proofs.SizeLemmas.{path_size}
 use Rattle.kd_wire.proofs.WrittenArrays.{download_read}
 use Rattle.kd_wire.proofs.WrittenBodies.{two_of, lkh_body, lkh_text, lkh_read}
@@ -72,18 +73,7 @@ reply_reads keyed base fits =
           attributes,
     ) in
     let after : Cursor = cursor base (73 + length body) [] in
-    let given : ℕ × TrafficValue → ℕ × (List ℕ × List PathKey) → Kd = λ tek lkh. record {
-      view = record {
-        tek = Some tek.1;
-        lkh_spi = Some lkh.1.0;
-        download = lkh.1.1;
-        updates = None;
-        spis =
-            record { tek = Some tek.0; lkh = Some lkh.0 };
-      };
-      arrays = [];
-    } in
-    let to_end : ℕ × TrafficValue → ℕ × (List ℕ × List PathKey) → Reading Kd = λ tek lkh. end >> give (given tek lkh) in
+    let to_end : ℕ × TrafficValue → ℕ × (List ℕ × List PathKey) → Reading Kd = λ tek lkh. end >> give (both_of tek lkh) in
     let to_second : ℕ × TrafficValue → ℕ × Cursor → Reading Kd = λ tek second. inside second.1 download_packet >>= to_end tek in
     let to_section : ℕ × TrafficValue → Reading Kd = λ tek. section (3 ∷ []) >>= to_second tek in
     let to_first : ℕ × Cursor → Reading Kd = λ first. inside first.1 traffic >>= to_section in

@@ -4,7 +4,7 @@ use Rattle.std.specs.List.{range_with_len}
 use Rattle.gd_wire.specs.Readings.{octet_at}
 use Rattle.gd_wire.specs.Readings.{part, octets, octet, number, long_number, due_octet, due_number, due_kind, section, end}
 use Rattle.gd_wire.specs.Attributes.{attribute_type, no_more_attributes}
-use Rattle.kd_wire.proofs.TextLemmas.{written_out}
+use Rattle.gd_wire.proofs.FieldLemmas.{written_out}
 use Rattle.group_terms.specs.declared.values.TrafficValue.{TrafficValue}
 use Rattle.kd_wire.specs.Arrays.{long_type}
 use Rattle.kd_wire.specs.Bodies.{kd, one_packet, traffic_alone, kd_view}

@@ -15,7 +15,7 @@ use Rattle.kd_wire.specs.Keys.{has_handle}
 use Rattle.kd_wire.specs.Seals.{handle_after}
 use Rattle.kd_wire.specs.Texts.{Sealed, SealedFits, AreOfOnePush, update_text, updates_text}
 use Rattle.kd_wire.specs.UpdateTexts.{AreUpdates, array_of}
-use Rattle.kd_wire.proofs.ReadsLemmas.{cursor}
+use Rattle.gd_wire.proofs.ReadsLemmas.{cursor}
 use Rattle.kd_wire.proofs.WrittenArrays.{none_of, and_false, attribute_reads}
 
 -- ---- no signature keys

@@ -6,9 +6,10 @@ ghost use Rattle.kd_wire.specs.Arrays.{long_type, signature_keys, head_size, lea
 ghost use Rattle.kd_wire.specs.Arrays.{update_attribute, next_update, more_updates, updates};
 ghost use Rattle.kd_wire.specs.Private.Seen.{seen_after, with_seen, found_after, seen_updates};
 
-use crate::keys::{KEY_SIZE, given_key};
+use crate::keys::given_key;
 use crate::spans::UpdateSpan;
 use crate::updates::{SealedKeys, UpdateArray, UpdateKey};
+use crate::widths::{DOWNLOAD_ARRAY_HEAD, LKH_KEY_OCTETS, UPDATE_ARRAY_HEAD};
 use gd_wire::{Reader, attribute_type, fault, long_value, next_attribute, next_has_kind};
 use group_terms::{LkhId, WireFault, WireWhat};
 
@@ -35,8 +36,8 @@ impl ArrayKind {
         ensures { result ≡ head_size self }
     {
         match self {
-            ArrayKind::Download => 4,
-            ArrayKind::Update => 12,
+            ArrayKind::Download => DOWNLOAD_ARRAY_HEAD,
+            ArrayKind::Update => UPDATE_ARRAY_HEAD,
         }
     }
 
@@ -96,7 +97,7 @@ pub(crate) fn array_head(
     if !kind.takes(count) {
         return Err(fault(WireWhat::Value, at));
     }
-    if size != kind.head_size() + KEY_SIZE * usize::from(count) {
+    if size != kind.head_size() + LKH_KEY_OCTETS * usize::from(count) {
         return Err(fault(WireWhat::Length, length_at));
     }
     text.due_octet(0, WireWhat::Reserved)?;

@@ -9,6 +9,7 @@ use crate::downloads::download;
 use crate::spans::UpdateSpan;
 use crate::spis::{SpiPlaces, spi_place};
 use crate::traffic::traffic;
+use crate::widths::REKEY_SPI_SIZE;
 use gd_wire::{Reader, fault};
 use group_terms::{Path, TrafficValue, WireFault, WireWhat};
 
@@ -16,9 +17,6 @@ use group_terms::{Path, TrafficValue, WireFault, WireWhat};
 pub(crate) const TEK: u8 = 1;
 
 pub(crate) const LKH: u8 = 3;
-
-/// The size of the SPI of a packet for keys of the tree.
-pub(crate) const LKH_SPI_SIZE: u8 = 16;
 
 /// What a key download payload gives (RFC 6407 section 5.6): a traffic key alone; the SPI of rekey datagrams and where update arrays stand;
 /// or a traffic key, that SPI, and the keys of a path.
@@ -107,7 +105,7 @@ struct UpdatePacket {
 fn update_packet(text: &mut Reader<'_>) -> Result<UpdatePacket, WireFault>
     ensures { Gives result text.new (mapped seen_packet (update_packet text.old)) }
 {
-    let spi_at = spi_place(LKH_SPI_SIZE, text)?;
+    let spi_at = spi_place(REKEY_SPI_SIZE, text)?;
     let spi = text.array()?;
     let updates = updates(text)?;
     Ok(UpdatePacket {
@@ -145,7 +143,7 @@ fn updates_alone(packet: Reader<'_>, text: &mut Reader<'_>) -> Result<KdView, Wi
 fn download_packet(text: &mut Reader<'_>) -> Result<(u32, ([u8; 16], Path)), WireFault>
     ensures { Gives result text.new (download_packet text.old) }
 {
-    let at = spi_place(LKH_SPI_SIZE, text)?;
+    let at = spi_place(REKEY_SPI_SIZE, text)?;
     let spi = text.array()?;
     let path = download(text)?;
     Ok((at, (spi, path)))

@@ -1,21 +1,12 @@
 //! That values fit what is written of them, as their types say.
-ghost use Rattle.std.specs.Prelude.{◌≡◌, ◌<◌, length, All};
+ghost use Rattle.std.specs.Prelude.{◌≡◌, length, All};
 ghost use Rattle.group_terms.specs.Octets.{AreOctets, rekey_spi_octets};
 ghost use Rattle.kd_wire.specs.Texts.{PathKeyFits, TrafficFits, JobFits};
 
 use crate::sealing::WrapJob;
 use crate::widths::REKEY_SPI_OCTETS;
+use gd_wire::{are_octets, has_four_octets};
 use group_terms::{PathKey, TrafficValue};
-
-/// A slice of octets has octets.
-fn are_octets(octets: &[u8])
-    ensures { AreOctets octets.now }
-{}
-
-/// An epoch has 4 octets.
-fn is_epoch(made: u32)
-    ensures { made < 4294967296 }
-{}
 
 /// The SPI of rekey datagrams fits.
 pub fn spi_fits(spi: &[u8; REKEY_SPI_OCTETS])
@@ -40,7 +31,7 @@ pub fn path_key_fits(key: &PathKey)
 {
     are_octets(&key.value.iv);
     are_octets(&key.value.key);
-    is_epoch(key.made);
+    has_four_octets(key.made);
     key.id.number();
 }
 

@@ -1,24 +1,19 @@
-//! Keys of LKH.
-ghost use Rattle.std.specs.Prelude.{◌≡◌, ◌≤◌, None, Some, if◌then◌else◌};
+//! Keys of LKH, read and written.
+ghost use Rattle.std.specs.Prelude.{◌≡◌, ◌++◌, ◌≤◌, length, take, None, Some, OnOk, OnErr, if◌then◌else◌};
 ghost use Rattle.gd_wire.specs.Readings.{Gives};
 ghost use Rattle.kd_wire.specs.Keys.{key_type, is_above, is_on_path, path_key, path_keys, has_handle, given_key};
+ghost use Rattle.kd_wire.specs.Texts.{key_head, key_text, data_of};
+ghost use Rattle.kd_wire.specs.Widths.{lkh_key_octets};
 
 use crate::updates::UpdateKey;
-use gd_wire::{Reader, fault};
+use crate::widths::DATES_OCTETS;
+use gd_wire::{Reader, fault, write_u32};
 use group_terms::{
-    IV_OCTETS, KEY_OCTETS, LONGEST_PATH, LkhId, NodeValue, Path, PathKey, WireFault, WireWhat,
+    LONGEST_PATH, LkhId, NoMemory, NodeValue, Octets, Path, PathKey, WireFault, WireWhat,
 };
 
-/// The size of the data of a key, and of a key.
-pub(crate) const DATA_SIZE: usize = IV_OCTETS + KEY_OCTETS;
-
-pub(crate) const KEY_SIZE: usize = 16 + DATA_SIZE;
-
 /// The type of a key of AES.
-pub(crate) const AES: u8 = 3;
-
-/// The size of its dates.
-const DATES: usize = 8;
+const AES: u8 = 3;
 
 /// Reads the type of a key and the reserved octet after it.
 #[tactic(auto, unfolding(crate::specs::Keys::key_type))]
@@ -55,7 +50,7 @@ fn path_key(more: u16, below: Option<LkhId>, text: &mut Reader<'_>) -> Result<Pa
         return Err(fault(WireWhat::Value, at));
     };
     key_type(text)?;
-    text.octets(DATES)?;
+    text.octets(DATES_OCTETS)?;
     let made = text.long_number()?;
     let iv = text.array()?;
     let key = text.array()?;
@@ -94,7 +89,7 @@ pub(crate) fn given_key(handle: Option<u32>, text: &mut Reader<'_>) -> Result<Up
         return Err(fault(WireWhat::Value, at));
     };
     key_type(text)?;
-    text.octets(DATES)?;
+    text.octets(DATES_OCTETS)?;
     let made_at = text.here();
     let made = text.long_number()?;
     if !has_handle(handle, made) {
@@ -112,4 +107,26 @@ fn has_handle(handle: Option<u32>, made: u32) -> bool
         Some(handle) => made == handle,
         None => true,
     }
+}
+
+/// Appends a key whose data stands in the clear.
+pub(crate) fn append_key(key: &PathKey, out: &mut Octets) -> Result<(), NoMemory>
+    ensures ok { OnOk result (out.new ≡ out.old ++ key_text key.now.id key.now.made (data_of key.now.value)) }
+    ensures size { OnOk result (length (key_text key.now.id key.now.made (data_of key.now.value)) ≡ lkh_key_octets) }
+    ensures err { OnErr result (take (length out.old) out.new ≡ out.old) }
+{
+    append_key_head(key, out)?;
+    out.extend(&key.value.iv)?;
+    out.extend(&key.value.key)
+}
+
+/// Appends what stands before the data of a key.
+pub(crate) fn append_key_head(key: &PathKey, out: &mut Octets) -> Result<(), NoMemory>
+    ensures ok { OnOk result (out.new ≡ out.old ++ key_head key.now.id key.now.made) }
+    ensures err { OnErr result (take (length out.old) out.new ≡ out.old) }
+{
+    let [high, low] = key.id.number().to_be_bytes();
+    out.extend(&[high, low, AES, 0])?;
+    out.extend(&[0; DATES_OCTETS])?;
+    write_u32(key.made, out)
 }

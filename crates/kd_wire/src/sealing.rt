@@ -3,13 +3,13 @@ ghost use Rattle.std.specs.Prelude.{◌≡◌, ◌++◌, List, ℕ, length, take
 ghost use Rattle.gd_cipher.specs.Chains.{IsSealed};
 ghost use Rattle.group_terms.specs.Octets.{AreOctets, data_octets};
 ghost use Rattle.kd_wire.specs.Private.Heads.{sealer_head};
-ghost use Rattle.kd_wire.specs.Texts.{IsUpdate, update_text, key_head, data_of};
+ghost use Rattle.kd_wire.specs.Texts.{IsUpdate, update_text, data_of};
 
 use crate::arrays::{UPDATE_ARRAY, VERSION};
-use crate::keys::AES;
+use crate::keys::append_key_head;
 use crate::widths::{DATA_OCTETS, UPDATE_ARRAY_OCTETS};
-use byteorder::{BigEndian, ByteOrder};
 use gd_cipher::{Key128, cbc_seal};
+use gd_wire::write_u32;
 use group_terms::{IV_OCTETS, NoMemory, NodeValue, Octets, PathKey};
 
 /// A key that is to be sealed under another one.
@@ -49,15 +49,11 @@ fn append_sealer(by: &PathKey, out: &mut Octets) -> Result<(), NoMemory>
     ensures ok { OnOk result (out.new ≡ out.old ++ sealer_head by.now) }
     ensures err { OnErr result (take (length out.old) out.new ≡ out.old) }
 {
-    let mut head = [0, UPDATE_ARRAY as u8, 0, 0, VERSION, 0, 1, 0];
-    BigEndian::write_u16(&mut head[2..4], UPDATE_ARRAY_OCTETS as u16);
-    let mut id = [0; 4];
-    BigEndian::write_u16(&mut id[..2], by.id.number());
-    let mut made = [0; 4];
-    BigEndian::write_u32(&mut made, by.made);
-    out.extend(&head)?;
-    out.extend(&id)?;
-    out.extend(&made)
+    let [high, low] = (UPDATE_ARRAY_OCTETS as u16).to_be_bytes();
+    out.extend(&[0, UPDATE_ARRAY as u8, high, low, VERSION, 0, 1, 0])?;
+    let [high, low] = by.id.number().to_be_bytes();
+    out.extend(&[high, low, 0, 0])?;
+    write_u32(by.made, out)
 }
 
 /// The IV and the octets of a key, sealed under another one.
@@ -72,7 +68,7 @@ fn sealed(by: &NodeValue, gives: &NodeValue) -> [u8; DATA_OCTETS]
 }
 
 /// The IV and the octets of a key.
-pub(crate) fn data_of(value: &NodeValue) -> [u8; DATA_OCTETS]
+fn data_of(value: &NodeValue) -> [u8; DATA_OCTETS]
     ensures { result ≡ data_of value.now }
 {
     let mut data = [0; DATA_OCTETS];
@@ -80,18 +76,4 @@ pub(crate) fn data_of(value: &NodeValue) -> [u8; DATA_OCTETS]
     iv.copy_from_slice(&value.iv);
     key.copy_from_slice(&value.key);
     data
-}
-
-/// Appends what stands before the data of a key.
-pub(crate) fn append_key_head(key: &PathKey, out: &mut Octets) -> Result<(), NoMemory>
-    ensures ok { OnOk result (out.new ≡ out.old ++ key_head key.now.id key.now.made) }
-    ensures err { OnErr result (take (length out.old) out.new ≡ out.old) }
-{
-    let mut id = [0, 0, AES, 0];
-    BigEndian::write_u16(&mut id[..2], key.id.number());
-    let mut made = [0; 4];
-    BigEndian::write_u32(&mut made, key.made);
-    out.extend(&id)?;
-    out.extend(&[0; 8])?;
-    out.extend(&made)
 }

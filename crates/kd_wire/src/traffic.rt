@@ -5,6 +5,7 @@ ghost use Rattle.kd_wire.specs.Traffic.{key_size, key_kind, cipher_key_first, in
 
 use crate::arrays::long_type;
 use crate::spis::spi_place;
+use crate::widths::{INTEGRITY_OCTETS, TRAFFIC_SPI_SIZE};
 use gd_wire::{Reader, fault, no_more_attributes};
 use group_terms::{KEY_OCTETS, TrafficValue, WireFault, WireWhat};
 
@@ -13,14 +14,8 @@ pub(crate) const CIPHER_KEY: u16 = 1;
 
 pub(crate) const INTEGRITY_KEY: u16 = 2;
 
-/// The size of the key for integrity.
-const INTEGRITY_SIZE: usize = 32;
-
-/// The size of a traffic key's SPI.
-pub(crate) const SPI_SIZE: u8 = 4;
-
 /// The two keys: the cipher's and that for integrity.
-type Keys = ([u8; KEY_OCTETS], [u8; INTEGRITY_SIZE]);
+type Keys = ([u8; KEY_OCTETS], [u8; INTEGRITY_OCTETS]);
 
 /// Reads what comes after the header of the packet, up to its end (RFC 6407 section 5.6.1): the place of the SPI in the datagram, and the
 /// value.
@@ -28,7 +23,7 @@ type Keys = ([u8; KEY_OCTETS], [u8; INTEGRITY_SIZE]);
 pub(crate) fn traffic(text: &mut Reader<'_>) -> Result<(u32, TrafficValue), WireFault>
     ensures { Gives result text.new (traffic text.old) }
 {
-    let at = spi_place(SPI_SIZE, text)?;
+    let at = spi_place(TRAFFIC_SPI_SIZE, text)?;
     let spi = text.array()?;
     let (cipher_key, integrity_key) = traffic_keys(text)?;
     no_more_attributes(text)?;
@@ -91,6 +86,6 @@ fn key_size(kind: u16) -> usize
     if kind == CIPHER_KEY {
         KEY_OCTETS
     } else {
-        INTEGRITY_SIZE
+        INTEGRITY_OCTETS
     }
 }

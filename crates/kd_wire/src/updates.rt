@@ -2,7 +2,8 @@
 ghost use Rattle.std.specs.Prelude.{◌≡◌};
 ghost use Rattle.kd_wire.specs.Seals.{sealed_under, keys_left};
 
-use crate::keys::{DATA_SIZE, given_key};
+use crate::keys::given_key;
+use crate::widths::DATA_OCTETS;
 use gd_wire::Reader;
 use group_terms::LkhId;
 use std::marker::Model;
@@ -28,7 +29,7 @@ pub struct SealedKey {
 pub struct UpdateKey {
     pub id: LkhId,
     pub made: u32,
-    pub sealed: [u8; DATA_SIZE],
+    pub sealed: [u8; DATA_OCTETS],
 }
 
 /// The keys of an update array, one after the other. The key that the array names seals the first one, and each further one is sealed by

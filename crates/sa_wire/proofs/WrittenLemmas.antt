@@ -1,7 +1,7 @@
 -- Policies that are written are read again: their text is written out octet by octet, and each test of it computes but for the two numbers
 -- of the signature.
 -- `rw` wants the whole test (`takes (any 6) (..) ≡ true`): `leb n 65535` alone leaves `leb 0 n`, which does not compute.
-use Rattle.std.proofs.Common.{◌≡◌, ℕ, ◌<◌, true, [], ◌++◌, map, Option, None, Some, Ok, refl, subst, inl, inr, arith, List, length, sym}
+use Rattle.std.proofs.Common.{◌≡◌, ℕ, ◌<◌, true, [], ◌++◌, map, Option, None, Some, Ok, refl, subst, inl, inr, arith}
 use Rattle.std.specs.List.{range_with_len}
 use Rattle.std.proofs.lemmas.Bool.{le-leb, false≢true}
 use Rattle.byteorder.specs.Endian.{big_from, big_bytes}

@@ -1,5 +1,5 @@
 use Rattle.std.proofs.Common.{◌+◌, ◌-◌, ◌∙◌}
-use Rattle.kd_wire.proofs.ReadingLemmas.{one_less}
+use Rattle.gd_wire.proofs.ReadingLemmas.{one_less}
 use Rattle.kd_wire.proofs.LoopLemmas.{given_step}
 use Rattle.kd_wire.proofs.arrays.given_keys.Goals as goal
 

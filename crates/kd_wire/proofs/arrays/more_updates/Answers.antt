@@ -4,7 +4,7 @@ use Rattle.gd_wire.specs.Readings.{mapped}
 use Rattle.kd_wire.specs.declared.arrays.Found.{Found}
 use Rattle.kd_wire.specs.Arrays.{next_update, more_updates}
 use Rattle.kd_wire.specs.Private.Seen.{found_after}
-use Rattle.kd_wire.proofs.ReadingLemmas.{one_less}
+use Rattle.gd_wire.proofs.ReadingLemmas.{one_less}
 use Rattle.kd_wire.proofs.LoopLemmas.{some_seen, with_array, update_step}
 use Rattle.kd_wire.proofs.arrays.more_updates.Goals as goal
 

@@ -1,5 +1,5 @@
 use Rattle.std.proofs.Common.{◌≡◌, ◌+◌, ◌-◌, Ok, true, rules, ap, ◌∙◌}
-use Rattle.kd_wire.proofs.ReadingLemmas.{one_less}
+use Rattle.gd_wire.proofs.ReadingLemmas.{one_less}
 use Rattle.kd_wire.proofs.LoopLemmas.{signature_step}
 use Rattle.kd_wire.proofs.arrays.signature_keys.Goals as goal
 

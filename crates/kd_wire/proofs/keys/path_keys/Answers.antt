@@ -1,7 +1,7 @@
 use Rattle.std.proofs.Common.{◌+◌, ◌-◌, ◌++◌, ◌∷◌, [], length, Some, length-append, ap, ◌∙◌, arith}
 use Rattle.gd_wire.specs.Readings.{mapped}
 use Rattle.kd_wire.specs.Keys.{path_keys}
-use Rattle.kd_wire.proofs.ReadingLemmas.{one_less}
+use Rattle.gd_wire.proofs.ReadingLemmas.{one_less}
 use Rattle.kd_wire.proofs.LoopLemmas.{path_step}
 use Rattle.kd_wire.proofs.keys.path_keys.Goals as goal
 

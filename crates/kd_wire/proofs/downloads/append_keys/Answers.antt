@@ -5,7 +5,7 @@ use Rattle.group_terms.specs.declared.paths.PathKey.{PathKey}
 use Rattle.kd_wire.proofs.TextLemmas.{one_more}
 use Rattle.kd_wire.specs.Texts.{key_text, data_of, path_text}
 use Rattle.kd_wire.specs.Widths.{lkh_key_octets}
-use Rattle.kd_wire.proofs.texts.append_keys.Goals as goal
+use Rattle.kd_wire.proofs.downloads.append_keys.Goals as goal
 
 pub loop-key-preserved : goal.loop-key-preserved
 loop-key-preserved c =

@@ -4,7 +4,7 @@ use Rattle.kd_wire.proofs.TextLemmas.{one_more}
 use Rattle.kd_wire.specs.Private.Heads.{download_head}
 use Rattle.kd_wire.specs.Texts.{packet_head, download_text, path_text}
 use Rattle.kd_wire.specs.Widths.{lkh_key_octets, download_array_octets}
-use Rattle.kd_wire.proofs.texts.append_download.Goals as goal
+use Rattle.kd_wire.proofs.downloads.append_download.Goals as goal
 
 pub returns-clause-ok : goal.returns-clause-ok
 returns-clause-ok c =
