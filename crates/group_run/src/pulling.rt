@@ -1,5 +1,6 @@
 //! Pulls of members (RFC 6407 section 3), and what is on its way to them.
 ghost use Rattle.std.specs.Prelude.{◌≡◌, ◌<◌, ◌⊎◌, ◌≤◌, ℕ, true, List, IfOk, IsSome, MatchBool, OnErr, OnOk, Some};
+ghost use Rattle.group_values.specs.Drawing.{place_after};
 ghost use Rattle.group_model.specs.declared.entries.Asked.TheVariants as requests;
 ghost use Rattle.group_peers.specs.Peers.{phase_of, sent_by, was_introduced};
 ghost use Rattle.group_run.specs.Stays.{MailStays, RulesStay};
@@ -63,7 +64,8 @@ impl<D: Disk, G: Signer, R: Draws> GroupRun<D, G, R> {
         Ok(())
     }
 
-    /// Who was introduced begins a pull for a group, and its first message is served.
+    /// Who was introduced begins a pull for a group, and its first message is served. Where memory is short, nothing was drawn, or the two blocks of the
+    /// pull.
     pub fn pull<P: Draws>(
         &mut self,
         alloc: Global,
@@ -78,6 +80,7 @@ impl<D: Disk, G: Signer, R: Draws> GroupRun<D, G, R> {
         ensures blocks { (k : ℕ) → P.block_at draws.new k ≡ P.block_at draws.old k }
         ensures rules { OnOk result (self.new.server.rules ≡ self.old.server.rules) }
         ensures err { OnErr result (HasBegunAtMost (P.block_at draws.old) group.now member.now self.old self.new) }
+        ensures drawn { OnErr result ((P.place_of draws.new ≡ P.place_of draws.old) ⊎ (P.place_of draws.new ≡ place_after 2 (P.place_of draws.old))) }
     {
         what_is_known_stays_known();
         self.entries.reserve(1)?;
