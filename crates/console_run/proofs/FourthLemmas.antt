@@ -1,7 +1,8 @@
 -- Members that read what is on its way do not pass over a fourth message whose pull is in step with the session that keeps it.
-use Rattle.std.proofs.Common.{◌≡◌, ◌∙◌, ap, subst, sym, ℕ, zero, suc, true, false, Bool, List, Option, None, Some}
+use Rattle.std.proofs.Common.{◌≡◌, ◌∙◌, ap, inl, inr, refl, subst, sym, ℕ, zero, suc, true, false, Bool, List, Option, None, Some}
 use Rattle.std.specs.Prelude.{MatchBool}
 use Rattle.group_terms.specs.Names.{Name}
+use Rattle.group_model.specs.declared.entries.Answer.{Answer}
 use Rattle.group_model.specs.declared.entries.Asked.TheVariants.{Keep}
 use Rattle.group_model.specs.declared.entries.Entry.{Entry}
 use Rattle.group_model.specs.declared.entries.SymReply.{SymReply}
@@ -15,7 +16,8 @@ use Rattle.member_pull.specs.Views.{Pull}
 use Rattle.member_pull.specs.declared.pulls.Step.{Step}
 use Rattle.member_pull.specs.declared.pulls.Step.TheVariants as steps
 use Rattle.member_steps.specs.Acts.{Ignore, IsIgnoring}
-use Rattle.member_steps.specs.Members.{Members}
+use Rattle.member_steps.specs.Members.{Mail, Members}
+use Rattle.member_steps.specs.Steps.{IsKeeping}
 use Rattle.store_steps.specs.Fourths.{GetsOwnFourth, OwnFourthsAreTaken}
 use Rattle.console_run.specs.OwnFourths.{TakesOwnFourths}
 
@@ -53,9 +55,32 @@ module _ {D : Type 0} (mid : Run D) (acted : Members) (m : Name) (says : SymRepl
       let same : reads.0 ≡ acted = none_ignored reads.1.0 reads.0 reads.1.1 in
       by_peer next (subst (λ mail. AsksOf mail acted next) gets.is_first (subst (λ (read : Members). AsksOf read.mail read next) same reads.2))
 
+  -- that the member is asked to keep it
+  abbrev keeping : Option Ask
+  keeping = Some (Keep m, acted)
+
+  -- by whether it goes missing
+  abbrev Asks : Bool → Type 0
+  Asks loses = MatchBool loses (keeping ≡ Some (Keep m, acted)) (AsksBy gets.peer.pull m acted keeping)
+
+  -- it is read where it can be kept
+  reads_it : (answer : Answer) (after : Members) → IsKeeping m acted answer after → ReadsMail acted (Some (Keep m, acted))
+  reads_it answer after keeps =
+      let asks : AsksFor m acted keeping = record { peer = gets.peer; is_there = gets.is_there; is = by_kind keeps } in
+      (acted, (zero, refl), subst (λ (mail : List Mail). AsksOf mail acted keeping) (sym gets.is_first) asks)
+    where
+      by_kind : IsKeeping m acted answer after → Asks gets.peer.loses
+      by_kind (inl goes) =
+          subst Asks (sym (ap (λ (peer : Peer). peer.loses) (only (sym gets.is_there ∙ goes.is_there)) ∙ goes.loses)) refl
+      by_kind (inr fourth) =
+          subst Asks (sym (ap (λ (peer : Peer). peer.loses) (only (sym gets.is_there ∙ fourth.gets.is_there)) ∙ fourth.gets.comes))
+          (subst (λ (pull : Option Pull). AsksBy pull m acted keeping) (sym gets.pulls)
+          (subst (λ (step : Step). AsksAt step m acted keeping) (sym gets.in_step.awaits) (answer, after, fourth, refl)))
+
 module _ {D G V : Type 0} (on : Devices D G V) (by : Keying G) (ends : MomentsEndHistories on by) (outset : Outset D) (entries : List Entry) (after : Run D)
     (history : IsHistory on by (no_run outset) entries after) where
   pub takes_own_fourths : OwnFourthsAreTaken on by → TakesOwnFourths on by (no_run outset) entries after
   takes_own_fourths law front mid acted m says gets moment acts =
       let takes = law outset front mid acted m says gets (ends (no_run outset) entries after front mid history moment) acts in
-      (keeps_next mid acted m says gets takes.not_ignored, takes)
+      let kept = takes.can_be_kept in
+      (reads_it mid acted m says gets takes.not_ignored kept.0 kept.1 kept.2, keeps_next mid acted m says gets takes.not_ignored, takes)

@@ -13,11 +13,12 @@ use Rattle.member_steps.specs.Members.{Members}
 use Rattle.store_steps.specs.Fourths.{GetsOwnFourth, TakesOwnFourth}
 
 module _ {D G V : Type 0} (on : Devices D G V) (by : Keying G) (start : Run D) (entries : List Entry) (after : Run D) where
-  -- At a moment the fourth message that a member's session keeps comes to it next, and its pull is in step with that session. Then the member is asked to keep
-  -- it where members read what is on its way; and it has its keys then, unless its store has later ones or the datagram goes missing. Supposed is that it has
-  -- no store yet, or one of the group.
+  -- At a moment the fourth message that a member's session keeps comes to it next, and its pull is in step with that session. Then members that read what is on
+  -- its way ask the member to keep it, and nothing else; that it does so is a step; and it has its keys then, unless its store has later ones or the datagram
+  -- goes missing. Supposed is that it has no store yet, or one of the group.
   abbrev pub TakesOwnFourths : Type 0
   TakesOwnFourths =
       (front : List Entry) (mid : Run D) (acted : Members) (m : Name) (says : SymReply) (gets : GetsOwnFourth mid acted m says)
       → IsMoment on by start entries after front mid → Acts by.members_block by.group mid.members acted
-      → ((next : Option Ask) → ReadsMail acted next → next ≡ Some (Keep m, acted)) × TakesOwnFourth on by front mid acted m says gets
+      → ReadsMail acted (Some (Keep m, acted)) × ((next : Option Ask) → ReadsMail acted next → next ≡ Some (Keep m, acted))
+      × TakesOwnFourth on by front mid acted m says gets

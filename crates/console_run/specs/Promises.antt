@@ -1,5 +1,5 @@
 -- What the console promises of its run.
-use Rattle.std.specs.Prelude.{◌≡◌, ◌⊎◌, ℕ, ◌≤◌, true, List, [], ◌∷◌, ◌++◌, length, All, Option, None, Some}
+use Rattle.std.specs.Prelude.{◌≡◌, ◌⊎◌, ℕ, ◌≤◌, true, List, [], ◌∷◌, ◌++◌, length, Option, None, Some}
 use Rattle.command_words.specs.declared.commands.Command.{Command}
 use Rattle.command_words.specs.declared.commands.Opening.{Opening}
 use Rattle.command_words.specs.declared.commands.Opening.TheVariants.{New, Open}
@@ -20,13 +20,14 @@ use Rattle.group_model.specs.declared.entries.Outside.{Outside}
 use Rattle.group_model.specs.declared.entries.SymReply.{SymReply}
 use Rattle.group_records.specs.declared.heads.Head.{Head}
 use Rattle.gcks_core.specs.Stored.{stored_list}
+use Rattle.server_steps.specs.Messages.{KeptAreMessages}
 use Rattle.tree_store.specs.Groups.{IsGroup}
 use Rattle.group_steps.specs.Counts.{CountsFaults, faults_in}
 use Rattle.group_steps.specs.Crashes.{LeavesMoments}
 use Rattle.group_steps.specs.Devices.{Devices, Keying}
 use Rattle.group_steps.specs.Laws.{IsSure}
 use Rattle.group_steps.specs.Moments.{IsMoment, IsTrueMoment}
-use Rattle.group_steps.specs.Mails.{AnswersMember, AreMessages, RepliesToMember}
+use Rattle.group_steps.specs.Mails.{AnswersMember, AreMessages, RepliesToWaiting}
 use Rattle.group_steps.specs.Runs.{Run, no_run, outset_of}
 use Rattle.group_steps.specs.Steps.{AreRunSteps, IsHistory, IsRunStep}
 use Rattle.group_steps.specs.TrueSteps.{batches_in}
@@ -168,24 +169,30 @@ module _ {D G V : Type 0} (on : Devices D G V) (by : Keying G) where
     -- leads there each who was sent a reply since and stayed.
     pub serves : ServesAlong on by (start_of command old place members_place) entries after
     -- A datagram of a member is answered by a message to it, if by any. One that its session took last is answered by what that keeps, octet for octet. Any
-    -- other is answered by a message of the present epoch: a second one with the present policies, or a fourth one with the keys that the member has now.
+    -- other is answered by a message of the present epoch: a second one with the present policies, or a fourth one with the keys that the member has now. Its
+    -- session keeps what was answered, as the answer to that datagram.
     pub pulls : (front : List Entry) (mid : Run D) (m : Name) (datagram octets : List ℕ) (names : Option SymReply) (outside : Outside) (next : Run D)
         → IsMoment on by (start_of command old place members_place) entries after front mid
         → IsRunStep on by front mid (record { asked = Serve m datagram; outside = outside; answer = Datagram octets names }) next
         → AnswersMember (on.signers.kind_of by.signer) mid.host next.host next.members.all m datagram octets names
-    -- Each reply of a batch is such a fourth message, with the keys of the epoch that the batch made.
+    -- Each reply of a batch is such a fourth message, with the keys of the epoch that the batch made, and is kept so. There is one for each whose join
+    -- waited, in that order.
     pub batch_replies : (front : List Entry) (mid : Run D) (output : Output) (outside : Outside) (next : Run D)
         → IsMoment on by (start_of command old place members_place) entries after front mid
         → IsRunStep on by front mid (record { asked = Batch; outside = outside; answer = Batched output }) next
-        → All (RepliesToMember (on.signers.kind_of by.signer) next.host next.members.all) output.replies
+        → RepliesToWaiting (on.signers.kind_of by.signer) mid.host next.host next.members.all output.replies
+    -- At each moment the datagram that the session of a member keeps, if it keeps one, is a message of the group to the member, and one of that session's own
+    -- pull.
+    pub sessions_keep : (front : List Entry) (mid : Run D) → IsMoment on by (start_of command old place members_place) entries after front mid
+        → KeptAreMessages (on.signers.kind_of by.signer) 0 mid.host
     -- At each moment each datagram that is on its way is a message to whom it goes: a second one with policies, or a fourth one with keys, of some epoch.
     pub mail : (front : List Entry) (mid : Run D) → IsMoment on by (start_of command old place members_place) entries after front mid
         → AreMessages (on.signers.kind_of by.signer) mid
     -- A datagram that a member takes went missing, or is a fourth message: then the member has its keys, unless its store has later ones. Supposed is that
     -- it has no store yet, or one of the group.
     pub replies : KeepsReplies on by (start_of command old place members_place) entries after
-    -- A member whose pull is in step with its session does not ignore the fourth message that the session keeps. It keeps its keys, unless its store has later
-    -- ones or the datagram goes missing. Supposed is that they are in step, and that it has no store yet, or one of the group.
+    -- A member whose pull is in step with its session can keep the fourth message that the session keeps, and does not ignore it. It has its keys then, unless
+    -- its store has later ones or the datagram goes missing. Supposed is that they are in step, and that it has no store yet, or one of the group.
     pub own_fourths : TakesOwnFourths on by (start_of command old place members_place) entries after
     -- As long as each opening again found the group that there was, and where the verifier accepts what the signer signs: a store of the group takes the pushes
     -- that are due to it, and, where keys are apart, refuses all others that were sent.

@@ -64,6 +64,9 @@ returns-in-Some-clause-run g c =
           batch_replies = λ front mid output outside next moment step.
               c.mail_is_of_the_group.ensures.replies on.verifier by outset front mid output outside next
               (history_at on by ends lists outset entries ran.after history front mid moment) step;
+          sessions_keep = λ front mid moment.
+              c.mail_is_of_the_group.ensures.kept on.verifier by outset front mid
+              (history_at on by ends lists outset entries ran.after history front mid moment);
           mail = λ front mid moment.
               c.mail_is_of_the_group.ensures.mail on.verifier by outset front mid
               (history_at on by ends lists outset entries ran.after history front mid moment);
