@@ -8,13 +8,16 @@ use Rattle.group_model.specs.declared.entries.Entry.{Entry}
 use Rattle.group_peers.specs.Peers.{is_peer}
 use Rattle.group_peers.specs.declared.members.Peer.{Peer}
 use Rattle.member_steps.specs.Acts.{Agrees, IsIgnoring, Ignores}
+use Rattle.member_steps.specs.Mails.{TakesMail}
 use Rattle.member_steps.specs.Members.{Mail, Members}
 use Rattle.member_steps.specs.Steps.{IsKeeping}
 use Rattle.group_model.specs.declared.entries.Answer.{Answer}
 use Rattle.member_steps.specs.Views.{View as MemberView, members_with}
+use Rattle.member_steps.specs.declared.came.Came.{Came}
 use Rattle.group_run.specs.Mails.{first_of, mail_since}
 use Rattle.group_run.specs.Private.Kept.{GoesToPeer, IsReadable, IsWithin, members_at}
 use Rattle.group_run.specs.Private.Reading.{AreReading}
+use Rattle.group_run.specs.declared.reading.Read.{Read}
 use Rattle.group_run.specs.declared.reading.Read.TheVariants.{Ended, Sends}
 use Rattle.group_run.specs.declared.unread.Unread.{Unread}
 use Rattle.group_run.proofs.KeptLemmas.{KeepsPeers, as_peers, mail_of_more, same_peers}
@@ -31,6 +34,19 @@ pub same_names : (start now : Members) → Ignores start now → (all : List Pee
     → is_peer all name ≡ is_peer start.all name
 same_names start now ignores all same name =
     same.names name ∙ ap (λ all. is_peer all name) (ignored_same ignores.0 start now ignores.1).all
+
+-- where it is known what was read, and of which entries
+pub reads_at : (read is : Read) (old new : MemberView) (before after : Unread) (was entries : List Entry) → was ≡ entries → read ≡ is
+    → AreReading read (members_at old was before) (members_at new was after) → AreReading is (members_at old entries before) (members_at new entries after)
+reads_at read is old new before after was entries same kind reads =
+    subst (λ (read : Read). AreReading read (members_at old entries before) (members_at new entries after)) kind
+    (subst (λ entries. AreReading read (members_at old entries before) (members_at new entries after)) same reads)
+
+-- and where it is known what came of which octets
+pub came_as : (m : Name) (given octets : List ℕ) (later : List Mail) (old : MemberView) (came is : Came) (new : MemberView) → given ≡ octets → came ≡ is
+    → TakesMail m given later old (Ok came) new → TakesMail m octets later old (Ok is) new
+came_as m given octets later old came is new same kind takes =
+    subst (λ (came : Came). TakesMail m octets later old (Ok came) new) kind (subst (λ octets. TakesMail m octets later old (Ok came) new) same takes)
 
 module _ (entries : List Entry) (start : Members) (members : MemberView) (at unread : Unread) (m : Name) (datagram : List ℕ)
     (ignores : Ignores start (members_at members entries at)) (readable : IsReadable members.all entries at)

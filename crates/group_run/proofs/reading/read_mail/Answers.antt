@@ -1,13 +1,11 @@
-use Rattle.std.proofs.Common.{◌≡◌, ◌+◌, [], Ok, refl, sym, ap, subst}
+use Rattle.std.proofs.Common.{◌≡◌, ◌+◌, [], refl, sym, ap, subst}
 use Rattle.member_steps.specs.Acts.{Ignores}
-use Rattle.member_steps.specs.Mails.{TakesMail}
 use Rattle.member_steps.specs.Members.{Members}
 use Rattle.member_steps.specs.Views.{View as MemberView, members_with}
-use Rattle.member_steps.specs.declared.came.Came.{Came}
 use Rattle.group_run.specs.Mails.{mail_since}
 use Rattle.group_run.specs.Private.Kept.{members_at}
 use Rattle.group_run.proofs.MemberLemmas.{as_before}
-use Rattle.group_run.proofs.ReadLemmas.{ended_peers, ended_read, ended_readable, ignored_on, ignored_readable, on_err, readable_still, same_names, sends_peers, sends_read, sends_readable}
+use Rattle.group_run.proofs.ReadLemmas.{came_as, ended_peers, ended_read, ended_readable, ignored_on, ignored_readable, on_err, readable_still, same_names, sends_peers, sends_read, sends_readable}
 use Rattle.group_run.proofs.reading.read_mail.Goals as goal
 
 pub returns-in_err-came-clause-err : goal.returns-in_err-came-clause-err
@@ -32,9 +30,8 @@ returns-in_err-came-clause-peers c =
 pub loop-mail-preserved : goal.loop-mail-preserved
 loop-mail-preserved c =
     let later = mail_since c.args.entries.now c.next.new.self.place (c.next.new.self.taken + 1) in
-    let step = subst (λ (came : Came). TakesMail c.in-Some.mail.0 c.in-Some.mail.1.now later c.loop-mail.members (Ok came) c.take.new.self) c.in-Ignored.is
-    (subst (λ octets. TakesMail c.in-Some.mail.0 octets later c.loop-mail.members (Ok c.in_ok-came.came) c.take.new.self) c.as_slice.ensures
-    (c.in_ok-came.ensures.takes later)) in
+    let step = came_as c.in-Some.mail.0 _ c.in-Some.mail.1.now later c.loop-mail.members c.in_ok-came.came _ c.take.new.self c.as_slice.ensures c.in-Ignored.is
+    (c.in_ok-came.ensures.takes later) in
     record {
       ignores = ignored_on c.args.entries.now (members_at c.args.members.now c.args.entries.now c.args.unread.now) c.loop-mail.members c.loop-mail.unread c.next.new.self c.in-Some.mail.0 c.in-Some.mail.1.now
           c.loop-mail.invariant.ignores c.loop-mail.invariant.readable c.in-Some.ensures.first c.in-Some.ensures.same c.in-Some.ensures.within
@@ -47,9 +44,8 @@ loop-mail-preserved c =
 pub returns-in-Sends-clause-reads : goal.returns-in-Sends-clause-reads
 returns-in-Sends-clause-reads c =
     let later = mail_since c.args.entries.now c.next.new.self.place (c.next.new.self.taken + 1) in
-    let step = subst (λ (came : Came). TakesMail c.in-Some.mail.0 c.in-Some.mail.1.now later c.loop-mail.members (Ok came) c.take.new.self) c.in-Sends.is
-    (subst (λ octets. TakesMail c.in-Some.mail.0 octets later c.loop-mail.members (Ok c.in_ok-came.came) c.take.new.self) c.as_slice.ensures
-    (c.in_ok-came.ensures.takes later)) in
+    let step = came_as c.in-Some.mail.0 _ c.in-Some.mail.1.now later c.loop-mail.members c.in_ok-came.came _ c.take.new.self c.as_slice.ensures c.in-Sends.is
+    (c.in_ok-came.ensures.takes later) in
     sends_read c.args.entries.now (members_at c.args.members.now c.args.entries.now c.args.unread.now) c.loop-mail.members c.loop-mail.unread c.next.new.self c.in-Some.mail.0 c.in-Some.mail.1.now
     c.loop-mail.invariant.ignores c.loop-mail.invariant.readable c.in-Some.ensures.first c.in-Some.ensures.same c.in-Some.ensures.within
     c.take.new.self step.0 step.1
@@ -57,9 +53,8 @@ returns-in-Sends-clause-reads c =
 pub returns-in-Sends-clause-readable : goal.returns-in-Sends-clause-readable
 returns-in-Sends-clause-readable c =
     let later = mail_since c.args.entries.now c.next.new.self.place (c.next.new.self.taken + 1) in
-    let step = subst (λ (came : Came). TakesMail c.in-Some.mail.0 c.in-Some.mail.1.now later c.loop-mail.members (Ok came) c.take.new.self) c.in-Sends.is
-    (subst (λ octets. TakesMail c.in-Some.mail.0 octets later c.loop-mail.members (Ok c.in_ok-came.came) c.take.new.self) c.as_slice.ensures
-    (c.in_ok-came.ensures.takes later)) in
+    let step = came_as c.in-Some.mail.0 _ c.in-Some.mail.1.now later c.loop-mail.members c.in_ok-came.came _ c.take.new.self c.as_slice.ensures c.in-Sends.is
+    (c.in_ok-came.ensures.takes later) in
     sends_readable c.args.entries.now (members_at c.args.members.now c.args.entries.now c.args.unread.now) c.loop-mail.members c.loop-mail.unread c.next.new.self c.in-Some.mail.0 c.in-Some.mail.1.now
     c.loop-mail.invariant.ignores c.loop-mail.invariant.readable c.in-Some.ensures.first c.in-Some.ensures.same c.in-Some.ensures.within
     c.take.new.self step.0 step.1
@@ -67,9 +62,8 @@ returns-in-Sends-clause-readable c =
 pub returns-in-Sends-clause-peers : goal.returns-in-Sends-clause-peers
 returns-in-Sends-clause-peers c =
     let later = mail_since c.args.entries.now c.next.new.self.place (c.next.new.self.taken + 1) in
-    let step = subst (λ (came : Came). TakesMail c.in-Some.mail.0 c.in-Some.mail.1.now later c.loop-mail.members (Ok came) c.take.new.self) c.in-Sends.is
-    (subst (λ octets. TakesMail c.in-Some.mail.0 octets later c.loop-mail.members (Ok c.in_ok-came.came) c.take.new.self) c.as_slice.ensures
-    (c.in_ok-came.ensures.takes later)) in
+    let step = came_as c.in-Some.mail.0 _ c.in-Some.mail.1.now later c.loop-mail.members c.in_ok-came.came _ c.take.new.self c.as_slice.ensures c.in-Sends.is
+    (c.in_ok-came.ensures.takes later) in
     sends_peers c.args.entries.now (members_at c.args.members.now c.args.entries.now c.args.unread.now) c.loop-mail.members c.loop-mail.unread c.next.new.self c.in-Some.mail.0 c.in-Some.mail.1.now
     c.loop-mail.invariant.ignores c.loop-mail.invariant.readable c.in-Some.ensures.first c.in-Some.ensures.same c.in-Some.ensures.within
     c.take.new.self step.0 step.1
@@ -77,9 +71,8 @@ returns-in-Sends-clause-peers c =
 pub returns-in-Ended-clause-reads : goal.returns-in-Ended-clause-reads
 returns-in-Ended-clause-reads c =
     let later = mail_since c.args.entries.now c.next.new.self.place (c.next.new.self.taken + 1) in
-    let step = subst (λ (came : Came). TakesMail c.in-Some.mail.0 c.in-Some.mail.1.now later c.loop-mail.members (Ok came) c.take.new.self) c.in-Ended.is
-    (subst (λ octets. TakesMail c.in-Some.mail.0 octets later c.loop-mail.members (Ok c.in_ok-came.came) c.take.new.self) c.as_slice.ensures
-    (c.in_ok-came.ensures.takes later)) in
+    let step = came_as c.in-Some.mail.0 _ c.in-Some.mail.1.now later c.loop-mail.members c.in_ok-came.came _ c.take.new.self c.as_slice.ensures c.in-Ended.is
+    (c.in_ok-came.ensures.takes later) in
     ended_read c.args.entries.now (members_at c.args.members.now c.args.entries.now c.args.unread.now) c.loop-mail.members c.loop-mail.unread c.next.new.self c.in-Some.mail.0 c.in-Some.mail.1.now
     c.loop-mail.invariant.ignores c.loop-mail.invariant.readable c.in-Some.ensures.first c.in-Some.ensures.same c.in-Some.ensures.within
     c.take.new.self c.in-Ended.answer step
@@ -87,9 +80,8 @@ returns-in-Ended-clause-reads c =
 pub returns-in-Ended-clause-readable : goal.returns-in-Ended-clause-readable
 returns-in-Ended-clause-readable c =
     let later = mail_since c.args.entries.now c.next.new.self.place (c.next.new.self.taken + 1) in
-    let step = subst (λ (came : Came). TakesMail c.in-Some.mail.0 c.in-Some.mail.1.now later c.loop-mail.members (Ok came) c.take.new.self) c.in-Ended.is
-    (subst (λ octets. TakesMail c.in-Some.mail.0 octets later c.loop-mail.members (Ok c.in_ok-came.came) c.take.new.self) c.as_slice.ensures
-    (c.in_ok-came.ensures.takes later)) in
+    let step = came_as c.in-Some.mail.0 _ c.in-Some.mail.1.now later c.loop-mail.members c.in_ok-came.came _ c.take.new.self c.as_slice.ensures c.in-Ended.is
+    (c.in_ok-came.ensures.takes later) in
     ended_readable c.args.entries.now (members_at c.args.members.now c.args.entries.now c.args.unread.now) c.loop-mail.members c.loop-mail.unread c.next.new.self c.in-Some.mail.0 c.in-Some.mail.1.now
     c.loop-mail.invariant.ignores c.loop-mail.invariant.readable c.in-Some.ensures.first c.in-Some.ensures.same c.in-Some.ensures.within
     c.take.new.self c.in-Ended.answer step
@@ -97,9 +89,8 @@ returns-in-Ended-clause-readable c =
 pub returns-in-Ended-clause-peers : goal.returns-in-Ended-clause-peers
 returns-in-Ended-clause-peers c =
     let later = mail_since c.args.entries.now c.next.new.self.place (c.next.new.self.taken + 1) in
-    let step = subst (λ (came : Came). TakesMail c.in-Some.mail.0 c.in-Some.mail.1.now later c.loop-mail.members (Ok came) c.take.new.self) c.in-Ended.is
-    (subst (λ octets. TakesMail c.in-Some.mail.0 octets later c.loop-mail.members (Ok c.in_ok-came.came) c.take.new.self) c.as_slice.ensures
-    (c.in_ok-came.ensures.takes later)) in
+    let step = came_as c.in-Some.mail.0 _ c.in-Some.mail.1.now later c.loop-mail.members c.in_ok-came.came _ c.take.new.self c.as_slice.ensures c.in-Ended.is
+    (c.in_ok-came.ensures.takes later) in
     ended_peers c.args.entries.now (members_at c.args.members.now c.args.entries.now c.args.unread.now) c.loop-mail.members c.loop-mail.unread c.next.new.self c.in-Some.mail.0 c.in-Some.mail.1.now
     c.loop-mail.invariant.ignores c.loop-mail.invariant.readable c.in-Some.ensures.first c.in-Some.ensures.same c.in-Some.ensures.within
     c.take.new.self c.in-Ended.answer step
