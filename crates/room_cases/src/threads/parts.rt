@@ -36,14 +36,16 @@ impl<'a> Watch<'a> {
         }
     }
 
-    /// Looks so often.
+    /// Looks so often. What was found is written down at the end alone, since the watch may lie beside the word of the board.
     pub fn look(&mut self, looks: u32) {
         let mut before = self.board.now(&mut self.pass);
+        let mut rises = self.rises;
         for _ in 0..looks {
             let seen = self.board.now(&mut self.pass);
-            self.rises &= may_follow(before, seen);
+            rises &= may_follow(before, seen);
             before = seen;
         }
+        self.rises = rises;
     }
 
     /// Whether what was seen rises to the pair of this number, which is seen now.
