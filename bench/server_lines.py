@@ -21,6 +21,7 @@ A script has the lines of `server_cases`, and these, which become such lines; a 
     show                  the state, and who has which leaf
     drawn COUNT SEED      COUNT drawn datagrams to a group of its own, and what lies between them
     pulls MEMBERS COUNT   COUNT whole pulls of members of a group of its own, to which so many SAs are introduced
+    held ALGORITHM BITS   sessions by themselves, with policies of this signature: a member waits, and begins another pull, and another
 
 A member takes the answers that are due; one that does not get the keys of its place ends the run with an error. It needs the Python package cryptography.
 """
@@ -339,6 +340,26 @@ class Answers:
         return ["depth %d draws %d %s%s" % (group.depth, self.server.draws.place, counts(group), need)]
 
 
+    def do_sessions(self, limit, name, *words):
+        """Sessions by themselves, of one member. Each step is a message that is due."""
+        if limit == "0":
+            return ["refused phase-full 0"]
+        cookies, skeyid_a, key, last, spi, tek, nr = [bytes.fromhex(words[i]) for i in (0, 1, 2, 3, 4, 7, 8)]
+        phase, kind = {"cookies": cookies, "skeyid_a": skeyid_a, "key": key, "last": last}, (int(words[5]), int(words[6]))
+        lines, session = [], None
+        for step, octets in zip(words[9::2], words[10::2]):
+            datagram = bytes.fromhex(octets)
+            if step == "begin":
+                ni, _, _ = read_first(datagram, phase)
+                second = ref.write_second(phase, datagram[20:24], datagram[-16:], ni, nr, spi, tek, kind)
+                session = datagram[20:24], second[-16:], ni, nr
+                lines.append("second %d %s" % (len(second), second.hex()))
+            else:
+                read_third(datagram, phase, *session)
+            lines.append("held " + (datagram[-16:].hex() if step == "queue" else "-"))
+        return lines
+
+
 # ------------------------------------------------------------------------------------------------------------------- lines of a script
 
 
@@ -364,7 +385,7 @@ class Member(ref.Member):
         return " ".join(["introduce", phase["member"].decode()] + octets)
 
 
-WORDS = ("join", "again", "judge", "look", "cuts", "thirds", "states", "show", "drawn", "pulls")
+WORDS = ("join", "again", "judge", "look", "cuts", "thirds", "states", "show", "drawn", "pulls", "held")
 
 
 class Lines:
@@ -516,6 +537,19 @@ class Lines:
         datagram = bytes.fromhex(octets)
         for size in range(len(datagram) + 1):
             self.serve(datagram[:size])
+
+    def held(self, algorithm, bits):
+        """One member's sessions by themselves: its second pull begins while the first one waits, and the first one begins anew while the second waits."""
+        phase = numbered_phase(1)
+        pulls = {number: Pull(phase, number, 16 * number) for number in (1, 2)}
+        octets = [phase[part].hex() for part in ("cookies", "skeyid_a", "key", "last")]
+        line = ["sessions 1", phase["member"].decode(), *octets, bytes(range(9, 25)).hex(), algorithm, bits, "80010203", bytes(range(100, 116)).hex()]
+        for number, step in ((1, "begin"), (1, "queue"), (2, "begin"), (2, "queue"), (1, "begin")):
+            line += [step, (pulls[number].third() if step == "queue" else pulls[number].first()).hex()]
+            which, *_, last = self.answers.answer(" ".join(line))[-2].split()
+            if which == ref.SECOND:
+                pulls[number].note((which, bytes.fromhex(last)))
+        self.add(" ".join(line))
 
     # ------------------------------------------------------------------------------------------------------------- many pulls
 

@@ -89,7 +89,7 @@ fn introduce(server: &mut TestServer, word: &str, words: &[&str], text: &mut Tex
 }
 
 /// A phase 1 SA: its member, and octets.
-fn phase(words: &[&str]) -> Option<Phase1> {
+pub fn phase(words: &[&str]) -> Option<Phase1> {
     let [name, cookies, skeyid_a, key, last] = words else {
         return None;
     };

@@ -14,7 +14,11 @@
 //! reopen
 //! leaf NUMBER                                  who has a leaf
 //! state                                        the depth of the tree, the place of the draws, and what else is known of the group
+//! sessions LIMIT NAME COOKIES SKEYID-A KEY LAST SPI ALGORITHM BITS SPI NR STEP OCTETS ..
 //! ```
+//!
+//! The last one asks the sessions of a server by themselves, which have room for so many SAs and have one introduced: in the steps `begin` and `queue` first
+//! messages are answered with these policies and this nonce, and third messages wait. After each there is what is held of the member.
 //!
 //! A number outside its limits counts as the nearest one within. `bench/server_lines.py` makes the lines and the answers that are due.
 #![tactic(auto)]
@@ -32,6 +36,7 @@ use std::io;
 
 mod asks;
 mod groups;
+mod sessions;
 mod shown;
 
 fn main(rt: HostRuntime) -> io::Result<()> {
@@ -54,6 +59,7 @@ impl Cases for Case {
         match *word {
             "group" => self.make(alloc, rest, text),
             "open" => self.open(alloc, rest, text),
+            "sessions" => sessions::ask(alloc, rest, text),
             word => match &mut self.server {
                 Some(server) => ask(alloc, server, word, rest, text),
                 None => None,
