@@ -177,7 +177,7 @@ pub fn look(core: &TestCore, member: &MemberName, text: &mut Text) {
 }
 
 /// The depth of the tree, the signature's kind of its pushes, the place of its draws, their SPI, the name of the group, whether it has to be opened again,
-/// its traffic key and the changes that wait.
+/// its traffic key, or `-`, and the changes that wait.
 pub fn state(core: &TestCore, text: &mut Text) {
     let kind = core.sign_kind();
     text.add("state");
@@ -206,6 +206,8 @@ fn add_open_state(core: &TestCore, text: &mut Text) {
         let mut hash = Sha256::new();
         hash_traffic(&traffic, &mut hash);
         text.add_octets(&[&hash.finalize()]);
+    } else {
+        text.add(" -");
     }
 }
 
