@@ -19,7 +19,7 @@ use gd_disk::Disk;
 use gd_edges::{Draws, Signer};
 use group_model::{MemberName, NoMemory, Octets, Refusal};
 use pull_msgs::{nonce_fits, policies_fit};
-use pull_sessions::{First, Kept, Nonce, Sessions, Third};
+use pull_sessions::{First, Kept, Nonce, Sessions, Third, copy_of_reply};
 use server_steps::reply_says;
 use std::alloc::Global;
 
@@ -110,7 +110,7 @@ pub(crate) fn reply_now<D: Disk, G: Signer, R: Draws>(
     let keyed = core.reply(member)?;
     let fourth = fourth_message(alloc, sessions, member, &third, &keyed)?;
     let names = reply_says(alloc, member, &keyed)?;
-    let again = reply_says(alloc, member, &keyed)?;
+    let again = copy_of_reply(alloc, &names)?;
     let kept = Kept::Datagram {
         octets: fourth.kept,
         names: Some(again),

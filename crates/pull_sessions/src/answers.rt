@@ -70,7 +70,8 @@ fn copy_of_names(alloc: Global, names: &Option<SymReply>) -> Result<Option<SymRe
     }
 }
 
-fn copy_of_reply(alloc: Global, reply: &SymReply) -> Result<SymReply, NoMemory>
+/// A copy of what a reply says. `NoMemory`.
+pub fn copy_of_reply(alloc: Global, reply: &SymReply) -> Result<SymReply, NoMemory>
     ensures { IfOk result (λ copy. copy ≡ reply.now) }
 {
     Ok(SymReply {

@@ -5,7 +5,7 @@
 //! that it was given. List and indexes grow in steps, so they may hold room for more SAs than there are.
 #![tactic(auto)]
 
-pub use answers::{Kept, Looked, LookedAt, Step};
+pub use answers::{Kept, Looked, LookedAt, Step, copy_of_reply};
 pub use group_model::SymReply;
 pub use group_terms::{Keyed, MemberName, NoMemory, Octets, Phase1};
 pub use laws::what_is_found_can_be_held;

@@ -12,7 +12,7 @@ ghost use Rattle.server_steps.specs.Private.Told.{AreDatagrams, AreRepliesTo, Is
 use gcks_core::Keyed;
 use group_model::{KeyName, List, MemberName, NoMemory, Octets, SentReply, SymReply};
 use group_terms::PathKey;
-use pull_sessions::{Kept, Sessions};
+use pull_sessions::{Kept, Sessions, copy_of_reply};
 use std::alloc::Global;
 
 /// The replies of a batch, and what their sessions keep as answers.
@@ -53,9 +53,9 @@ fn add_reply(
         × (replies.new ≡ record { sent = replies.old.sent ++ reply ∷ []; kept = replies.old.kept ++ kept_of reply ∷ [] })) }
 {
     let datagram = datagram_to(alloc, member, keyed, sessions)?;
-    let answer = answer_to(alloc, member, keyed, datagram.as_slice())?;
     let says = names_told(alloc, member, keyed)?;
-    replies.kept.push((*member, answer))?;
+    let answer = answer_to(alloc, datagram.as_slice(), &says)?;
+    replies.kept.push((says.member, answer))?;
     replies.sent.push(SentReply { says, datagram })
 }
 
@@ -74,18 +74,13 @@ fn datagram_to(
     }
 }
 
-/// What the session of a member keeps as the answer: this datagram, with what it says.
-fn answer_to(
-    alloc: Global,
-    member: &MemberName,
-    keyed: &Keyed,
-    datagram: &[u8],
-) -> Result<Kept, NoMemory>
-    ensures { IfOk result (λ answer. answer ≡ answers.Datagram datagram.now (Some (says_told (member.now, keyed.now)))) }
+/// What the session of a member keeps as the answer: a copy of this datagram, and of what it says.
+fn answer_to(alloc: Global, datagram: &[u8], says: &SymReply) -> Result<Kept, NoMemory>
+    ensures { IfOk result (λ answer. answer ≡ answers.Datagram datagram.now (Some says.now)) }
 {
     Ok(Kept::Datagram {
         octets: Octets::copy_of(alloc, datagram)?,
-        names: Some(names_told(alloc, member, keyed)?),
+        names: Some(copy_of_reply(alloc, says)?),
     })
 }
 

@@ -1,4 +1,4 @@
-use Rattle.std.proofs.Common.{◌≡◌, ◌∙◌, Some, refl, sym}
+use Rattle.std.proofs.Common.{◌∙◌, Some, refl}
 use Rattle.pull_sessions.specs.Builds.{session_after_third}
 use Rattle.pull_sessions.specs.Sessions.{with_session}
 use Rattle.pull_sessions.specs.declared.answers.Kept.TheVariants as kept
@@ -63,12 +63,8 @@ returns-clause-accepts g c rules =
     let third = c.requires.third in
     let fourth = c.in_ok-fourth.fourth in
     let keys = c.in_ok-keyed.ensures.ok in
-    let some = c.rests.ensures.some in
-    let told = keys some.0 some.1 in
-    let same : c.in_ok-again.again ≡ c.in_ok-names.names =
-    c.in_ok-again.ensures some.0.depth c.args.core.now.head.spi some.0.list told ∙ sym (c.in_ok-names.ensures some.0.depth c.args.core.now.head.spi some.0.list told) in
     let held = c.hold_third.ensures third.sa third.session third.has ∙ (λ i. with_session c.args.sessions.now c.args.member.now
-    (session_after_third third.session c.args.third (c.in_ok-last.ensures i) (kept.Datagram (c.in_ok-fourth.ensures.same i) (Some (same i))))) in
+    (session_after_third third.session c.args.third (c.in_ok-last.ensures i) (kept.Datagram (c.in_ok-fourth.ensures.same i) (Some (c.in_ok-again.ensures i))))) in
     replied g.D.Disk g.G.Signer g.R.Draws view c.args.member.now c.args.third c.args.datagram.now new third.sa third.session c.in_ok-keyed.keyed fourth.sent
     c.in_ok-names.names third.has keys (λ server stands. c.in_ok-names.ensures server.depth c.args.core.now.head.spi server.list (keys server stands))
     (c.in_ok-fourth.ensures.is third.sa third.session third.has) refl refl held
