@@ -55,7 +55,7 @@ fn put_listing<K: Sink>(alloc: Global, listing: &Listing, out: &mut K) -> Ending
     ensures { TextEnds (due_after listing.now.end) result (K.shows out.old) (K.shows out.new) (listing_text listing.now) }
 {
     let mut text = List::new(alloc);
-    match append_listing(alloc, listing, &mut text) {
+    match append_listing(listing, &mut text) {
         Ok(()) => put_text(text.as_slice(), due_after(listing.end), out),
         Err(NoMemory) => Ending::Memory,
     }

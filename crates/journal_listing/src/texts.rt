@@ -7,79 +7,74 @@ use crate::rows::{JournalEnd, ListedBatch, Listing};
 use group_records::Head;
 use group_terms::{Change, MemberName, NoMemory, Octets};
 use script_text::{append_hex, append_number, append_place};
-use std::alloc::Global;
 
 /// Puts the text of a listing at the end of another.
-pub(crate) fn append_listing(
-    alloc: Global,
-    listing: &Listing,
-    out: &mut Octets,
-) -> Result<(), NoMemory>
+pub(crate) fn append_listing(listing: &Listing, out: &mut Octets) -> Result<(), NoMemory>
     ensures { OnOk result (out.new ≡ out.old ++ listing_text listing.now) }
 {
-    append_head(alloc, &listing.head, out)?;
-    append_batches(alloc, listing.batches.as_slice(), out)?;
-    append_end(alloc, listing.end, out)
+    append_head(&listing.head, out)?;
+    append_batches(listing.batches.as_slice(), out)?;
+    append_end(listing.end, out)
 }
 
-fn append_head(alloc: Global, head: &Option<Head>, out: &mut Octets) -> Result<(), NoMemory>
+fn append_head(head: &Option<Head>, out: &mut Octets) -> Result<(), NoMemory>
     ensures { OnOk result (out.new ≡ out.old ++ head_lines head.now) }
 {
     match head {
-        Some(head) => append_head_line(alloc, head, out),
+        Some(head) => append_head_line(head, out),
         None => Ok(()),
     }
 }
 
-fn append_head_line(alloc: Global, head: &Head, out: &mut Octets) -> Result<(), NoMemory>
+fn append_head_line(head: &Head, out: &mut Octets) -> Result<(), NoMemory>
     ensures { OnOk result (out.new ≡ out.old ++ head_line head.now) }
 {
     out.extend(b"depth ")?;
-    append_number(alloc, u32::from(head.depth), out)?;
+    append_number(u32::from(head.depth), out)?;
     out.extend(b" limit ")?;
-    append_number(alloc, head.limit, out)?;
+    append_number(head.limit, out)?;
     out.extend(b" name ")?;
-    append_name(alloc, head.name.text(), out)?;
+    append_name(head.name.text(), out)?;
     out.extend(b"\n")
 }
 
 /// Puts the name of a group at the end of a text: in hex, where a member could not have it.
-fn append_name(alloc: Global, name: &[u8], out: &mut Octets) -> Result<(), NoMemory>
+fn append_name(name: &[u8], out: &mut Octets) -> Result<(), NoMemory>
     ensures { OnOk result (out.new ≡ out.old ++ name_text name.now) }
 {
     if MemberName::read(name).is_some() {
         return out.extend(name);
     }
     out.extend(b"hex:")?;
-    append_hex(alloc, name, out)
+    append_hex(name, out)
 }
 
-fn append_batches(alloc: Global, batches: &[ListedBatch], out: &mut Octets) -> Result<(), NoMemory>
+fn append_batches(batches: &[ListedBatch], out: &mut Octets) -> Result<(), NoMemory>
     ensures { OnOk result (out.new ≡ out.old ++ flat_map batch_line batches.now) }
 {
     for batch in batches {
-        append_batch(alloc, batch, out)?;
+        append_batch(batch, out)?;
     }
     Ok(())
 }
 
-fn append_batch(alloc: Global, batch: &ListedBatch, out: &mut Octets) -> Result<(), NoMemory>
+fn append_batch(batch: &ListedBatch, out: &mut Octets) -> Result<(), NoMemory>
     ensures { OnOk result (out.new ≡ out.old ++ batch_line batch.now) }
 {
-    append_counts(alloc, batch, out)?;
+    append_counts(batch, out)?;
     append_changes(batch.changes.changes(), out)?;
     out.extend(b"\n")
 }
 
-fn append_counts(alloc: Global, batch: &ListedBatch, out: &mut Octets) -> Result<(), NoMemory>
+fn append_counts(batch: &ListedBatch, out: &mut Octets) -> Result<(), NoMemory>
     ensures { OnOk result (out.new ≡ out.old ++ counts_text batch.now) }
 {
     out.extend(b"epoch ")?;
-    append_number(alloc, batch.epoch, out)?;
+    append_number(batch.epoch, out)?;
     out.extend(b" sequence ")?;
-    append_number(alloc, batch.sequence, out)?;
+    append_number(batch.sequence, out)?;
     out.extend(b" keys ")?;
-    append_place(alloc, batch.keys as u64, out)
+    append_place(batch.keys as u64, out)
 }
 
 /// Puts who went and who came at the end of a text.
@@ -107,23 +102,21 @@ fn append_change(change: &Change, out: &mut Octets) -> Result<(), NoMemory>
     }
 }
 
-fn append_end(alloc: Global, end: JournalEnd, out: &mut Octets) -> Result<(), NoMemory>
+fn append_end(end: JournalEnd, out: &mut Octets) -> Result<(), NoMemory>
     ensures { OnOk result (out.new ≡ out.old ++ end_line end) }
 {
     match end {
         JournalEnd::Whole => out.extend(b"whole\n"),
-        JournalEnd::Begun { at } => {
-            append_at(alloc, b"a record begun and not closed at ", at, out)
-        }
-        JournalEnd::NotAJournal { at } => append_at(alloc, b"not a journal at ", at, out),
+        JournalEnd::Begun { at } => { append_at(b"a record begun and not closed at ", at, out) }
+        JournalEnd::NotAJournal { at } => append_at(b"not a journal at ", at, out),
     }
 }
 
 /// Puts a line that ends with a place at the end of a text.
-fn append_at(alloc: Global, front: &[u8], at: u64, out: &mut Octets) -> Result<(), NoMemory>
+fn append_at(front: &[u8], at: u64, out: &mut Octets) -> Result<(), NoMemory>
     ensures { OnOk result (out.new ≡ out.old ++ place_line front.now at) }
 {
     out.extend(front)?;
-    append_place(alloc, at, out)?;
+    append_place(at, out)?;
     out.extend(b"\n")
 }

@@ -1,3 +1,4 @@
+pub mod HexLemmas
 pub mod LineFacts
 pub mod LineLemmas
 pub mod WordLemmas

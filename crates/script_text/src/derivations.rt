@@ -5,10 +5,8 @@ ghost use Rattle.script_text.specs.Report.{derive_text, derived_word};
 
 use crate::numbers::append_number;
 use group_model::{Answer, MemberName, MemberNames, NoMemory, Octets};
-use std::alloc::Global;
 
 pub fn append_derive(
-    alloc: Global,
     epoch: u32,
     members: &MemberNames,
     answer: &Answer,
@@ -19,7 +17,7 @@ pub fn append_derive(
     match answer {
         Answer::Derived { yes } => {
             out.extend(b"derive ")?;
-            append_number(alloc, epoch, out)?;
+            append_number(epoch, out)?;
             append_names(members.names(), out)?;
             append_derived(*yes, out)
         }

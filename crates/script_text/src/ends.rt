@@ -2,6 +2,7 @@ ghost use Rattle.std.specs.Prelude.{◌≡◌, ◌++◌, OnOk, OnErr};
 ghost use Rattle.script_text.specs.Report.{end_text};
 
 use crate::numbers::append_number;
+use crate::texts::append_text;
 use group_model::{List, NoMemory, Octets};
 use std::alloc::Global;
 
@@ -12,21 +13,21 @@ pub fn end_line(alloc: Global, status: u8, line: u32, out: &mut Octets) -> Resul
     ensures err { OnErr result (out.new ≡ out.old) }
 {
     let mut text = List::new(alloc);
-    append_end(alloc, status, line, &mut text)?;
-    out.extend(text.as_slice())
+    append_end(status, line, &mut text)?;
+    append_text(text, out)
 }
 
 #[tactic(auto, unfolding(crate::specs::Report::end_text))]
-fn append_end(alloc: Global, status: u8, line: u32, out: &mut Octets) -> Result<(), NoMemory>
+fn append_end(status: u8, line: u32, out: &mut Octets) -> Result<(), NoMemory>
     ensures { OnOk result (out.new ≡ out.old ++ end_text status line) }
 {
     if status == 2 {
         out.extend(b"end 2 line ")?;
-        append_number(alloc, line, out)?;
+        append_number(line, out)?;
         out.extend(b"\n")?;
         return Ok(());
     }
     out.extend(b"end ")?;
-    append_number(alloc, u32::from(status), out)?;
+    append_number(u32::from(status), out)?;
     out.extend(b"\n")
 }

@@ -20,5 +20,6 @@ mod refusals;
 mod reports;
 mod seen;
 mod stores;
+mod texts;
 mod words;
 mod wraps;

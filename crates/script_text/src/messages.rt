@@ -7,15 +7,14 @@ use crate::numbers::append_number;
 use crate::pushes::append_octets;
 use crate::refusals::append_refusal;
 use group_model::{Answer, MemberName, NoMemory, Octets, SentReply};
-use std::alloc::Global;
 
-pub fn append_rule(alloc: Global, answer: &Answer, out: &mut Octets) -> Result<(), NoMemory>
+pub fn append_rule(answer: &Answer, out: &mut Octets) -> Result<(), NoMemory>
     ensures { OnOk result (out.new ≡ out.old ++ rule_text answer.now) }
 {
     match answer {
         Answer::RuleNumber { number } => {
             out.extend(b"rule ")?;
-            append_number(alloc, *number, out)?;
+            append_number(*number, out)?;
             out.extend(b"\n")
         }
         _ => Ok(()),
@@ -23,7 +22,6 @@ pub fn append_rule(alloc: Global, answer: &Answer, out: &mut Octets) -> Result<(
 }
 
 pub fn append_introduction(
-    alloc: Global,
     member: &MemberName,
     answer: &Answer,
     out: &mut Octets,
@@ -31,33 +29,28 @@ pub fn append_introduction(
     ensures { OnOk result (out.new ≡ out.old ++ introduction_text member.now answer.now) }
 {
     match answer {
-        Answer::Refused { why } => append_refusal(alloc, member.text(), why, out),
+        Answer::Refused { why } => append_refusal(member.text(), why, out),
         _ => Ok(()),
     }
 }
 
-pub fn append_serve(
-    alloc: Global,
-    member: &MemberName,
-    answer: &Answer,
-    out: &mut Octets,
-) -> Result<(), NoMemory>
+pub fn append_serve(member: &MemberName, answer: &Answer, out: &mut Octets) -> Result<(), NoMemory>
     ensures { OnOk result (out.new ≡ out.old ++ serve_text member.now answer.now) }
 {
     match answer {
         Answer::Datagram {
             octets,
             names: None,
-        } => append_message(alloc, b"second", member, octets.as_slice(), out),
+        } => append_message(b"second", member, octets.as_slice(), out),
         Answer::Datagram {
             octets,
             names: Some(_),
-        } => append_message(alloc, b"fourth", member, octets.as_slice(), out),
+        } => append_message(b"fourth", member, octets.as_slice(), out),
         Answer::Queued => {
             out.extend(member.text())?;
             out.extend(b" queued\n")
         }
-        Answer::Refused { why } => append_refusal(alloc, member.text(), why, out),
+        Answer::Refused { why } => append_refusal(member.text(), why, out),
         _ => Ok(()),
     }
 }
@@ -90,24 +83,19 @@ fn append_words(member: &MemberName, words: &[u8], out: &mut Octets) -> Result<(
 }
 
 /// Puts a line for each reply at the end of a text.
-pub fn append_replies(
-    alloc: Global,
-    replies: &[SentReply],
-    out: &mut Octets,
-) -> Result<(), NoMemory>
+pub fn append_replies(replies: &[SentReply], out: &mut Octets) -> Result<(), NoMemory>
     ensures { OnOk result (out.new ≡ out.old ++ flat_map reply_line replies.now) }
 {
     for reply in replies {
-        append_reply(alloc, reply, out)?;
+        append_reply(reply, out)?;
     }
     Ok(())
 }
 
-fn append_reply(alloc: Global, reply: &SentReply, out: &mut Octets) -> Result<(), NoMemory>
+fn append_reply(reply: &SentReply, out: &mut Octets) -> Result<(), NoMemory>
     ensures { OnOk result (out.new ≡ out.old ++ reply_line reply.now) }
 {
     append_message(
-        alloc,
         b"fourth",
         &reply.says.member,
         reply.datagram.as_slice(),
@@ -117,7 +105,6 @@ fn append_reply(alloc: Global, reply: &SentReply, out: &mut Octets) -> Result<()
 
 /// Puts the line of a message to a member at the end of a text; `which` is the word for the message.
 fn append_message(
-    alloc: Global,
     which: &[u8],
     member: &MemberName,
     octets: &[u8],
@@ -128,5 +115,5 @@ fn append_message(
     out.extend(which)?;
     out.extend(b" ")?;
     out.extend(member.text())?;
-    append_octets(alloc, octets, out)
+    append_octets(octets, out)
 }

@@ -5,7 +5,7 @@ ghost use Rattle.script_text.specs.Numbers.{is_digit, is_number, number_of, deci
 ghost use Rattle.script_text.specs.Lines.{number_in};
 
 use group_model::{NoMemory, Octets};
-use std::alloc::Global;
+use itoa::Buffer;
 
 /// How many digits the number of an epoch or of a push has at the most.
 const MOST_NUMBER_DIGITS: usize = 10;
@@ -14,19 +14,17 @@ const MOST_NUMBER_DIGITS: usize = 10;
 const NUMBER_LIMIT: u64 = 1 << 32;
 
 /// Puts a number at the end of a text, in decimal.
-pub fn append_number(alloc: Global, number: u32, out: &mut Octets) -> Result<(), NoMemory>
+pub fn append_number(number: u32, out: &mut Octets) -> Result<(), NoMemory>
     ensures { OnOk result (out.new ≡ out.old ++ decimal number) }
 {
-    let digits = number.to_string(alloc)?;
-    out.extend(digits.as_bytes())
+    out.extend(Buffer::new().format(number).as_bytes())
 }
 
 /// Puts a place in a file at the end of a text, in decimal.
-pub fn append_place(alloc: Global, place: u64, out: &mut Octets) -> Result<(), NoMemory>
+pub fn append_place(place: u64, out: &mut Octets) -> Result<(), NoMemory>
     ensures { OnOk result (out.new ≡ out.old ++ decimal place) }
 {
-    let digits = place.to_string(alloc)?;
-    out.extend(digits.as_bytes())
+    out.extend(Buffer::new().format(place).as_bytes())
 }
 
 /// The number that a text is, of 1 to 10 decimal digits and below 2^32; `None` where it is none.

@@ -7,47 +7,41 @@ use crate::pushes::append_pair;
 use crate::refusals::append_refusal;
 use crate::seen::append_seen;
 use group_model::{Answer, GroupSeen, NoMemory, Octets};
-use std::alloc::Global;
 
-pub fn append_create(
-    alloc: Global,
-    depth: u8,
-    answer: &Answer,
-    out: &mut Octets,
-) -> Result<(), NoMemory>
+pub fn append_create(depth: u8, answer: &Answer, out: &mut Octets) -> Result<(), NoMemory>
     ensures { OnOk result (out.new ≡ out.old ++ create_text depth answer.now) }
 {
     match answer {
         Answer::Opened { .. } => {
             out.extend(b"new depth ")?;
-            append_number(alloc, u32::from(depth), out)?;
+            append_number(u32::from(depth), out)?;
             out.extend(b"\n")
         }
-        Answer::Refused { why } => append_refusal(alloc, b"new", why, out),
+        Answer::Refused { why } => append_refusal(b"new", why, out),
         _ => Ok(()),
     }
 }
 
-pub fn append_begin(alloc: Global, answer: &Answer, out: &mut Octets) -> Result<(), NoMemory>
+pub fn append_begin(answer: &Answer, out: &mut Octets) -> Result<(), NoMemory>
     ensures { OnOk result (out.new ≡ out.old ++ begin_text answer.now) }
 {
     match answer {
         Answer::Opened { group, resent } => {
-            append_found(alloc, group, out)?;
-            append_pair(alloc, resent, out)
+            append_found(group, out)?;
+            append_pair(resent, out)
         }
-        Answer::Refused { why } => append_refusal(alloc, b"open", why, out),
+        Answer::Refused { why } => append_refusal(b"open", why, out),
         _ => Ok(()),
     }
 }
 
-fn append_found(alloc: Global, group: &GroupSeen, out: &mut Octets) -> Result<(), NoMemory>
+fn append_found(group: &GroupSeen, out: &mut Octets) -> Result<(), NoMemory>
     ensures { OnOk result (out.new ≡ out.old ++ found_line group.now) }
 {
     out.extend(b"open depth ")?;
-    append_number(alloc, u32::from(group.depth), out)?;
+    append_number(u32::from(group.depth), out)?;
     out.extend(b" ")?;
-    append_seen(alloc, group, out)
+    append_seen(group, out)
 }
 
 pub fn append_halt(answer: &Answer, out: &mut Octets) -> Result<(), NoMemory>
@@ -59,22 +53,22 @@ pub fn append_halt(answer: &Answer, out: &mut Octets) -> Result<(), NoMemory>
     }
 }
 
-pub fn append_reopen(alloc: Global, answer: &Answer, out: &mut Octets) -> Result<(), NoMemory>
+pub fn append_reopen(answer: &Answer, out: &mut Octets) -> Result<(), NoMemory>
     ensures { OnOk result (out.new ≡ out.old ++ reopen_text answer.now) }
 {
     match answer {
         Answer::Opened { group, resent } => {
-            append_found_again(alloc, group, out)?;
-            append_pair(alloc, resent, out)
+            append_found_again(group, out)?;
+            append_pair(resent, out)
         }
-        Answer::Refused { why } => append_refusal(alloc, b"reopen", why, out),
+        Answer::Refused { why } => append_refusal(b"reopen", why, out),
         _ => Ok(()),
     }
 }
 
-fn append_found_again(alloc: Global, group: &GroupSeen, out: &mut Octets) -> Result<(), NoMemory>
+fn append_found_again(group: &GroupSeen, out: &mut Octets) -> Result<(), NoMemory>
     ensures { OnOk result (out.new ≡ out.old ++ found_again_line group.now) }
 {
     out.extend(b"reopened ")?;
-    append_seen(alloc, group, out)
+    append_seen(group, out)
 }

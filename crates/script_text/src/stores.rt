@@ -8,21 +8,15 @@ use crate::numbers::append_number;
 use crate::pushes::{append_hex, append_push_refusal};
 use crate::refusals::append_refusal;
 use group_model::{Answer, MemberName, NoMemory, Octets};
-use std::alloc::Global;
 
-pub fn append_keep(
-    alloc: Global,
-    member: &MemberName,
-    answer: &Answer,
-    out: &mut Octets,
-) -> Result<(), NoMemory>
+pub fn append_keep(member: &MemberName, answer: &Answer, out: &mut Octets) -> Result<(), NoMemory>
     ensures { OnOk result (out.new ≡ out.old ++ keep_text member.now answer.now) }
 {
     match answer {
         Answer::Kept { epoch } => {
             out.extend(member.text())?;
             out.extend(b" keyed ")?;
-            append_number(alloc, *epoch, out)?;
+            append_number(*epoch, out)?;
             out.extend(b"\n")
         }
         Answer::Lost => {
@@ -32,9 +26,9 @@ pub fn append_keep(
         Answer::Older { last, got } => {
             out.extend(member.text())?;
             out.extend(b" older ")?;
-            append_number(alloc, *last, out)?;
+            append_number(*last, out)?;
             out.extend(b" ")?;
-            append_number(alloc, *got, out)?;
+            append_number(*got, out)?;
             out.extend(b"\n")
         }
         _ => Ok(()),
@@ -42,7 +36,6 @@ pub fn append_keep(
 }
 
 pub fn append_deliver(
-    alloc: Global,
     member: &MemberName,
     sequence: u32,
     answer: &Answer,
@@ -52,21 +45,21 @@ pub fn append_deliver(
 {
     match answer {
         Answer::TookRoot { epoch } => {
-            append_delivered(alloc, member, sequence, out)?;
-            append_taken(alloc, b"root", *epoch, out)
+            append_delivered(member, sequence, out)?;
+            append_taken(b"root", *epoch, out)
         }
         Answer::TookTraffic { epoch } => {
-            append_delivered(alloc, member, sequence, out)?;
-            append_taken(alloc, b"traffic", *epoch, out)
+            append_delivered(member, sequence, out)?;
+            append_taken(b"traffic", *epoch, out)
         }
         Answer::PushRefused { why } => {
-            append_delivered(alloc, member, sequence, out)?;
+            append_delivered(member, sequence, out)?;
             out.extend(b" refused ")?;
-            append_push_refusal(alloc, why, out)?;
+            append_push_refusal(why, out)?;
             out.extend(b"\n")
         }
         Answer::Nothing => {
-            append_delivered(alloc, member, sequence, out)?;
+            append_delivered(member, sequence, out)?;
             out.extend(b" nothing\n")
         }
         _ => Ok(()),
@@ -74,41 +67,35 @@ pub fn append_deliver(
 }
 
 /// Puts the beginning of the line at the end of a text: whom a push of this number is given to.
-fn append_delivered(
-    alloc: Global,
-    member: &MemberName,
-    sequence: u32,
-    out: &mut Octets,
-) -> Result<(), NoMemory>
+fn append_delivered(member: &MemberName, sequence: u32, out: &mut Octets) -> Result<(), NoMemory>
     ensures { OnOk result (out.new ≡ out.old ++ (member.now ++ (codes " push " ++ decimal sequence))) }
 {
     out.extend(member.text())?;
     out.extend(b" push ")?;
-    append_number(alloc, sequence, out)
+    append_number(sequence, out)
 }
 
 /// Puts the end of the line of a push that was taken at the end of a text: which key of which epoch it gave.
-fn append_taken(alloc: Global, key: &[u8], epoch: u32, out: &mut Octets) -> Result<(), NoMemory>
+fn append_taken(key: &[u8], epoch: u32, out: &mut Octets) -> Result<(), NoMemory>
     ensures { OnOk result (out.new ≡ out.old ++ 32 ∷ line_with (codes "taken" ∷ key.now ∷ decimal epoch ∷ [])) }
 {
     out.extend(b" taken ")?;
     out.extend(key)?;
     out.extend(b" ")?;
-    append_number(alloc, epoch, out)?;
+    append_number(epoch, out)?;
     out.extend(b"\n")
 }
 
-pub fn append_deliver_all(alloc: Global, answer: &Answer, out: &mut Octets) -> Result<(), NoMemory>
+pub fn append_deliver_all(answer: &Answer, out: &mut Octets) -> Result<(), NoMemory>
     ensures { OnOk result (out.new ≡ out.old ++ deliver_all_text answer.now) }
 {
     match answer {
-        Answer::Refused { why } => append_refusal(alloc, b"deliver-all", why, out),
+        Answer::Refused { why } => append_refusal(b"deliver-all", why, out),
         _ => Ok(()),
     }
 }
 
 pub fn append_fingerprint(
-    alloc: Global,
     member: &MemberName,
     answer: &Answer,
     out: &mut Octets,
@@ -123,8 +110,8 @@ pub fn append_fingerprint(
         } => {
             out.extend(member.text())?;
             out.extend(b" key ")?;
-            append_number(alloc, *epoch, out)?;
-            append_print(alloc, *sequence, print, out)
+            append_number(*epoch, out)?;
+            append_print(*sequence, print, out)
         }
         Answer::Nothing => {
             out.extend(member.text())?;
@@ -135,17 +122,12 @@ pub fn append_fingerprint(
 }
 
 /// Puts the end of that line at the end of a text.
-fn append_print(
-    alloc: Global,
-    sequence: u32,
-    print: &[u8; 8],
-    out: &mut Octets,
-) -> Result<(), NoMemory>
+fn append_print(sequence: u32, print: &[u8; 8], out: &mut Octets) -> Result<(), NoMemory>
     ensures { OnOk result (out.new ≡ out.old ++ 32 ∷ line_with (codes "sequence" ∷ decimal sequence ∷ encode_lower print.now ∷ [])) }
 {
     out.extend(b" sequence ")?;
-    append_number(alloc, sequence, out)?;
+    append_number(sequence, out)?;
     out.extend(b" ")?;
-    append_hex(alloc, print.as_slice(), out)?;
+    append_hex(print.as_slice(), out)?;
     out.extend(b"\n")
 }
