@@ -27,6 +27,9 @@ ghost use Rattle.std.specs.Prelude.{⊤};
 
 use asks::ask;
 use case_lines::{Cases, Text, answer_all, number, put};
+use crossings::a_server_crosses_threads;
+use gd_disk::MemDisk;
+use gd_edges::{ChaChaDraws, TestSigner};
 use group_model::Refusal;
 use group_server::ServerOpened;
 use groups::{TestOpened, TestServer, calls, create, open, read_plan};
@@ -35,11 +38,13 @@ use std::alloc::Global;
 use std::io;
 
 mod asks;
+mod crossings;
 mod groups;
 mod sessions;
 mod shown;
 
 fn main(rt: HostRuntime) -> io::Result<()> {
+    a_server_crosses_threads::<MemDisk, TestSigner, ChaChaDraws>();
     answer_all(&rt, Case { server: None })
 }
 
