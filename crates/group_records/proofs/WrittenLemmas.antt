@@ -16,17 +16,11 @@ use Rattle.group_terms.specs.declared.wires.WireFault.{WireFault}
 use Rattle.group_terms.specs.Names.{is_name}
 use Rattle.group_terms.specs.GroupNames.{is_group_name}
 use Rattle.gd_wire.specs.Readings.{Cursor, Reading, and_then, give, octets, octet, octet_at, number, long_number, due_octet, due_kind, end, value_of}
+use Rattle.gd_wire.proofs.ReadsLemmas.{cursor, Reads}
 use Rattle.group_records.specs.declared.heads.Head.{Head}
 use Rattle.group_records.specs.Fits.{HeadFits, IsNamed, NodeFits, TrafficFits, BatchFits}
 use Rattle.group_records.specs.Readings.{many, name_size, member_name, group_name, head_record, change, node, traffic, batch_record}
 use Rattle.group_records.specs.Texts.{named_text, head_text, change_text, changes_text, node_text, nodes_text, traffic_text, batch_text}
-
-abbrev pub cursor : ℕ → ℕ → List ℕ → Cursor
-cursor base at left = record { base = base; at = at; left = left }
-
--- the reading takes just this text, and gives this value
-pub record Reads {A : Type 0} (reading : Reading A) (text : List ℕ) (value : A) : Type 0 where
-  pub reads : (base at : ℕ) (rest : List ℕ) → reading (cursor base at (text ++ rest)) ≡ Ok (value, cursor base (at + length text) rest)
 
 -- so many of what is written one after the other
 pub many_reads : {A : Type 0} (reading : Reading A) (text : A → List ℕ) (xs : List A) → All (λ x. Reads reading (text x) x) xs

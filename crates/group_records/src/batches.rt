@@ -8,8 +8,7 @@ use crate::changes::{append_changes, changes};
 use crate::faults::RecordFault;
 use crate::heads::VERSION;
 use crate::nodes::{append_nodes, append_traffic, nodes, traffic};
-use byteorder::{BigEndian, ByteOrder};
-use gd_wire::{Reader, WireWhat, fault};
+use gd_wire::{Reader, WireWhat, fault, write_u16, write_u32};
 use group_terms::{Batch, BatchValues, MOST_CHANGES, NoMemory, Octets};
 use std::alloc::Global;
 
@@ -71,17 +70,13 @@ pub fn write_batch(
 {
     let changes = batch.changes();
     let nodes = values.nodes.as_slice();
-    let mut numbers = [0; 8];
-    BigEndian::write_u32(&mut numbers[..4], epoch);
-    BigEndian::write_u32(&mut numbers[4..], sequence);
-    let mut count = [0; 2];
-    BigEndian::write_u16(&mut count, nodes.len() as u16);
     let mut out = Octets::new(alloc);
     out.extend(&[BATCH, VERSION])?;
-    out.extend(&numbers)?;
+    write_u32(epoch, &mut out)?;
+    write_u32(sequence, &mut out)?;
     out.push(changes.len() as u8)?;
     append_changes(changes, &mut out)?;
-    out.extend(&count)?;
+    write_u16(nodes.len() as u16, &mut out)?;
     append_nodes(nodes, &mut out)?;
     append_traffic(&values.traffic, &mut out)?;
     Ok(out)

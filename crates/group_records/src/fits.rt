@@ -1,10 +1,10 @@
 //! What the types of a head and of a batch say of them, so that their records are read as they were written.
-ghost use Rattle.std.specs.Prelude.{◌≡◌, ◌<◌, ◌≤◌, length, All};
-ghost use Rattle.group_terms.specs.Octets.{AreOctets};
+ghost use Rattle.std.specs.Prelude.{◌≤◌, length, All};
 ghost use Rattle.gd_wire.specs.Readings.{octet_at};
 ghost use Rattle.group_records.specs.Fits.{HeadFits, IsNamed, NodeFits, TrafficFits, BatchFits};
 
 use crate::heads::Head;
+use gd_wire::{are_octets, has_four_octets};
 use group_terms::{Batch, BatchValues, Change, Drawn, TrafficValue};
 
 /// A head fits whose depth and limit do.
@@ -15,7 +15,7 @@ pub fn head_fits(head: &Head)
     ensures { HeadFits head.now }
 {
     are_octets(&head.spi);
-    is_long_number(head.limit);
+    has_four_octets(head.limit);
     head.name.text();
 }
 
@@ -25,8 +25,8 @@ pub fn batch_fits(batch: &Batch, epoch: u32, sequence: u32, values: &BatchValues
     ensures { 128 ≤ octet_at values.now.traffic.spi 0 → BatchFits batch.now epoch sequence values.now }
 {
     changes_fit(batch.changes());
-    is_long_number(epoch);
-    is_long_number(sequence);
+    has_four_octets(epoch);
+    has_four_octets(sequence);
     nodes_fit(values.nodes.as_slice());
     traffic_fits(&values.traffic);
 }
@@ -69,13 +69,3 @@ fn traffic_fits(traffic: &TrafficValue)
     are_octets(&traffic.integrity_key);
     are_octets(&traffic.spi);
 }
-
-/// A slice of octets has octets.
-fn are_octets(octets: &[u8])
-    ensures { AreOctets octets.now }
-{}
-
-/// A number of 4 octets.
-fn is_long_number(number: u32)
-    ensures { number < 4294967296 }
-{}

@@ -6,8 +6,7 @@ ghost use Rattle.group_records.specs.Texts.{head_text};
 ghost use Rattle.group_records.specs.Readings.{head_record};
 
 use crate::names::{append_name, group_name};
-use byteorder::{BigEndian, ByteOrder};
-use gd_wire::{Reader, WireFault, WireWhat, fault};
+use gd_wire::{Reader, WireFault, WireWhat, fault, write_u32};
 use group_terms::{GroupName, NoMemory, Octets};
 use std::alloc::Global;
 
@@ -69,9 +68,7 @@ pub fn write_head(alloc: Global, head: &Head) -> Result<Octets, NoMemory>
     let mut out = Octets::new(alloc);
     out.extend(&[HEAD, VERSION, head.depth])?;
     out.extend(&head.spi)?;
-    let mut limit = [0; 4];
-    BigEndian::write_u32(&mut limit, head.limit);
-    out.extend(&limit)?;
+    write_u32(head.limit, &mut out)?;
     append_name(head.name.text(), &mut out)?;
     Ok(out)
 }

@@ -5,8 +5,7 @@ ghost use Rattle.group_records.specs.Texts.{node_text, nodes_text, traffic_text}
 ghost use Rattle.group_records.specs.Readings.{many, node, traffic, NodesGive};
 
 use crate::faults::RecordFault;
-use byteorder::{BigEndian, ByteOrder};
-use gd_wire::{Reader, WireFault, WireWhat, fault};
+use gd_wire::{Reader, WireFault, WireWhat, fault, write_u16};
 use group_terms::{
     Drawn, IV_OCTETS, KEY_OCTETS, List, LkhId, NoMemory, NodeValue, Octets, TrafficValue,
 };
@@ -92,9 +91,7 @@ fn append_node(node: &Drawn, out: &mut Octets) -> Result<(), NoMemory>
     ensures octets { OnOk result (out.new ≡ out.old ++ node_text node.now) }
     ensures long { OnOk result (length out.new ≡ length out.old + 34) }
 {
-    let mut id = [0; 2];
-    BigEndian::write_u16(&mut id, node.id.number());
-    out.extend(&id)?;
+    write_u16(node.id.number(), out)?;
     out.extend(&node.value.iv)?;
     out.extend(&node.value.key)
 }

@@ -1,7 +1,8 @@
 use Rattle.std.proofs.Common.{◌∙◌, ◌+◌, ◌-◌, ◌++◌, [], ◌∷◌, ap, arith, length, length-append}
 use Rattle.gd_wire.specs.Readings.{mapped}
 use Rattle.group_records.specs.Readings.{node, many}
-use Rattle.group_records.proofs.ManyLemmas.{one_less, many_step}
+use Rattle.gd_wire.proofs.ReadingLemmas.{one_less}
+use Rattle.group_records.proofs.ManyLemmas.{many_step}
 use Rattle.group_records.proofs.nodes.nodes.Goals as goal
 
 pub loop-preserved : goal.loop-preserved
