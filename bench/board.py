@@ -2,7 +2,7 @@
 
     python3 bench/board.py        at the top of the repository
 
-It builds `room_cases`, and prints a row for each number of threads: the looks of all of them in a second, in millions.
+It builds `case_rooms`, and prints a row for each number of threads: the looks of all of them in a second, in millions.
 """
 
 import os
@@ -11,8 +11,8 @@ import subprocess
 import time
 
 TOP = pathlib.Path(__file__).resolve().parent.parent
-CRATE = TOP / "crates" / "room_cases"
-PROGRAM = CRATE / "out" / "room_cases"
+CRATE = TOP / "crates" / "case_rooms"
+PROGRAM = CRATE / "out" / "case_rooms"
 LOOKS = 200_000_000
 
 

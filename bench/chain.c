@@ -1,5 +1,5 @@
 /* Cipher block chaining by openssl's library, N times over one text: each time a key is expanded and the text of so many octets is sealed or opened
-   under it in place, and its last block is the key of the next time. It prints what `room_cases` (`repeat WORK N`) does for the same work. */
+   under it in place, and its last block is the key of the next time. It prints what `case_rooms` (`repeat WORK N`) does for the same work. */
 #include <openssl/evp.h>
 #include <stdio.h>
 #include <stdlib.h>

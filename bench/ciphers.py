@@ -2,7 +2,7 @@
 
     python3 bench/ciphers.py        at the top of the repository
 
-It builds `room_cases`, and prints for each row what that does in a second, what openssl does, and openssl's figure divided by ours.
+It builds `case_rooms`, and prints for each row what that does in a second, what openssl does, and openssl's figure divided by ours.
 Rows: a key of 128 bits expanded and a text sealed or opened under it by cipher block chaining, of 18 KiB, in MiB/s, and of 64 octets, in
 thousands a second; a key expanded and two blocks encrypted, the work of one wrap, in thousands a second; the 286 update arrays that a batch
 may send in a tree of 512 leaves, in batches a second; the membership push with them, written, and opened again in a room that keeps it,
@@ -17,8 +17,8 @@ import tempfile
 import time
 
 TOP = pathlib.Path(__file__).resolve().parent.parent
-CRATE = TOP / "crates" / "room_cases"
-PROGRAM = CRATE / "out" / "room_cases"
+CRATE = TOP / "crates" / "case_rooms"
+PROGRAM = CRATE / "out" / "case_rooms"
 # the processor's AES and carry-less products off, and nothing else
 NO_HARDWARE = dict(os.environ, OPENSSL_ia32cap="~0x200000200000000:~0x0")
 MIB = 1 << 20
@@ -68,7 +68,7 @@ def built(folder, source):
 
 
 def compared(work, theirs, count, unit):
-    """What `repeat WORK` of `room_cases` and a program of the same work do in a second, in such units, once both have been seen to do the same."""
+    """What `repeat WORK` of `case_rooms` and a program of the same work do in a second, in such units, once both have been seen to do the same."""
     programs = [(PROGRAM, work), theirs]
     ours, others = (run(program, 3) for program in programs)
     assert ours == others, "the two programs differ"

@@ -1,4 +1,4 @@
-/* The works of `room_cases` (`core work PATH DEPTH WORD ..`) in C with openssl's library: the same batches in a key tree that is changed in place, with the
+/* The works of `case_rooms` (`core work PATH DEPTH WORD ..`) in C with openssl's library: the same batches in a key tree that is changed in place, with the
    same values, pushes and replies, and the same calls to the file. It has the kind of the batches and how many there are as words, and prints the same. */
 #define OPENSSL_SUPPRESS_DEPRECATED
 #include <fcntl.h>

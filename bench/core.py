@@ -2,7 +2,7 @@
 
     python3 bench/core.py [FOLDER]        at the top of the repository
 
-It builds `room_cases` and `bench/core.c`, which each make a group in a tree of 512 leaves and close batches: they queue the changes, find what a
+It builds `case_rooms` and `bench/core.c`, which each make a group in a tree of 512 leaves and close batches: they queue the changes, find what a
 batch renews, draw its keys, seal its pushes, find what its newcomers are told, and store it. For each work it prints the middle one of the times that
 each takes in runs by turns, our time divided by that of C, and the most memory that each had. The works are 512 members of whom 32 then go out at
 once; many batches of 32 changes; and many of four. On a file in memory they show the sealing and the planning alone. The other files lie in a new folder
@@ -25,8 +25,8 @@ import typing
 import works
 
 TOP = pathlib.Path(__file__).resolve().parent.parent
-CRATE = TOP / "crates" / "room_cases"
-PROGRAM = CRATE / "out" / "room_cases"
+CRATE = TOP / "crates" / "case_rooms"
+PROGRAM = CRATE / "out" / "case_rooms"
 # the processor's AES and carry-less products off, and nothing else
 NO_HARDWARE = dict(os.environ, OPENSSL_ia32cap="~0x200000200000000:~0x0")
 DEPTH = 9

@@ -2,7 +2,7 @@
 
     python3 bench/desk.py        at the top of the repository
 
-It builds `room_cases` and `bench/desk.rs`, and prints for 1, 2, 4 and 16 threads how many thousand turns all threads together make at each in
+It builds `case_rooms` and `bench/desk.rs`, and prints for 1, 2, 4 and 16 threads how many thousand turns all threads together make at each in
 a second, and the second figure divided by the first. A turn adds a number to a sum and to the list of all numbers.
 """
 
@@ -12,8 +12,8 @@ import tempfile
 import time
 
 TOP = pathlib.Path(__file__).resolve().parent.parent
-CRATE = TOP / "crates" / "room_cases"
-PROGRAM = CRATE / "out" / "room_cases"
+CRATE = TOP / "crates" / "case_rooms"
+PROGRAM = CRATE / "out" / "case_rooms"
 TURNS_OF_A_ROUND = 64 * 4096
 ROUNDS = {1: 40, 2: 20, 4: 10, 16: 10}
 

@@ -1,4 +1,4 @@
-//! The same work as so many lines `turns THREADS` of `room_cases`, over a mutex of std and a queue: `desk THREADS ROUNDS`.
+//! The same work as so many lines `turns THREADS` of `case_rooms`, over a mutex of std and a queue: `desk THREADS ROUNDS`.
 use std::collections::VecDeque;
 use std::sync::Mutex;
 use std::{env, hint, thread};

@@ -1,4 +1,4 @@
-/* The work of `room_cases` (`append PATH COUNT`) in C, by the same calls to the file: an empty journal, and so many records with bodies of 300 octets.
+/* The work of `case_rooms` (`append PATH COUNT`) in C, by the same calls to the file: an empty journal, and so many records with bodies of 300 octets.
    It prints the same. */
 #include <fcntl.h>
 #include <stdio.h>

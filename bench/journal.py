@@ -2,7 +2,7 @@
 
     python3 bench/journal.py [FOLDER]        at the top of the repository
 
-It builds `room_cases` and `bench/journal.c`, which each make an empty journal and append 1,000 records with bodies of 300 octets to it. It
+It builds `case_rooms` and `bench/journal.c`, which each make an empty journal and append 1,000 records with bodies of 300 octets to it. It
 prints the middle one of the times that each takes in runs by turns, and our time divided by that of C. The files lie in a new folder in FOLDER,
 or else in /var/tmp, which has to be on a device. Before that it sees that both write the same file, and counts their calls to the system with
 strace: 1,000 appends are 2,000 writes and 2,000 syncs, and no other call.
@@ -18,8 +18,8 @@ import tempfile
 import time
 
 TOP = pathlib.Path(__file__).resolve().parent.parent
-CRATE = TOP / "crates" / "room_cases"
-PROGRAM = CRATE / "out" / "room_cases"
+CRATE = TOP / "crates" / "case_rooms"
+PROGRAM = CRATE / "out" / "case_rooms"
 APPENDS = 1_000
 # an odd number, so that one is in the middle
 RUNS = 31

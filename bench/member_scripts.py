@@ -1,5 +1,5 @@
 #!/usr/bin/env python3
-"""Scripts of members that come, go and lose datagrams, as cases for crates/console_cases.
+"""Scripts of members that come, go and lose datagrams, as cases for crates/case_consoles.
 
     member_scripts.py        prints the cases `members_drawn_..` and `keys_of_.._apart` of its stdin
 

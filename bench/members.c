@@ -1,4 +1,4 @@
-/* The lines of `room_cases` that begin with `store`, in C with openssl's library: gives each push to the stores of 16 members, and makes a store of each
+/* The lines of `case_rooms` that begin with `store`, in C with openssl's library: gives each push to the stores of 16 members, and makes a store of each
    reply. A store does for each datagram what RFC 6407 section 4 asks of a member: it looks at the header, decrypts the rest under the root's key, reads all
    payloads, checks the signature and the number, and opens the keys of its path. It prints the same, without what a refusal says besides its kind. */
 #define OPENSSL_SUPPRESS_DEPRECATED

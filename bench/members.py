@@ -2,7 +2,7 @@
 
     python3 bench/members.py        at the top of the repository
 
-It builds `room_cases` and `bench/members.c`. Both read lines with the pushes of a group, which `bench/reference.py` makes, and give each push to the
+It builds `case_rooms` and `bench/members.c`. Both read lines with the pushes of a group, which `bench/reference.py` makes, and give each push to the
 stores of 16 members: a store decrypts the push under its root's key, reads its payloads, checks its signature and its number, and takes the keys of its
 path or the traffic key. A member that went out finds no path, and its reply makes its store anew when it comes back. For each group the script prints how
 often a store read a push, the middle one of the processor times that each program takes in runs by turns, our time divided by that of C, and the most
@@ -26,8 +26,8 @@ import typing
 import reference
 
 TOP = pathlib.Path(__file__).resolve().parent.parent
-CRATE = TOP / "crates" / "room_cases"
-PROGRAM = CRATE / "out" / "room_cases"
+CRATE = TOP / "crates" / "case_rooms"
+PROGRAM = CRATE / "out" / "case_rooms"
 # the processor's AES and carry-less products off, and nothing else
 NO_HARDWARE = dict(os.environ, OPENSSL_ia32cap="~0x200000200000000:~0x0")
 # the name of each group, the depth of its tree, how many go out with a batch, and how many batches there are

@@ -2,7 +2,7 @@
 
     python3 bench/pulls_server.py [PROGRAM]        at the top of the repository
 
-It builds `server_cases`, or takes it from PROGRAM, and `bench/server.c`. It prints for 16 and for 1,024 SAs how many pulls of present members are served
+It builds `case_servers`, or takes it from PROGRAM, and `bench/server.c`. It prints for 16 and for 1,024 SAs how many pulls of present members are served
 in a second in a tree of 512 leaves, and what part of that time openssl takes for the ciphers and hashes of their four messages on the server's side, with its
 hardware AES switched off. The least processor times of runs in turn count. What it takes to read and write lines is left out: it is the time of a run in which
 as many datagrams as those of a pull are the last one again, and are answered by what was answered. Then it prints the most memory that 1,000 and 20,000 pulls
@@ -22,8 +22,8 @@ import threading
 import server_lines
 
 TOP = pathlib.Path(__file__).resolve().parent.parent
-CRATE = TOP / "crates" / "server_cases"
-PROGRAM = CRATE / "out" / "server_cases"
+CRATE = TOP / "crates" / "case_servers"
+PROGRAM = CRATE / "out" / "case_servers"
 # the processor's AES and carry-less products off, and nothing else
 NO_HARDWARE = dict(os.environ, OPENSSL_ia32cap="~0x200000200000000:~0x0")
 SAS = (16, 1_024)

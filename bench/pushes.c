@@ -1,6 +1,6 @@
 /* The membership push of a batch with 286 update arrays by openssl's library, written or opened N times. Each push that is written is
    encrypted under the last octets of the one before; one that is opened stays the same. The signature is HMAC with SHA-256. It prints what
-   `room_cases` (`repeat push-write N` and `repeat push-open N`) does. */
+   `case_rooms` (`repeat push-write N` and `repeat push-open N`) does. */
 #include <openssl/crypto.h>
 #include <openssl/evp.h>
 #include <openssl/params.h>

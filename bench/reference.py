@@ -4,7 +4,7 @@
     reference.py WORD.. < SCRIPT                 one run on an empty disk; the report goes to standard output
     reference.py --row FOLDER ROW                compares ROW of a folder of rows (report, status, journal)
     reference.py --rows FOLDER                   all rows of a folder
-    reference.py --cases < CASES                 answers a file of cases as crates/console_cases does
+    reference.py --cases < CASES                 answers a file of cases as crates/case_consoles does
     reference.py --drawn N SEED FOLDER           writes N drawn scripts with the words, reports and journals that are due
     reference.py --program PROGRAM FOLDER        runs a program on each row of a folder that has no fault, and compares
 
@@ -1109,7 +1109,7 @@ def print_rows(folder, rows):
 # ----------------------------------------------------------------------------------------------------------- cases
 
 def told(detail, report, status, line, image):
-    """A run as crates/console_cases tells it."""
+    """A run as crates/case_consoles tells it."""
     def hashed(what, octets): return '%s %d %s\n' % (what, len(octets), sha256(octets).hex())
     ended = 'status %d line %d\n' % (status, line)
     if detail == 'hashes': return hashed('report', report) + ended + hashed('journal', image)

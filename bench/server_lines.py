@@ -1,7 +1,7 @@
 #!/usr/bin/env python3
-"""The lines that `server_cases` is given, and what it has to answer, by a second implementation of the key server.
+"""The lines that `case_servers` is given, and what it has to answer, by a second implementation of the key server.
 
-    python3 bench/server_lines.py                       writes stdin and stdout of crates/server_cases, from bench/server_cases.script
+    python3 bench/server_lines.py                       writes stdin and stdout of crates/case_servers, from bench/case_servers.script
     python3 bench/server_lines.py --compare PROGRAM     runs a program on that stdin, and says at which lines it answers something else
     python3 bench/server_lines.py --answer < LINES      answers lines as the program does
     python3 bench/server_lines.py --rows FOLDER         compares the readers of messages 1 and 3 with first.cases and third.cases of a folder
@@ -9,7 +9,7 @@
 The server and its members are those of reference.py, but for what a console does not report: the place of a fault, both values of a HASH, and how many SAs
 there may be. These are written here, from docs/FORMATS.md alone. No line that is due comes from the program.
 
-A script has the lines of `server_cases`, and these, which become such lines; a state is shown after each opening:
+A script has the lines of `case_servers`, and these, which become such lines; a state is shown after each opening:
 
     join NAME             a member makes a pull; at its first use it draws its SA, and has it introduced
     again NAME            it sends its last datagram again, and its pull goes on from there
@@ -33,8 +33,8 @@ import sys
 import reference as ref
 
 TOP = pathlib.Path(__file__).resolve().parent.parent
-CRATE = TOP / "crates" / "server_cases"
-SCRIPT = TOP / "bench" / "server_cases.script"
+CRATE = TOP / "crates" / "case_servers"
+SCRIPT = TOP / "bench" / "case_servers.script"
 GROUP = b"console"
 MOST_LIMIT = 2**32 - 1
 
@@ -225,7 +225,7 @@ def keys_line(member, group, names):
 
 
 class Answers:
-    """Answers lines, as `server_cases` does."""
+    """Answers lines, as `case_servers` does."""
 
     def __init__(self):
         self.server = None

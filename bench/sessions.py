@@ -2,7 +2,7 @@
 
     python3 bench/sessions.py [PROGRAM]        at the top of the repository
 
-It builds `server_cases`, or takes it from PROGRAM, and prints for 16, 1,024 and 65,536 SAs how many first messages are looked at in a second, and that number
+It builds `case_servers`, or takes it from PROGRAM, and prints for 16, 1,024 and 65,536 SAs how many first messages are looked at in a second, and that number
 divided by the one for 16 SAs. A rule refuses each message once it is read, so that no session begins. The least processor times of runs in turn count. What it
 takes to start, to introduce the SAs, and to read and write lines is left out: it is the time of a run in which the messages have another version, and are not
 looked at.
@@ -17,8 +17,8 @@ import reference
 import server_lines
 
 TOP = pathlib.Path(__file__).resolve().parent.parent
-CRATE = TOP / "crates" / "server_cases"
-PROGRAM = CRATE / "out" / "server_cases"
+CRATE = TOP / "crates" / "case_servers"
+PROGRAM = CRATE / "out" / "case_servers"
 SAS = (16, 1_024, 65_536)
 MESSAGES = 16
 LOOKS = 48_000

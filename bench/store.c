@@ -1,4 +1,4 @@
-/* The opening of a store by `room_cases` (`open PATH`) in C: reads the journal of a group once, tests the form of each record, and sees whether each batch is the
+/* The opening of a store by `case_rooms` (`open PATH`) in C: reads the journal of a group once, tests the form of each record, and sees whether each batch is the
    one that is due, with a key tree that is changed in place. It prints the same. */
 #include <stdint.h>
 #include <stdio.h>

@@ -2,7 +2,7 @@
 
     python3 bench/store.py [FOLDER]        at the top of the repository
 
-It builds `room_cases` and `bench/store.c`, which each read the journal of a group in a tree of 512 leaves, test the form of each record, and see
+It builds `case_rooms` and `bench/store.c`, which each read the journal of a group in a tree of 512 leaves, test the form of each record, and see
 whether each batch is the one that is due. It makes journals of 1,000 and of 10,000 batches with four changes each. For each it prints the best of
 the times that each program takes in runs by turns, our time divided by that of C, and the most memory that each had. The files lie in a new
 folder in FOLDER, or else in /var/tmp. Before that it sees that both answer alike, for whole journals and for such as were changed.
@@ -20,8 +20,8 @@ import time
 import works
 
 TOP = pathlib.Path(__file__).resolve().parent.parent
-CRATE = TOP / "crates" / "room_cases"
-PROGRAM = CRATE / "out" / "room_cases"
+CRATE = TOP / "crates" / "case_rooms"
+PROGRAM = CRATE / "out" / "case_rooms"
 COUNTS = [1_000, 10_000]
 RUNS = 31
 DEPTH = 9

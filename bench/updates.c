@@ -1,5 +1,5 @@
 /* 286 update arrays by openssl's library, N times: in each a key's IV and octets are sealed by cipher block chaining under the last octets of the array
-   before. It prints what `room_cases` (`repeat updates N`) does. */
+   before. It prints what `case_rooms` (`repeat updates N`) does. */
 #define OPENSSL_SUPPRESS_DEPRECATED
 #include <openssl/aes.h>
 #include <stdio.h>

@@ -1,4 +1,4 @@
-"""The changes of the batches of a work: what `core.py` and `store.py` have `room_cases` do, and `core.c` does by itself.
+"""The changes of the batches of a work: what `core.py` and `store.py` have `case_rooms` do, and `core.c` does by itself.
 
 Batches of the kind `large` have 32 changes each, and those of `small` four. Members come in until the tree is full, or nearly full. From then on as many go
 out as a batch has changes, and others come in, in turn: first those go who filled the tree, far from each other, and then the others as they came.

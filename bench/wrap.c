@@ -1,4 +1,4 @@
-/* The work of one wrap by openssl's library: a key expanded, and two blocks encrypted under it, N times. It prints what `room_cases` (`repeat wrap N`) does. */
+/* The work of one wrap by openssl's library: a key expanded, and two blocks encrypted under it, N times. It prints what `case_rooms` (`repeat wrap N`) does. */
 #define OPENSSL_SUPPRESS_DEPRECATED
 #include <openssl/aes.h>
 #include <stdio.h>

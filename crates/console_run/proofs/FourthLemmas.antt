@@ -18,7 +18,7 @@ use Rattle.member_pull.specs.declared.pulls.Step.TheVariants as steps
 use Rattle.member_steps.specs.Acts.{Ignore, IsIgnoring}
 use Rattle.member_steps.specs.Members.{Mail, Members}
 use Rattle.member_steps.specs.Steps.{IsKeeping}
-use Rattle.store_steps.specs.Fourths.{GetsOwnFourth, OwnFourthsAreTaken}
+use Rattle.law_store_steps.specs.Fourths.{GetsOwnFourth, OwnFourthsAreTaken}
 use Rattle.console_run.specs.OwnFourths.{TakesOwnFourths}
 
 only : {X : Type 0} {a b : X} → Some a ≡ Some b → a ≡ b

@@ -5,10 +5,10 @@ use Rattle.group_model.specs.declared.entries.Answer.{Answer}
 use Rattle.group_model.specs.declared.entries.Entry.{Entry}
 use Rattle.group_steps.specs.Moments.{IsTrueMoment, MomentsEndHistories}
 use Rattle.group_steps.specs.Runs.{Outset, Run, no_run}
-use Rattle.member_roots.specs.Groups.{Checks}
+use Rattle.law_member_roots.specs.Groups.{Checks}
 use Rattle.member_store.specs.Stores.{Store}
-use Rattle.store_steps.specs.Follow.{IsGivenPush, IsTrueHistory, MembershipPushesAreTaken, OthersAreRefused, RepliesAreKept, StoresAreOfTheGroup}
-use Rattle.store_steps.specs.Follow.{TrafficPushesAreTaken}
+use Rattle.law_store_steps.specs.Follow.{IsGivenPush, IsTrueHistory, MembershipPushesAreTaken, OthersAreRefused, RepliesAreKept, StoresAreOfTheGroup}
+use Rattle.law_store_steps.specs.Follow.{TrafficPushesAreTaken}
 use Rattle.group_steps.specs.Devices.{Devices, Keying}
 use Rattle.group_steps.specs.Steps.{IsHistory}
 use Rattle.console_run.specs.Following.{IsGivenAt, KeepsReplies, StoresFollow}

@@ -17,8 +17,8 @@ use Rattle.server_steps.specs.Sent.{last_push}
 use Rattle.group_steps.specs.Steps.{IsRunStep}
 use Rattle.group_steps.specs.TrueSteps.{batches_in}
 use Rattle.member_store.specs.Stores.{Store, root_epoch}
-use Rattle.store_steps.specs.Follow.{HasKeysThen, HasThen, IsOurs, IsTrafficPush, IsWhy, TakesOrLoses, holders_in, number_at}
-use Rattle.store_steps.specs.Stores.{AreForOneRoot, AreStores}
+use Rattle.law_store_steps.specs.Follow.{HasKeysThen, HasThen, IsOurs, IsTrafficPush, IsWhy, TakesOrLoses, holders_in, number_at}
+use Rattle.law_store_steps.specs.Stores.{AreForOneRoot, AreStores}
 
 module _ {D G V : Type 0} (on : Devices D G V) (by : Keying G) where
   -- Of no push that the group sends under the root of one epoch is a push read under that of another one: supposed of cipher and drawn keys.

@@ -10,7 +10,7 @@ use Rattle.group_steps.specs.Moments.{IsMoment}
 use Rattle.group_steps.specs.Runs.{Run}
 use Rattle.member_steps.specs.Acts.{Acts}
 use Rattle.member_steps.specs.Members.{Members}
-use Rattle.store_steps.specs.Fourths.{GetsOwnFourth, TakesOwnFourth}
+use Rattle.law_store_steps.specs.Fourths.{GetsOwnFourth, TakesOwnFourth}
 
 module _ {D G V : Type 0} (on : Devices D G V) (by : Keying G) (start : Run D) (entries : List Entry) (after : Run D) where
   -- At a moment the fourth message that a member's session keeps comes to it next, and its pull is in step with that session. Then members that read what is on

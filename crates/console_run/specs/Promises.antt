@@ -31,7 +31,7 @@ use Rattle.group_steps.specs.Mails.{AnswersMember, AreMessages, RepliesToWaiting
 use Rattle.group_steps.specs.Runs.{Run, no_run, outset_of}
 use Rattle.group_steps.specs.Steps.{AreRunSteps, IsHistory, IsRunStep}
 use Rattle.group_steps.specs.TrueSteps.{batches_in}
-use Rattle.member_roots.specs.Groups.{Checks}
+use Rattle.law_member_roots.specs.Groups.{Checks}
 use Rattle.sym_closure.specs.Secrecy.{MembersDerive, NoOthersDerive, NobodyDerivesYet}
 use Rattle.script_text.specs.Report.{entries_text}
 use Rattle.run_report.specs.declared.endings.Ending.{Ending}

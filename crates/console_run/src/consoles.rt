@@ -23,13 +23,13 @@ use group_steps::{
     mail_is_of_the_group,
 };
 use group_terms::{GroupName, NoMemory};
-use run_report::{Finished, end_script, end_unopened, end_without_group};
-use std::alloc::Global;
-use store_steps::{
+use law_store_steps::{
     a_due_push_is_taken_in_a_history, a_reply_is_kept_in_a_history,
     an_own_fourth_message_is_taken_in_a_history, any_other_push_is_refused_in_a_history,
     each_store_is_one_of_the_group,
 };
+use run_report::{Finished, end_script, end_unopened, end_without_group};
+use std::alloc::Global;
 use sym_closure::{a_history_serves_its_members, members_derive, no_others_derive};
 use tree_store::a_file_has_one_group;
 

@@ -11,7 +11,7 @@ use Rattle.group_terms.specs.declared.keys.KeyName.TheVariants.{Phase, Traffic}
 use Rattle.group_model.specs.Derivations.{held_names, names_to, pairs_in, pairs_sent, replies_in}
 use Rattle.group_model.specs.Laws.{Laws}
 use Rattle.group_model.specs.declared.entries.Entry.{Entry}
-use Rattle.key_ways.specs.Laws.{Laws as Ways}
+use Rattle.law_key_ways.specs.Laws.{Laws as Ways}
 use Rattle.sym_closure.specs.Firsts.{AreAmong}
 use Rattle.sym_closure.specs.Serving.{EarlierRunsServeNobodyElse, IsPartOfWorld, OnlyMembersDerive}
 use Rattle.sym_closure.specs.Worlds.{holdings, world}

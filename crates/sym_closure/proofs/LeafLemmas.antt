@@ -9,7 +9,7 @@ use Rattle.group_terms.specs.Positions.{halved, is_below}
 use Rattle.group_terms.specs.declared.changes.Change.{Change}
 use Rattle.group_model.specs.Places.{is_held_by, holders_at}
 use Rattle.group_model.specs.Fresh.{is_fresh, last_change, upwards}
-use Rattle.key_ways.specs.Laws.{Laws as Ways}
+use Rattle.law_key_ways.specs.Laws.{Laws as Ways}
 use Rattle.sym_closure.proofs.FirstLemmas.{only_item, Contains-first}
 use Rattle.sym_closure.proofs.ContainLemmas.{Contains-cases, Contains-later}
 

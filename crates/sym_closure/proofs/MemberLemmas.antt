@@ -17,7 +17,7 @@ use Rattle.group_model.specs.Fresh.{is_fresh, node_name, upwards, key_path}
 use Rattle.group_model.specs.Stayed.{is_kept, stayed_at}
 use Rattle.group_model.specs.Wraps.{node_wraps, wraps_at}
 use Rattle.group_model.specs.Derivations.{CanDerive}
-use Rattle.key_ways.specs.Laws.{Laws as Ways}
+use Rattle.law_key_ways.specs.Laws.{Laws as Ways}
 use Rattle.sym_closure.specs.Worlds.{epochs_of, keys_told, wraps_since}
 use Rattle.sym_closure.specs.Secrecy.{IsMemberThrough}
 use Rattle.sym_closure.proofs.FirstLemmas.{Contains-first}

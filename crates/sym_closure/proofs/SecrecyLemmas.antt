@@ -23,7 +23,7 @@ use Rattle.group_model.specs.Stayed.{stayed_at}
 use Rattle.group_model.specs.Wraps.{node_wraps, wraps_at}
 use Rattle.group_model.specs.Derivations.{AreAtHand, CanDerive, told_pairs}
 use Rattle.group_model.specs.Laws.{Laws}
-use Rattle.key_ways.specs.Laws.{IsStepUp, Laws as Ways}
+use Rattle.law_key_ways.specs.Laws.{IsStepUp, Laws as Ways}
 use Rattle.sym_closure.specs.Worlds.{epochs_of, members_at, keys_told, pairs_at, world, told_at, holdings}
 use Rattle.sym_closure.specs.Secrecy.{HadLeafBelow, HasMember, IsWithinReach}
 use Rattle.sym_closure.proofs.FirstLemmas.{no_item}

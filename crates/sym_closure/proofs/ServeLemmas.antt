@@ -14,7 +14,7 @@ use Rattle.group_model.specs.Derivations.{CanDerive, names_to, replies_in, repli
 use Rattle.group_model.specs.declared.entries.Entry.{Entry}
 use Rattle.group_model.specs.declared.entries.SymReply.{SymReply}
 use Rattle.group_model.specs.Laws.{Laws}
-use Rattle.key_ways.specs.Laws.{Laws as Ways}
+use Rattle.law_key_ways.specs.Laws.{Laws as Ways}
 use Rattle.sym_closure.specs.Firsts.{AreAmong}
 use Rattle.sym_closure.specs.Worlds.{epochs_of, world, holdings, wraps_since}
 use Rattle.sym_closure.specs.Secrecy.{first_epoch}

@@ -11,7 +11,7 @@ ghost use Rattle.sym_closure.specs.Worlds.{world, holdings};
 ghost use Rattle.sym_closure.specs.Secrecy.{NoOthersDerive, NobodyDerivesYet, DerivesOnlyWithinReach, MembersDerive};
 
 use group_model::laws_hold;
-use key_ways::each_law_holds;
+use law_key_ways::each_law_holds;
 
 /// No coalition derives the traffic key of an epoch at which none of them is a member, nor that of an epoch to come; nor any key of the
 /// tree but those that the positions from their leaves up had while they had these leaves.

@@ -1,5 +1,0 @@
-use Rattle.key_ways.proofs.LeafLemmas.{place_is_leaf}
-use Rattle.key_ways.proofs.laws.a_place_is_a_leaf.Goals as goal
-
-pub returns : goal.returns
-returns c depth epoch leaf batches m = place_is_leaf c.laws_hold.ensures depth epoch batches m leaf

@@ -1,5 +1,0 @@
-use Rattle.key_ways.proofs.LeafLemmas.{place_of}
-use Rattle.key_ways.proofs.laws.each_member_has_a_place.Goals as goal
-
-pub returns : goal.returns
-returns c = place_of

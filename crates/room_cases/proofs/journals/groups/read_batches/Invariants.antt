@@ -1,6 +1,0 @@
-use Rattle.std.proofs.Common.{◌-◌}
-use Rattle.room_cases.proofs.journals.groups.read_batches.Given as goal
-
--- no record begins past the farthest place of a disk, and each one moves the place on
-abbrev pub decreases-loop-stored : goal.decreases-loop-stored
-decreases-loop-stored g l = 4611686018427387904 - l.store.at

@@ -1,6 +1,0 @@
-use Rattle.std.proofs.Common.{IsSome}
-use Rattle.store_cases.proofs.stores.stored_on.Given as goal
-
--- the place of the closed gate is known
-abbrev pub invariant-loop-count : goal.invariant-loop-count
-invariant-loop-count l = IsSome l.store.end
