@@ -39,22 +39,34 @@ const AT_A_RATE: Case = Case {
     sum: 3 * 4950,
 };
 
-const SIXTEEN_THREADS: Case = Case {
+/// As many passes and turns as a desk may have.
+const MOST_TURNS: Case = Case {
     passes: 64,
     turns: 4096,
-    threads: 16,
+    threads: 1,
     rate: 1,
     entries: 262_144,
     sum: 34_359_607_296,
+};
+
+/// Few turns: where the processors have other work, each waits for a switch of threads.
+const SIXTEEN_THREADS: Case = Case {
+    passes: 64,
+    turns: 64,
+    threads: 16,
+    rate: 1,
+    entries: 4096,
+    sum: 8_386_560,
 };
 
 #[test]
 fn threads_make_all_turns(rt: HostRuntime) {
     let two = makes_all(&rt, rt.alloc(), &TWO_THREADS) == Ok(true);
     let at_a_rate = makes_all(&rt, rt.alloc(), &AT_A_RATE) == Ok(true);
+    let most = makes_all(&rt, rt.alloc(), &MOST_TURNS) == Ok(true);
     let sixteen = makes_all(&rt, rt.alloc(), &SIXTEEN_THREADS) == Ok(true);
     let again = found_after_two_desks(&rt, rt.alloc(), &TWO_THREADS) == Ok((200, 199, 9900));
-    assert!(rt; two & at_a_rate & sixteen & again);
+    assert!(rt; two & at_a_rate & most & sixteen & again);
 }
 
 /// Whether each number of the case comes once, and the sum is that of the case.
