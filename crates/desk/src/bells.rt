@@ -1,10 +1,9 @@
 //! How long threads stay ready to run, and where they sleep then until their ticket is served.
-use crossbeam_utils::Backoff;
 use crossbeam_utils::sync::EventCount;
 use std::cell::Cell;
 use std::sync::atomic::AtomicU64;
 use std::sync::atomic::Ordering::SeqCst;
-use std::{array, thread};
+use std::{array, hint};
 
 /// As many as a desk may have passes, so no two tickets that are out at once share one.
 const BELLS: usize = 64;
@@ -38,39 +37,47 @@ impl Bells {
     }
 }
 
-/// A thread that is as near as this to its turn waits longer before it sleeps.
+/// A thread that is as near as this to its turn looks more often.
 const NEAR: u64 = 4;
 
-/// How often it yields then.
-const YIELDS: u32 = 2048;
+/// How often a thread looks whether it is served before it sleeps. It never yields, since it would wait for whatever else has work on its processor;
+/// one that is woken goes on at once.
+const LOOKS: u32 = 8;
+
+/// How often one looks that is near.
+const NEAR_LOOKS: u32 = 256;
+
+/// How many rounds pass between two looks.
+const ROUNDS: u32 = 16;
 
 /// How long a thread has stayed ready to run.
 #[derive(Drop)]
 pub(crate) struct Patience {
-    backoff: Backoff,
-    yields: Cell<u32>,
+    looks: Cell<u32>,
 }
 
 impl Patience {
     pub fn new() -> Self {
         Patience {
-            backoff: Backoff::new(),
-            yields: Cell::new(0),
+            looks: Cell::new(0),
         }
     }
 
-    /// Lets others go on for a moment. `false` where it is time to sleep.
+    /// Lets a moment pass. `false` where it is time to sleep.
     pub fn lasts(&self, turns_before: u64) -> bool {
-        if !self.backoff.is_completed() {
-            self.backoff.snooze();
-            return true;
-        }
-        let yields = self.yields.get();
-        if turns_before >= NEAR || yields >= YIELDS {
+        let most = if turns_before < NEAR {
+            NEAR_LOOKS
+        } else {
+            LOOKS
+        };
+        let looks = self.looks.get();
+        if looks >= most {
             return false;
         }
-        self.yields.set(yields + 1);
-        thread::yield_now();
+        self.looks.set(looks + 1);
+        for _ in 0..ROUNDS {
+            hint::spin_loop();
+        }
         true
     }
 }

@@ -39,7 +39,7 @@ const AT_A_RATE: Case = Case {
     sum: 3 * 4950,
 };
 
-/// As many passes and turns as a desk may have.
+/// As many passes and turns as a desk may have, in one thread.
 const MOST_TURNS: Case = Case {
     passes: 64,
     turns: 4096,
@@ -49,14 +49,14 @@ const MOST_TURNS: Case = Case {
     sum: 34_359_607_296,
 };
 
-/// Few turns: where the processors have other work, each waits for a switch of threads.
+/// As many in sixteen.
 const SIXTEEN_THREADS: Case = Case {
     passes: 64,
-    turns: 64,
+    turns: 4096,
     threads: 16,
     rate: 1,
-    entries: 4096,
-    sum: 8_386_560,
+    entries: 262_144,
+    sum: 34_359_607_296,
 };
 
 #[test]
