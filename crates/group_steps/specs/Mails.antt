@@ -57,7 +57,7 @@ MailIsOfTheGroup {D} on by =
     (outset : Outset D) (entries : List Entry) (after : Run D)
     → IsHistory on by (no_run outset) entries after → AreMessages (on.signers.kind_of by.signer) after
 
--- And what sessions keep are messages to their members, a fourth message that of the session's own pull.
+-- And what sessions keep are messages to their members, each of the session's own pull.
 abbrev pub SessionsKeepMessages : {D G V : Type 0} → Devices D G V → Keying G → Type 0
 SessionsKeepMessages {D} on by =
     (outset : Outset D) (entries : List Entry) (after : Run D)

@@ -8,6 +8,7 @@ use Rattle.gd_wire.specs.Chains.{filled, Payload, payload_text, payloads_text, f
 use Rattle.gd_wire.specs.Headers.{header_text}
 use Rattle.gd_wire.specs.Payloads.{payload_head}
 use Rattle.gd_wire.specs.declared.headers.Header.{Header}
+use Rattle.gd_wire.proofs.HeaderLemmas.{header_long}
 use Rattle.group_terms.specs.declared.phases.Phase1.{Phase1}
 use Rattle.pull_msgs.specs.Hashes.{hash_of}
 use Rattle.pull_msgs.specs.Private.Drafts.{before_covered, draft_text}
@@ -25,12 +26,6 @@ put_between out now placed hash same put long enough =
     let count : length whole ≡ length out =
     omega (arith, ap length is, length-append (take 32 out) (hash ++ drop 64 out), length-append hash (drop 64 out), front, long, length-drop 64 out, enough) in
     take_at whole (drop (length whole) out) (length out) count ∙ is
-
--- the header of a message has 28 octets
-pub head_long : (head : Header) → length head.cookies ≡ 16 → length head.message ≡ 4 → length (header_text head) ≡ 28
-head_long head cookies message =
-    let front : List ℕ = head.next ∷ 16 ∷ head.exchange ∷ 1 ∷ head.message in
-    length-append (head.cookies ++ front) (big_bytes 4 head.length) ∙ omega (arith, cookies, length-append head.cookies front, message)
 
 -- how long the text is that is sealed, for a HASH of 32 octets
 pub plain_long : (hash : List ℕ) (payloads : List Payload) → length hash ≡ 32
@@ -55,7 +50,7 @@ message_written phase iv said out hash put full sealed datagram cookies message 
     let rest : List ℕ = payloads_text said.payloads in
     let next : ℕ = first_kind said.payloads in
     let head : List ℕ = header_text (record { cookies = phase.cookies; next = 8; exchange = 32; message = said.message; length = 28 + filled (36 + length rest) }) in
-    let head_is : length head ≡ 28 = head_long _ cookies message in
+    let head_is : length head ≡ 28 = header_long _ cookies message in
     let generic : List ℕ = next ∷ 0 ∷ big_bytes 2 36 in
     let zeros : List ℕ = replicate 32 0 in
     let front : length (head ++ generic) ≡ 32 = length-append head generic ∙ omega (arith, head_is) in
@@ -111,4 +106,4 @@ pub before_long : (phase : Phase1) (message : List ℕ) (next size : ℕ) → le
     → length (before_covered phase message next size) ≡ 64
 before_long phase message next size cookies id =
     let head : Header = record { cookies = phase.cookies; next = 8; exchange = 32; message = message; length = 28 + filled (36 + size) } in
-    length-append (header_text head) (payload_text next (replicate 32 0)) ∙ omega (arith, head_long head cookies id)
+    length-append (header_text head) (payload_text next (replicate 32 0)) ∙ omega (arith, header_long head cookies id)

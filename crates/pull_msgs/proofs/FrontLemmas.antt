@@ -1,26 +1,23 @@
 -- What is known of a text of which a HASH was read as its first payload, and how reading goes on after that.
 -- A text of which just the first block is another one than was written is again a HASH with the payloads that were written after it (`Front`), so what
 -- is read of it is computed as that of a written text.
-use Rattle.std.proofs.Common.{◌≡◌, ◌≤◌, ◌<◌, ◌+◌, ◌*◌, ◌-◌, ◌∙◌, ◌++◌, [], ◌∷◌, ℕ, Bool, true, false, List, length, take, drop, leb, Result, Ok, Err}
+use Rattle.std.proofs.Common.{◌≡◌, ◌≤◌, ◌<◌, ◌+◌, ◌*◌, ◌-◌, ◌∙◌, ◌++◌, [], ◌∷◌, ℕ, List, length, take, drop, leb, Result, Ok, Err}
 use Rattle.std.proofs.Common.{refl, ap, sym, arith}
 use Rattle.std.proofs.lemmas.Bool.{eqb-true, leb-true, le-leb}
 use Rattle.std.proofs.lemmas.List.{length-take-le, take-append-drop}
-use Rattle.std.specs.Prelude.{◌==◌, if◌then◌else◌}
+use Rattle.std.specs.Prelude.{◌==◌}
 use Rattle.byteorder.specs.Endian.{big_bytes, big_from}
 use Rattle.gd_wire.specs.declared.chains.Named.{Named}
 use Rattle.gd_wire.specs.declared.chains.Part.{Part}
 use Rattle.gd_wire.specs.Bodies as bodies
 use Rattle.gd_wire.specs.Bodies.{body_cursor, length_place}
 use Rattle.gd_wire.specs.Chains.{body_of, named_first, payload, payload_text}
-use Rattle.gd_wire.specs.Readings.{Cursor, Reading, and_then, value_of, told, check, from_start, part, octets, octet, number, due_octet}
+use Rattle.gd_wire.specs.Readings.{Cursor, Reading, and_then, value_of, told, from_start, part, octets, octet, number, due_octet}
+use Rattle.gd_wire.proofs.ReadingLemmas.{check_ok, same_value, there_ok}
 use Rattle.group_terms.specs.declared.wires.WireFault.{WireFault}
-use Rattle.group_terms.specs.declared.wires.WireWhat.{WireWhat}
 use Rattle.pull_msgs.specs.Readings.{PullRead, FourthSaid, SecondSaid, hash_payload, second, fourth}
 
 -- ---- a reading that gave a value
-
-pub same_value : {A : Type 0} (read other : A) → (let one : Result A WireFault = Ok read in one ≡ Ok other) → read ≡ other
-same_value read other is = cc
 
 pub value_ok : {A : Type 0} (read : Result (A × Cursor) WireFault) (given : A) → value_of read ≡ Ok given
     → (all : A × Cursor) × (read ≡ Ok all) × (all.0 ≡ given)
@@ -37,16 +34,6 @@ pub told_ok : {A B : Type 0} (read : Result A WireFault) (cursor : Cursor) (next
     → and_then (told read cursor) next ≡ Ok all → (value : A) × (read ≡ Ok value) × (next value cursor ≡ Ok all)
 told_ok (Ok value) cursor next all is = (value, refl, is)
 told_ok (Err fault) cursor next all is = absurd (cc)
-
-pub check_ok : {B : Type 0} (holds : Bool) (what : WireWhat) (at : ℕ) (cursor : Cursor) (next : Unit {0} → Reading B) (all : B × Cursor)
-    → and_then (check holds what at cursor) next ≡ Ok all → (holds ≡ true) × (next tt cursor ≡ Ok all)
-check_ok true what at cursor next all is = (refl, is)
-check_ok false what at cursor next all is = absurd (cc)
-
-pub there_ok : {A B : Type 0} (there : Bool) (first : A × Cursor) (fault : WireFault) (next : A → Reading B) (all : B × Cursor)
-    → and_then (if there then Ok first else Err fault) next ≡ Ok all → (there ≡ true) × (next first.0 first.1 ≡ Ok all)
-there_ok true first fault next all is = (refl, is)
-there_ok false first fault next all is = absurd (cc)
 
 -- ---- the HASH
 

@@ -5,7 +5,6 @@ pub mod HashLemmas
 pub mod KindLemmas
 pub mod MessageLemmas
 pub mod OpeningLemmas
-pub mod PartLemmas
 pub mod PathLemmas
 pub mod ReaderLemmas
 pub mod SentLemmas

@@ -1,7 +1,6 @@
 -- The payloads of a message that was written are read.
-use Rattle.std.proofs.Common.{◌≡◌, ◌≤◌, ◌<◌, ◌+◌, ◌-◌, ◌∙◌, ℕ, List, [], ◌++◌, length, take, drop, replicate, Option, Some, None, Result, Ok, Err, refl, ap, sym, subst, arith, append_assoc, length-append}
+use Rattle.std.proofs.Common.{◌≡◌, ◌≤◌, ◌<◌, ◌+◌, ◌-◌, ◌∙◌, ℕ, List, [], ◌++◌, length, take, drop, replicate, Option, Some, None, Ok, refl, ap, sym, subst, arith, append_assoc, length-append}
 use Rattle.std.proofs.lemmas.List.{take_at, drop_at, drop-drop}
-use Rattle.std.proofs.lemmas.Slice.Eq.{bytes_eq-Decides}
 use Rattle.std.specs.Prelude.{Bool, true, false, IsSome}
 use Rattle.std.specs.Str.{bytes_eq}
 use Rattle.gd_wire.specs.declared.chains.Named.{Named}
@@ -9,18 +8,18 @@ use Rattle.gd_wire.specs.declared.chains.Part.{Part}
 use Rattle.gd_wire.specs.Bodies as bodies
 use Rattle.gd_wire.specs.Bodies.{sequence_text, identification_text}
 use Rattle.gd_wire.specs.Chains.{payload, payload_text, chain_end, body_of, named_first}
-use Rattle.gd_wire.specs.Readings.{Cursor, Reading, ◌>>◌, check, give, from_start, value_of, mapped}
+use Rattle.gd_wire.specs.Readings.{Cursor, Reading, ◌>>◌, check, give, from_start, value_of}
+use Rattle.gd_wire.proofs.OctetLemmas.{same_octets}
 use Rattle.group_terms.specs.declared.paths.Keyed.{Keyed}
-use Rattle.group_terms.specs.declared.wires.WireFault.{WireFault}
 use Rattle.group_terms.specs.declared.wires.WireWhat.TheVariants.{Value}
 use Rattle.kd_wire.specs.Bodies.{kd_view}
 use Rattle.kd_wire.specs.Texts.{reply_kd}
 use Rattle.kd_wire.specs.declared.spis.SpiPlaces.{SpiPlaces}
-use Rattle.sa_wire.specs.Policies.{sa, policy_of, option_kek, option_tek}
+use Rattle.sa_wire.specs.Policies.{sa, option_kek, option_tek}
 use Rattle.sa_wire.specs.declared.places.PlacedKek.{PlacedKek}
-use Rattle.sa_wire.specs.declared.places.PlacedSa.{PlacedSa}
 use Rattle.sa_wire.specs.declared.places.PlacedTek.{PlacedTek}
 use Rattle.sa_wire.specs.declared.policies.SaPolicy.{SaPolicy}
+use Rattle.sa_wire.proofs.PlacedLemmas.{placed_from}
 use Rattle.pull_msgs.specs.Readings.{FourthSaid, PullRead, hash_payload, nonce_payload, covered, both_policies, policies, maybe_gap}
 use Rattle.pull_msgs.specs.Readings.{first, second, third, fourth}
 
@@ -40,9 +39,6 @@ pub record Laws : Type 0 where
   pub nonce_is : (base at : ℕ) (octets : List ℕ) → 8 ≤ length octets → length octets ≤ 128 → value_of (bodies.nonce at (from_start base octets)) ≡ Ok octets
   pub number_is : (number base at : ℕ) → number < 4294967296 → value_of (bodies.sequence at (from_start base (sequence_text number))) ≡ Ok number
   pub identification_is : (type base : ℕ) (octets : List ℕ) → value_of (bodies.identification (from_start base (identification_text type octets))) ≡ Ok (type, octets)
-
-pub same_bytes : (xs : List ℕ) → bytes_eq xs xs ≡ true
-same_bytes xs = (bytes_eq-Decides xs xs).1 refl
 
 -- ---- a HASH alone
 
@@ -156,16 +152,6 @@ module _ (laws : Laws) (digest ni id : List ℕ) (type zeros : ℕ) (long : leng
 
 -- ---- the policies
 
-abbrev policy_in : SaPolicy → Result SaPolicy WireFault → SaPolicy
-policy_in other (Ok policy) = policy
-policy_in other (Err fault) = other
-
--- policies that were read, with their places
-placed_from : (read : Result (PlacedSa × Cursor) WireFault) (policy : SaPolicy) → value_of (mapped policy_of read) ≡ Ok policy
-    → (placed : PlacedSa) × (value_of read ≡ Ok placed) × (policy_of placed ≡ policy)
-placed_from (Ok found) policy is = (found.0, refl, ap (policy_in policy) is)
-placed_from (Err fault) policy is = absurd (cc)
-
 both_read : (kek : Option PlacedKek) (tek : Option PlacedTek) (policy : SaPolicy) (base : ℕ) (cursor : Cursor)
     → option_kek kek ≡ policy.kek → option_tek tek ≡ policy.tek → IsSome policy.kek → IsSome policy.tek
     → both_policies base kek tek cursor ≡ Ok (policy, cursor)
@@ -270,7 +256,7 @@ module _ (laws : Laws) (digest : List ℕ) (keyed : Keyed) (zeros : ℕ) (long :
       ) refl
 
   pub fourth_is_read : value_of (fourth keyed.spi fourth_text 8 (from_start 28 fourth_text)) ≡ Ok fourth_said
-  fourth_is_read = fourth_checked keyed.spi ∙ checked_true (bytes_eq keyed.spi keyed.spi) _ fourth_said _ (same_bytes keyed.spi)
+  fourth_is_read = fourth_checked keyed.spi ∙ checked_true (bytes_eq keyed.spi keyed.spi) _ fourth_said _ (same_octets keyed.spi)
 
   -- so nothing else is read of it
   pub fourth_gives : (spi : List ℕ) (read : PullRead FourthSaid) → value_of (fourth spi fourth_text 8 (from_start 28 fourth_text)) ≡ Ok read

@@ -15,7 +15,8 @@ use Rattle.kd_wire.specs.Bodies.{Kd, kd, kd_of, kd_view}
 use Rattle.kd_wire.specs.Texts.{IsPath}
 use Rattle.kd_wire.specs.Views.{GivesTraffic, GivesUpdates, GivesPath}
 use Rattle.pull_msgs.specs.Readings.{FourthSaid, PullRead, covered, fourth, hash_payload, reply_of}
-use Rattle.pull_msgs.proofs.FrontLemmas.{both_ok, check_ok, same_value, told_ok, value_ok}
+use Rattle.gd_wire.proofs.ReadingLemmas.{check_ok, same_value}
+use Rattle.pull_msgs.proofs.FrontLemmas.{both_ok, told_ok, value_ok}
 
 -- what the law of the forms of a body promises
 abbrev pub HasForms : Type 0

@@ -12,7 +12,8 @@ use Rattle.group_terms.specs.declared.phases.Phase1.{Phase1}
 use Rattle.group_terms.specs.declared.wires.WireWhat.TheVariants.{Value, Version}
 use Rattle.pull_msgs.specs.Pulls.{due_message, head, head_of}
 use Rattle.pull_msgs.specs.Texts.{next_iv}
-use Rattle.pull_msgs.proofs.FrontLemmas.{both_ok, check_ok, same_value, there_ok, value_ok}
+use Rattle.gd_wire.proofs.ReadingLemmas.{check_ok, same_value, there_ok}
+use Rattle.pull_msgs.proofs.FrontLemmas.{both_ok, value_ok}
 
 message_size : (exchange : ℕ) (cursor : Cursor) (found : List ℕ × Cursor) → message_id exchange cursor ≡ Ok found → length found.0 ≡ 4
 unfolding message_id octets part

@@ -1,7 +1,7 @@
 -- A message that was written: its octets, its size, and the answer when it is read.
-use Rattle.std.proofs.Common.{◌≡◌, ◌≤◌, ◌<◌, ◌+◌, ◌-◌, ◌%◌, ◌∙◌, ◌⊎◌, ℕ, zero, suc, List, [], ◌++◌, length, drop, replicate, All, Option, Some, None, Result, Ok, Err, refl, ap, sym, subst, inl, inr, arith, append_assoc, length-append}
+use Rattle.std.proofs.Common.{◌≡◌, ◌≤◌, ◌<◌, ◌+◌, ◌-◌, ◌%◌, ◌∙◌, ◌⊎◌, ℕ, List, [], ◌++◌, length, drop, replicate, All, Option, Some, None, Result, Ok, Err, refl, ap, sym, subst, inl, inr, arith, append_assoc, length-append}
 use Rattle.std.proofs.lemmas.List.{drop_at, append-nil}
-use Rattle.std.proofs.lemmas.List.Elements.{All-append, All-cons, All-nil}
+use Rattle.std.proofs.lemmas.List.Elements.{All-append, All-nil}
 use Rattle.std.specs.Prelude.{IsSome}
 use Rattle.std.specs.Str.{bytes_eq}
 use Rattle.gd_cipher.specs.Bytes.{IsByte, AreBytes, IsKey}
@@ -10,6 +10,8 @@ use Rattle.gd_wire.specs.declared.headers.Header.{Header}
 use Rattle.gd_wire.specs.Chains.{filled, payload_text, payloads_text, first_kind}
 use Rattle.gd_wire.specs.Headers.{header, header_text, HeaderFits}
 use Rattle.gd_wire.specs.Readings.{Cursor, from_start, value_of}
+use Rattle.gd_wire.proofs.HeaderLemmas.{header_long}
+use Rattle.gd_wire.proofs.OctetLemmas.{same_octets, zeros_are_octets}
 use Rattle.group_terms.specs.Octets.{IsOctet, AreOctets}
 use Rattle.group_terms.specs.declared.phases.Phase1.{Phase1}
 use Rattle.sa_wire.specs.Texts.{sa_size, sa_text}
@@ -23,13 +25,8 @@ use Rattle.pull_msgs.specs.Hashes.{hash_of}
 use Rattle.pull_msgs.specs.Pulls.{Awaited, IsAnswer, IsOfHead, IsOfText, answer_for, due_message, head, head_of}
 use Rattle.pull_msgs.specs.Readings.{PullRead}
 use Rattle.pull_msgs.specs.Texts.{Message, IsPullText, message_hash, plain_text, head_text}
-use Rattle.pull_msgs.proofs.DraftLemmas.{head_long, plain_long}
+use Rattle.pull_msgs.proofs.DraftLemmas.{plain_long}
 use Rattle.pull_msgs.proofs.HashLemmas.{octets-hash_of, length-hash_of}
-use Rattle.pull_msgs.proofs.MessageLemmas.{same_bytes}
-
-zeros_are_octets : (count : ℕ) → AreOctets (replicate count 0)
-zeros_are_octets zero = All-nil IsOctet
-zeros_are_octets (suc count) = All-cons IsOctet 0 (replicate count 0) (omega arith) (zeros_are_octets count)
 
 abbrev pub head_of_message : Phase1 → Message → Header
 head_of_message phase said =
@@ -44,7 +41,7 @@ datagram_long phase iv said datagram cookies message is =
       arith,
       ap length is.is_text,
       length-append (head_text phase said) is.sealed,
-      head_long (head_of_message phase said) cookies message,
+      header_long (head_of_message phase said) cookies message,
       is.is_sealed.len,
       plain_long (message_hash phase said) said.payloads digest,
     )
@@ -97,7 +94,7 @@ plain_octets octets_of phase said kind_small payload_octets =
 pub sealed_is : (phase : Phase1) (iv : List ℕ) (said : Message) (datagram : List ℕ) → length phase.cookies ≡ 16 → length said.message ≡ 4
     → (is : IsPullText phase iv said datagram) → drop 28 datagram ≡ is.sealed
 sealed_is phase iv said datagram cookies message is =
-    ap (drop 28) is.is_text ∙ drop_at (head_text phase said) is.sealed 28 (head_long (head_of_message phase said) cookies message)
+    ap (drop 28) is.is_text ∙ drop_at (head_text phase said) is.sealed 28 (header_long (head_of_message phase said) cookies message)
 
 -- ---- what is read
 
@@ -155,7 +152,7 @@ module _ (laws : Laws) (phase : Phase1) (iv : List ℕ) (said : Message) (datagr
   unfolding head
   has_head known due =
       ap (λ octets. value_of (head phase known (from_start 0 octets))) is.is_text
-      ∙ rw (laws.header_reads top is.sealed top_fits, same_bytes phase.cookies, due (record { base = 0; at = 28; left = is.sealed })) refl
+      ∙ rw (laws.header_reads top is.sealed top_fits, same_octets phase.cookies, due (record { base = 0; at = 28; left = is.sealed })) refl
 
   is_opened : IsOpened phase.key iv (drop 28 datagram) plain
   is_opened =
@@ -175,7 +172,7 @@ module _ (laws : Laws) (phase : Phase1) (iv : List ℕ) (said : Message) (datagr
     due_is = carried ∙ (λ i. hash_of phase said.message (sym same_nonces i) (sym covers i))
 
     taken : answer_for (hash_of phase said.message awaited.nonces) (awaited.gives top datagram) (Ok read) ≡ Ok (awaited.gives top datagram read.said)
-    taken = rw (ap (bytes_eq read.hash) (sym due_is) ∙ same_bytes read.hash) refl
+    taken = rw (ap (bytes_eq read.hash) (sym due_is) ∙ same_octets read.hash) refl
 
     of_text : (answer : Result B PullFault) (found : IsOfText A B phase awaited datagram top answer) → answer ≡ Ok (awaited.gives top datagram read.said)
     of_text answer found =

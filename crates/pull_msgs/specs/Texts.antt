@@ -6,44 +6,13 @@ use Rattle.gd_cipher.specs.Macs.{phase2_iv}
 use Rattle.gd_wire.specs.Bodies.{sequence_text, identification_text}
 use Rattle.gd_wire.specs.Chains.{Payload, payloads_text, padded}
 use Rattle.gd_wire.specs.Headers.{header_text}
+pub use Rattle.gd_wire.specs.Kinds.{hash_kind, nonce_kind, identification_kind, sa_kind, gap_kind, sequence_kind, kd_kind, pull_exchange}
 use Rattle.group_terms.specs.declared.paths.Keyed.{Keyed}
 use Rattle.group_terms.specs.declared.phases.Phase1.{Phase1}
 use Rattle.kd_wire.specs.Texts.{reply_kd}
 use Rattle.sa_wire.specs.Texts.{sa_text}
 use Rattle.sa_wire.specs.declared.policies.SaPolicy.{SaPolicy}
 use Rattle.pull_msgs.specs.Hashes.{hash_of}
-
--- the kind of the payload of a HASH (RFC 2408 section 3.1)
-abbrev pub hash_kind : ℕ
-hash_kind = 8
-
--- the kind of the payload of a nonce (RFC 2408 section 3.1)
-abbrev pub nonce_kind : ℕ
-nonce_kind = 10
-
--- the kind of the payload of an identification (RFC 2408 section 3.1)
-abbrev pub identification_kind : ℕ
-identification_kind = 5
-
--- the kind of the SA payload, which has the policies (RFC 2408 section 3.1)
-abbrev pub sa_kind : ℕ
-sa_kind = 1
-
--- the kind of the payload of a group associated policy, GAP (RFC 6407 section 5)
-abbrev pub gap_kind : ℕ
-gap_kind = 22
-
--- the kind of the payload of a sequence number, SEQ (RFC 6407 section 5)
-abbrev pub sequence_kind : ℕ
-sequence_kind = 18
-
--- the kind of the key download payload, KD (RFC 6407 section 5)
-abbrev pub kd_kind : ℕ
-kd_kind = 17
-
--- the exchange GROUPKEY-PULL (RFC 6407 section 3)
-abbrev pub pull_exchange : ℕ
-pull_exchange = 32
 
 -- the type of an identification that is the octets of a key id (RFC 2407 section 4.6.2.1)
 abbrev pub key_id_type : ℕ

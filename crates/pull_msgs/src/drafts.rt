@@ -6,17 +6,14 @@ ghost use Rattle.pull_msgs.specs.Texts.{Message, IsPullText};
 
 use crate::fits::phase_fits;
 use crate::hashes::hash_of;
-use crate::kinds::{HASH, HASH_OCTETS, HEADER, PAYLOAD_HEAD, PULL};
 use gd_cipher::{Key128, cbc_seal};
+use gd_wire::kinds::{BLOCK_OCTETS, HASH, HASH_OCTETS, HEADER_OCTETS, PAYLOAD_HEAD_OCTETS, PULL};
 use gd_wire::{Header, write_header, write_padding, write_payload};
 use group_terms::{NoMemory, Octets, Phase1};
 use std::alloc::Global;
 
-/// The size of a block of the cipher.
-const BLOCK: usize = 16;
-
 /// The place of the HASH, and of what it covers.
-const HASH_AT: usize = HEADER + PAYLOAD_HEAD;
+const HASH_AT: usize = HEADER_OCTETS + PAYLOAD_HEAD_OCTETS;
 
 const COVERED_AT: usize = HASH_AT + HASH_OCTETS;
 
@@ -34,16 +31,16 @@ pub(crate) fn begin(
     ensures long { IfOk result (λ out. length out ≡ 64) }
 {
     phase_fits(phase);
-    let payloads = PAYLOAD_HEAD + HASH_OCTETS + size;
-    let size = payloads + (BLOCK - payloads % BLOCK) % BLOCK;
+    let payloads = PAYLOAD_HEAD_OCTETS + HASH_OCTETS + size;
+    let size = payloads + (BLOCK_OCTETS - payloads % BLOCK_OCTETS) % BLOCK_OCTETS;
     let header = Header {
         cookies: phase.cookies,
         next: HASH,
         exchange: PULL,
         message: *message,
-        length: (HEADER + size) as u32,
+        length: (HEADER_OCTETS + size) as u32,
     };
-    let mut out = Octets::with_room(alloc, HEADER + size)?;
+    let mut out = Octets::with_room(alloc, HEADER_OCTETS + size)?;
     out.extend(&write_header(&header))?;
     write_payload(next, &[0; HASH_OCTETS], &mut out)?;
     Ok(out)
@@ -86,6 +83,6 @@ fn seal(out: &mut Octets, key: &[u8; 16], iv: &[u8; 16])
     requires whole { (length out.old - 28) % 16 ≡ 0 }
     ensures { (sealed : List ℕ) × IsSealed key.now iv.now (drop 28 out.old) sealed × (out.new ≡ take 28 out.old ++ sealed) }
 {
-    let (_, text) = out.as_mut_slice().split_at_mut(HEADER);
+    let (_, text) = out.as_mut_slice().split_at_mut(HEADER_OCTETS);
     cbc_seal(&Key128::new(*key), iv, text);
 }

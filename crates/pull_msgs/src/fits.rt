@@ -1,17 +1,12 @@
 //! That values fit what is written of them, as their types say.
-ghost use Rattle.std.specs.Prelude.{◌<◌, IsSome};
-ghost use Rattle.group_terms.specs.Octets.{AreOctets};
+ghost use Rattle.std.specs.Prelude.{IsSome};
 ghost use Rattle.pull_msgs.specs.Fits.{NonceFits, PhaseFits, PoliciesFit};
 ghost use Rattle.sa_wire.specs.Texts.{KekPolicyFits, TekPolicyFits};
 
 use crate::Nonce;
+use gd_wire::{are_octets, has_two_octets};
 use group_terms::Phase1;
 use sa_wire::{KekPolicy, SaPolicy, TekPolicy};
-
-/// A slice of octets has octets.
-fn are_octets(octets: &[u8])
-    ensures { AreOctets octets.now }
-{}
 
 /// The cookies and the key fit.
 pub fn phase_fits(phase: &Phase1)
@@ -27,11 +22,6 @@ pub fn nonce_fits(nonce: &Nonce)
 {
     are_octets(nonce.octets());
 }
-
-/// A number of 16 bits has 2 octets.
-fn has_two_octets(number: u16)
-    ensures { number < 65536 }
-{}
 
 fn kek_policy_fits(kek: &KekPolicy)
     ensures { KekPolicyFits kek.now }

@@ -18,7 +18,6 @@ mod drafts;
 mod faults;
 mod fits;
 mod hashes;
-mod kinds;
 mod laws;
 mod messages;
 mod nonces;

@@ -5,8 +5,8 @@ ghost use Rattle.gd_wire.specs.Headers.{HasPayloads};
 ghost use Rattle.pull_msgs.specs.Pulls.{head, head_of};
 ghost use Rattle.pull_msgs.specs.Texts.{next_iv};
 
-use crate::kinds::{HEADER, PULL};
 use gd_cipher::{Key128, cbc_open};
+use gd_wire::kinds::{HEADER_OCTETS, PULL};
 use gd_wire::{Header, fault, read_header};
 use group_terms::{NoMemory, Octets, Phase1, WireFault, WireWhat};
 use std::alloc::Global;
@@ -47,7 +47,7 @@ pub(crate) fn open(
     ensures opened { IfOk result (λ text. IsOpened phase.now.key iv.now (drop 28 datagram.now) text) }
     ensures few { IfOk result (λ text. 28 + length text ≤ 65507) }
 {
-    let mut text = Octets::copy_of(alloc, &datagram[HEADER..])?;
+    let mut text = Octets::copy_of(alloc, &datagram[HEADER_OCTETS..])?;
     cbc_open(&Key128::new(phase.key), iv, text.as_mut_slice());
     Ok(text)
 }

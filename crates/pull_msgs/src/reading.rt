@@ -7,8 +7,8 @@ ghost use Rattle.group_terms.specs.declared.wires.WireWhat.TheVariants.{Kind};
 ghost use Rattle.pull_msgs.specs.Private.Seen.{seen_first, seen_second, seen_third, seen_fourth};
 ghost use Rattle.pull_msgs.specs.Readings as readings;
 
-use crate::kinds::{GAP, HASH, HEADER, IDENTIFICATION, KD, NONCE, SA, SEQUENCE};
 use crate::nonces::Nonce;
+use gd_wire::kinds::{GAP, HASH, HEADER_OCTETS, IDENTIFICATION, KD, NONCE, SA, SEQUENCE};
 use gd_wire::{Identification, Named, Reader, chain_end, fault, payload};
 use group_terms::{Path, TrafficValue, WireFault, WireWhat};
 use kd_wire::{KdView, read_kd};
@@ -48,7 +48,7 @@ pub(crate) fn read_first(text: &[u8], first: u8) -> Result<PullRead<'_, FirstSai
     requires small { 28 + length text.now ≤ 65507 }
     ensures { Answers seen_first result (readings.first text.now first (from_start 28 text.now)) }
 {
-    let mut payloads = Reader::new(text, HEADER as u32);
+    let mut payloads = Reader::new(text, HEADER_OCTETS as u32);
     let (hash, start, named) = hash_payload(&mut payloads, text, first)?;
     let (ni, named) = nonce_payload(&mut payloads, text, named)?;
     let (part, named) = payload(&mut payloads, IDENTIFICATION, named)?;
@@ -69,7 +69,7 @@ pub(crate) fn read_second(text: &[u8], first: u8) -> Result<PullRead<'_, SecondS
     ensures answer { Answers seen_second result (readings.second text.now first (from_start 28 text.now)) }
     ensures policies { IfOk result (λ read. IsSome read.said.policy.kek × IsSome read.said.policy.tek) }
 {
-    let mut payloads = Reader::new(text, HEADER as u32);
+    let mut payloads = Reader::new(text, HEADER_OCTETS as u32);
     let (hash, start, named) = hash_payload(&mut payloads, text, first)?;
     let (nr, named) = nonce_payload(&mut payloads, text, named)?;
     let (part, named) = payload(&mut payloads, SA, named)?;
@@ -89,7 +89,7 @@ pub(crate) fn read_third(text: &[u8], first: u8) -> Result<PullRead<'_, ()>, Wir
     requires small { 28 + length text.now ≤ 65507 }
     ensures { Answers seen_third result (readings.third text.now first (from_start 28 text.now)) }
 {
-    let mut payloads = Reader::new(text, HEADER as u32);
+    let mut payloads = Reader::new(text, HEADER_OCTETS as u32);
     let (hash, start, named) = hash_payload(&mut payloads, text, first)?;
     let last = maybe_gap(&mut payloads, named)?;
     let covered = covered(&payloads, text, start, last)?;
@@ -110,7 +110,7 @@ pub(crate) fn read_fourth<'a>(
     requires small { 28 + length text.now ≤ 65507 }
     ensures { Answers seen_fourth result (readings.fourth spi.now text.now first (from_start 28 text.now)) }
 {
-    let mut payloads = Reader::new(text, HEADER as u32);
+    let mut payloads = Reader::new(text, HEADER_OCTETS as u32);
     let (hash, start, named) = hash_payload(&mut payloads, text, first)?;
     let (part, named) = payload(&mut payloads, SEQUENCE, named)?;
     let sequence = part.sequence(text)?;

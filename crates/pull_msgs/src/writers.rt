@@ -4,9 +4,11 @@ ghost use Rattle.pull_msgs.specs.Texts.{IsPullText, first_iv, first_message, sec
 
 use crate::drafts::{begin, finish};
 use crate::fits::policies_fit;
-use crate::kinds::{IDENTIFICATION, KD, KEY_ID, NONCE, PAYLOAD_HEAD, SA, SEQUENCE};
 use crate::nonces::Nonce;
 use gd_cipher::phase2_iv;
+use gd_wire::kinds::{
+    IDENTIFICATION, KD, NONCE, PAYLOAD_HEAD_OCTETS, SA, SEQUENCE, SEQUENCE_OCTETS,
+};
 use gd_wire::{
     a_payload_is_its_head_and_its_body, write_identification, write_payload, write_payload_head,
     write_sequence,
@@ -16,10 +18,10 @@ use kd_wire::{path_keys_fit, reply_kd_size, write_reply_kd};
 use sa_wire::{SaPolicy, sa_size, write_sa, written_policies_have_their_size};
 use std::alloc::Global;
 
-/// The size of the body of a SEQ payload, and of that of an identification before its octets.
-const NUMBER: usize = 4;
+/// An identification of the octets of a key id (RFC 2407 section 4.6.2.1), and the size of its body before these.
+const KEY_ID: u8 = 11;
 
-const ID_HEAD: usize = 4;
+const ID_HEAD_OCTETS: usize = 4;
 
 /// The member's first message (RFC 6407 section 3.2): its nonce, and the name of the group.
 pub fn write_first(
@@ -33,8 +35,8 @@ pub fn write_first(
         (first_message message.now ni.now group.now) datagram) }
 {
     a_payload_is_its_head_and_its_body();
-    let id = ID_HEAD + group.text().len();
-    let size = 2 * PAYLOAD_HEAD + ni.octets().len() + id;
+    let id = ID_HEAD_OCTETS + group.text().len();
+    let size = 2 * PAYLOAD_HEAD_OCTETS + ni.octets().len() + id;
     let mut out = begin(alloc, phase, message, NONCE, size)?;
     write_payload(IDENTIFICATION, ni.octets(), &mut out)?;
     write_payload_head(0, id, &mut out)?;
@@ -61,7 +63,7 @@ pub fn write_second(
     a_payload_is_its_head_and_its_body();
     written_policies_have_their_size();
     policies_fit(policy);
-    let size = 2 * PAYLOAD_HEAD + nr.octets().len() + sa_size(policy);
+    let size = 2 * PAYLOAD_HEAD_OCTETS + nr.octets().len() + sa_size(policy);
     let mut out = begin(alloc, phase, message, NONCE, size)?;
     write_payload(SA, nr.octets(), &mut out)?;
     write_payload_head(0, sa_size(policy), &mut out)?;
@@ -100,9 +102,9 @@ pub fn write_fourth(
     a_payload_is_its_head_and_its_body();
     path_keys_fit(keyed.path.keys());
     let keys = reply_kd_size(keyed);
-    let size = 2 * PAYLOAD_HEAD + NUMBER + keys;
+    let size = 2 * PAYLOAD_HEAD_OCTETS + SEQUENCE_OCTETS + keys;
     let mut out = begin(alloc, phase, message, SEQUENCE, size)?;
-    write_payload_head(KD, NUMBER, &mut out)?;
+    write_payload_head(KD, SEQUENCE_OCTETS, &mut out)?;
     write_sequence(keyed.sequence, &mut out)?;
     write_payload_head(0, keys, &mut out)?;
     write_reply_kd(keyed, &mut out)?;

@@ -1,12 +1,12 @@
 -- The datagram of a push, put together piece by piece.
-use Rattle.std.proofs.Common.{refl, ◌≡◌, ◌<◌, ◌≤◌, ◌+◌, Some, None, inl, inr, ◌-◌, ◌%◌, ◌∙◌, ℕ, List, [], ◌∷◌, ◌++◌, length, take, drop, replicate, sym, ap, ap₂, subst, arith, append_assoc, length-append, take-append-drop}
+use Rattle.std.proofs.Common.{refl, ◌≡◌, ◌<◌, ◌≤◌, ◌+◌, Some, None, inl, inr, ◌-◌, ◌%◌, ◌∙◌, ℕ, List, [], ◌++◌, length, take, drop, replicate, sym, ap, ap₂, subst, arith, append_assoc, length-append, take-append-drop}
 use Rattle.std.proofs.lemmas.List.{take_at, drop_at}
-use Rattle.byteorder.specs.Endian.{big_bytes}
 use Rattle.gd_cipher.specs.Chains.{IsSealed}
 use Rattle.gd_wire.specs.Bodies.{sequence_text}
 use Rattle.gd_wire.specs.Chains.{payload_text, padded}
 use Rattle.gd_wire.specs.Headers.{header_text}
 use Rattle.gd_wire.specs.Payloads.{payload_head}
+use Rattle.gd_wire.proofs.HeaderLemmas.{header_long}
 use Rattle.group_terms.specs.Octets.{AreOctets}
 use Rattle.group_terms.specs.declared.signatures.SignKind.{SignKind}
 use Rattle.group_terms.specs.declared.values.NodeValue.{NodeValue}
@@ -15,14 +15,12 @@ use Rattle.kd_wire.specs.Texts.{TrafficFits, update_kd}
 use Rattle.sa_wire.specs.Texts.{PolicyFits, sa_text, sa_size}
 use Rattle.sa_wire.specs.declared.policies.SaPolicy.{SaPolicy}
 use Rattle.push_msg.specs.Digests.{digest}
-use Rattle.push_msg.specs.Texts.{Push, signed_text, plain_text, push_header, head_text, IsPushText, sequence_kind, sa_kind, kd_kind, signature_kind, push_exchange}
+use Rattle.push_msg.specs.Texts.{Push, signed_text, plain_text, push_header, head_text, IsPushText, sa_kind, kd_kind, signature_kind}
 use Rattle.push_msg.specs.declared.writers.PushHead.{PushHead}
 use Rattle.push_msg.specs.Private.Drafts.{IsBegun}
 
 pub head_long : (push : Push) (size : ℕ) → length push.spi ≡ 16 → length (header_text (push_header push size)) ≡ 28
-head_long push size long =
-    let front : List ℕ = sequence_kind ∷ 16 ∷ push_exchange ∷ 1 ∷ 0 ∷ 0 ∷ 0 ∷ 0 ∷ [] in
-    length-append (push.spi ++ front) (big_bytes 4 (28 + size)) ∙ omega (arith, long, length-append push.spi front)
+head_long push size long = header_long (push_header push size) long refl
 
 -- the text after which the signature comes was signed, and then sealed with it
 pub push_written : (sign : List ℕ → List ℕ) (signature_size : ℕ) (kek : NodeValue) (push : Push) (size : ℕ) (out written filled sealed datagram signature : List ℕ)

@@ -1,8 +1,8 @@
 -- What is read of the bodies of a push that was written.
 use Rattle.std.proofs.Common.{◌≡◌, ◌∙◌, ℕ, ◌+◌, List, [], Bool, true, false, Option, Some, None, Result, Ok, Err, ltb, eq-eqb, refl, ap, sym, arith}
-use Rattle.std.proofs.lemmas.Slice.Eq.{bytes_eq-Decides}
 use Rattle.std.specs.Str.{bytes_eq}
 use Rattle.gd_wire.specs.Readings.{Cursor, Reading, and_then, give, told, check, value_of, mapped, from_start}
+use Rattle.gd_wire.proofs.OctetLemmas.{same_octets}
 use Rattle.group_terms.specs.declared.signatures.SignKind.{SignKind}
 use Rattle.group_terms.specs.declared.values.TrafficValue.{TrafficValue}
 use Rattle.group_terms.specs.declared.wires.WireFault.{WireFault}
@@ -11,19 +11,16 @@ use Rattle.kd_wire.specs.declared.spans.UpdateSpan.{UpdateSpan}
 use Rattle.kd_wire.specs.Bodies.{Kd, kd, kd_of, kd_view}
 use Rattle.kd_wire.specs.Spans.{span_arrays}
 use Rattle.sa_wire.specs.declared.places.PlacedKek.{PlacedKek}
-use Rattle.sa_wire.specs.declared.places.PlacedSa.{PlacedSa}
 use Rattle.sa_wire.specs.declared.places.PlacedTek.{PlacedTek}
 use Rattle.sa_wire.specs.declared.policies.KekPolicy.{KekPolicy}
 use Rattle.sa_wire.specs.declared.policies.SaPolicy.{SaPolicy}
 use Rattle.sa_wire.specs.declared.policies.TekPolicy.{TekPolicy}
-use Rattle.sa_wire.specs.Policies.{placed_sa, sa, policy_of, option_kek, option_tek}
+use Rattle.sa_wire.specs.Policies.{placed_sa, sa, option_kek, option_tek}
+use Rattle.sa_wire.proofs.PlacedLemmas.{placed_from}
 use Rattle.push_msg.specs.declared.bodies.OpenBody.TheVariants.{Membership, Traffic}
 use Rattle.push_msg.specs.declared.rows.Row.{Row}
 use Rattle.push_msg.specs.declared.rows.Row.TheVariants as rows
 use Rattle.push_msg.specs.Readings.{due_sign, membership, row_of, row, body_for, key_download, epoch_of}
-
-pub same_bytes : (xs : List ℕ) → bytes_eq xs xs ≡ true
-same_bytes xs = (bytes_eq-Decides xs xs).1 refl
 
 -- ---- the SA payload
 
@@ -39,7 +36,7 @@ kek_read : (kek : PlacedKek) (spi : List ℕ) (sign : SignKind) (cursor : Cursor
 unfolding membership
 kek_read kek spi sign cursor same =
     rw (
-      ap (λ (policy : KekPolicy). bytes_eq policy.spi spi) same ∙ same_bytes spi,
+      ap (λ (policy : KekPolicy). bytes_eq policy.spi spi) same ∙ same_octets spi,
       both_hold (ltb kek.algorithm_at kek.key_bits_at) kek sign cursor (ap (λ (policy : KekPolicy). policy.sign) same) refl,
     ) (λ i. Ok (rows.Membership ((same i).spi), cursor))
 
@@ -65,16 +62,6 @@ tek_row None None spi traffic_spi sign base cursor first second = absurd (cc)
 tek_row (Some kek) None spi traffic_spi sign base cursor first second = absurd (cc)
 tek_row (Some kek) (Some tek) spi traffic_spi sign base cursor first second = absurd (cc)
 
-abbrev policy_in : SaPolicy → Result SaPolicy WireFault → SaPolicy
-policy_in other (Ok policy) = policy
-policy_in other (Err fault) = other
-
--- policies that were read, with their places
-placed_from : (read : Result (PlacedSa × Cursor) WireFault) (policy : SaPolicy) → value_of (mapped policy_of read) ≡ Ok policy
-    → (placed : PlacedSa) × (value_of read ≡ Ok placed) × (policy_of placed ≡ policy)
-placed_from (Ok found) policy is = (found.0, refl, ap (policy_in policy) is)
-placed_from (Err fault) policy is = absurd (cc)
-
 pub membership_row : (spi body : List ℕ) (sign : SignKind) (base : ℕ) (cursor : Cursor)
     → sa base body ≡ Ok (record { kek = Some (record { spi = spi; sign = sign }); tek = None }) → row spi sign base body cursor ≡ Ok (rows.Membership spi, cursor)
 unfolding row
@@ -95,13 +82,13 @@ pub membership_keys : (spi body : List ℕ) (span : UpdateSpan) (base at : ℕ) 
     → kd_view base body ≡ Ok (record { tek = None; lkh_spi = Some spi; download = []; updates = Some span; spis = record { tek = None; lkh = Some at } })
     → key_download (rows.Membership spi) base body cursor ≡ Ok (Membership (epoch_of (span_arrays span body)) span, cursor)
 unfolding key_download
-membership_keys spi body span base at cursor is = rw (is, same_bytes spi) refl
+membership_keys spi body span base at cursor is = rw (is, same_octets spi) refl
 
 pub traffic_keys : (body : List ℕ) (traffic : TrafficValue) (base at : ℕ) (cursor : Cursor)
     → kd_view base body ≡ Ok (record { tek = Some traffic; lkh_spi = None; download = []; updates = None; spis = record { tek = Some at; lkh = None } })
     → key_download (rows.Traffic traffic.spi) base body cursor ≡ Ok (Traffic traffic, cursor)
 unfolding key_download
-traffic_keys body traffic base at cursor is = rw (is, same_bytes traffic.spi) refl
+traffic_keys body traffic base at cursor is = rw (is, same_octets traffic.spi) refl
 
 abbrev view_in : Kd → Result Kd WireFault → Result KdView WireFault
 view_in other (Ok found) = Ok found.view

@@ -1,7 +1,7 @@
 -- A push that was written: its octets, its size, and what is read of it.
-use Rattle.std.proofs.Common.{◌≡◌, ◌≤◌, ◌<◌, ◌+◌, ◌-◌, ◌%◌, ◌∙◌, ℕ, zero, suc, true, List, [], ◌∷◌, ◌++◌, length, take, drop, replicate, All, Ok, refl, ap, ap₂, sym, subst, inl, arith, append_assoc, length-append}
+use Rattle.std.proofs.Common.{◌≡◌, ◌≤◌, ◌<◌, ◌+◌, ◌-◌, ◌%◌, ◌∙◌, ℕ, true, List, [], ◌∷◌, ◌++◌, length, take, drop, replicate, All, Ok, refl, ap, ap₂, sym, subst, inl, arith, append_assoc, length-append}
 use Rattle.std.proofs.lemmas.List.{take_at, drop_at, length-replicate}
-use Rattle.std.proofs.lemmas.List.Elements.{All-append, All-cons, All-nil}
+use Rattle.std.proofs.lemmas.List.Elements.{All-append}
 use Rattle.byteorder.specs.Endian.{big_bytes}
 use Rattle.gd_cipher.specs.Bytes.{IsByte, AreBytes, IsKey}
 use Rattle.gd_cipher.specs.Chains.{IsSealed, IsOpened}
@@ -10,6 +10,7 @@ use Rattle.gd_wire.specs.Bodies.{sequence_text}
 use Rattle.gd_wire.specs.Chains.{payload_text, padded, filled}
 use Rattle.gd_wire.specs.Headers.{header, header_text, HeaderFits}
 use Rattle.gd_wire.specs.Readings.{Cursor, from_start, value_of}
+use Rattle.gd_wire.proofs.OctetLemmas.{zeros_are_octets}
 use Rattle.group_terms.specs.Octets.{IsOctet, AreOctets}
 use Rattle.group_terms.specs.declared.signatures.SignKind.{SignKind}
 use Rattle.group_terms.specs.declared.values.NodeValue.{NodeValue}
@@ -23,10 +24,6 @@ use Rattle.push_msg.specs.Pushes.{Opens, Reads, digest_of, header_of}
 use Rattle.push_msg.specs.Written.{KekFits, IsReadAs}
 use Rattle.push_msg.proofs.DraftLemmas.{head_long}
 use Rattle.push_msg.proofs.PushLemmas.{Laws, push_is_read, read, signature_at}
-
-zeros_are_octets : (count : ℕ) → AreOctets (replicate count 0)
-zeros_are_octets zero = All-nil IsOctet
-zeros_are_octets (suc count) = All-cons IsOctet 0 (replicate count 0) (omega arith) (zeros_are_octets count)
 
 -- how many octets the payloads have, filled up
 pub plain_long : (told : Push) (signature : List ℕ) → length (plain_text told signature) ≡ filled (20 + length (sa_text told.policy) + length told.keys + length signature)

@@ -6,6 +6,7 @@ use Rattle.gd_cipher.specs.Chains.{IsSealed}
 use Rattle.gd_wire.specs.Bodies.{sequence_text}
 use Rattle.gd_wire.specs.Chains.{payload_text, padded}
 use Rattle.gd_wire.specs.Headers.{header_text}
+pub use Rattle.gd_wire.specs.Kinds.{sequence_kind, sa_kind, kd_kind, signature_kind, push_exchange}
 use Rattle.gd_wire.specs.declared.headers.Header.{Header}
 use Rattle.group_terms.specs.Octets.{AreOctets}
 use Rattle.group_terms.specs.declared.signatures.SignKind.{SignKind}
@@ -16,26 +17,6 @@ use Rattle.sa_wire.specs.Texts.{sa_text}
 use Rattle.sa_wire.specs.declared.policies.SaPolicy.{SaPolicy}
 use Rattle.push_msg.specs.declared.writers.PushHead.{PushHead}
 use Rattle.push_msg.specs.Digests.{digest}
-
--- the kind of the payload of a sequence number, SEQ (RFC 6407 section 5)
-abbrev pub sequence_kind : ℕ
-sequence_kind = 18
-
--- the kind of the SA payload, which has the policies (RFC 2408 section 3.1)
-abbrev pub sa_kind : ℕ
-sa_kind = 1
-
--- the kind of the key download payload, KD (RFC 6407 section 5)
-abbrev pub kd_kind : ℕ
-kd_kind = 17
-
--- the kind of the payload of the signature, SIG (RFC 2408 section 3.1)
-abbrev pub signature_kind : ℕ
-signature_kind = 9
-
--- the exchange GROUPKEY-PUSH (RFC 6407 section 4)
-abbrev pub push_exchange : ℕ
-push_exchange = 33
 
 -- what a push says: the SPI of its Rekey SA, its number, a policy, and the body of its key download
 pub record Push : Type 0 where

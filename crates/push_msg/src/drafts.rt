@@ -9,26 +9,20 @@ ghost use Rattle.push_msg.specs.Private.Drafts.{IsBegun};
 ghost use Rattle.sa_wire.specs.Texts.{PolicyFits};
 
 use crate::digests::digest;
-use crate::kinds::{HEADER, KD, PUSH, SA, SEQUENCE, SIGNATURE};
 use crate::writers::PushHead;
 use gd_cipher::{Key128, cbc_seal};
 use gd_edges::Signer;
+use gd_wire::kinds::{
+    BLOCK_OCTETS, HEADER_OCTETS, KD, PAYLOAD_HEAD_OCTETS, PUSH, SA, SEQUENCE, SEQUENCE_OCTETS,
+    SIGNATURE,
+};
 use gd_wire::{
-    Header, a_payload_is_its_head_and_its_body, write_header, write_padding, write_payload,
-    write_payload_head, write_sequence,
+    Header, a_payload_is_its_head_and_its_body, are_octets, write_header, write_padding,
+    write_payload, write_payload_head, write_sequence,
 };
 use group_terms::{NoMemory, NodeValue, Octets};
 use sa_wire::{SaPolicy, sa_size, write_sa, written_policies_have_their_size};
 use std::alloc::Global;
-
-/// The size of the header of a payload.
-const PAYLOAD_HEAD: usize = 4;
-
-/// The size of the body of a SEQ payload.
-const NUMBER: usize = 4;
-
-/// The size of a block of the cipher.
-const BLOCK: usize = 16;
 
 /// How many octets the payloads have, up to the end of the last block.
 pub(crate) fn plain_size(policy: &SaPolicy, keys: usize, signature: usize) -> usize
@@ -38,9 +32,9 @@ pub(crate) fn plain_size(policy: &SaPolicy, keys: usize, signature: usize) -> us
         length octets ≡ signature → result ≡ length (plain_text push octets) }
     ensures few { result ≤ 65700 }
 {
-    let bodies = NUMBER + sa_size(policy) + keys + signature;
-    let octets = 4 * PAYLOAD_HEAD + bodies;
-    octets + (BLOCK - octets % BLOCK) % BLOCK
+    let bodies = SEQUENCE_OCTETS + sa_size(policy) + keys + signature;
+    let octets = 4 * PAYLOAD_HEAD_OCTETS + bodies;
+    octets + (BLOCK_OCTETS - octets % BLOCK_OCTETS) % BLOCK_OCTETS
 }
 
 /// Begins the datagram of a push, up to the body of its key download, which will have `keys` octets. After its header the datagram will
@@ -65,11 +59,11 @@ pub(crate) fn begin(
         next: SEQUENCE,
         exchange: PUSH,
         message: [0; 4],
-        length: (HEADER + size) as u32,
+        length: (HEADER_OCTETS + size) as u32,
     };
-    let mut out = Octets::with_room(alloc, HEADER + size)?;
+    let mut out = Octets::with_room(alloc, HEADER_OCTETS + size)?;
     out.extend(&write_header(&header))?;
-    write_payload_head(SA, NUMBER, &mut out)?;
+    write_payload_head(SA, SEQUENCE_OCTETS, &mut out)?;
     write_sequence(head.sequence, &mut out)?;
     write_payload_head(KD, sa_size(policy), &mut out)?;
     write_sa(policy, &mut out)?;
@@ -90,7 +84,7 @@ pub(crate) fn finish<G: Signer>(
         IsPushText (G.signature signer.now) (G.size_of signer.now) kek.now push datagram) }
 {
     let mut out = out;
-    let (header, payloads) = out.as_slice().split_at(HEADER);
+    let (header, payloads) = out.as_slice().split_at(HEADER_OCTETS);
     let signature = signer.sign(&digest(header, payloads));
     append_signature(signature.as_slice(), &mut out)?;
     write_padding(&mut out)?;
@@ -104,6 +98,7 @@ fn append_signature(signature: &[u8], out: &mut Octets) -> Result<(), NoMemory>
     ensures ok { OnOk result (out.new ≡ out.old ++ payload_text 0 signature.now) }
     ensures octets { AreOctets signature.now }
 {
+    are_octets(signature);
     write_payload(0, signature, out)
 }
 
@@ -113,6 +108,6 @@ fn seal(out: &mut Octets, kek: &NodeValue)
     requires whole { (length out.old - 28) % 16 ≡ 0 }
     ensures { (sealed : List ℕ) × IsSealed kek.now.key kek.now.iv (drop 28 out.old) sealed × (out.new ≡ take 28 out.old ++ sealed) }
 {
-    let (_, text) = out.as_mut_slice().split_at_mut(HEADER);
+    let (_, text) = out.as_mut_slice().split_at_mut(HEADER_OCTETS);
     cbc_seal(&Key128::new(kek.key), &kek.iv, text);
 }

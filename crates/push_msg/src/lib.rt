@@ -12,7 +12,6 @@ pub use writers::{PushHead, write_membership, write_traffic};
 mod bodies;
 mod digests;
 mod drafts;
-mod kinds;
 mod laws;
 mod opening;
 mod reading;

@@ -11,11 +11,11 @@ ghost use Rattle.push_msg.specs.Readings.{PushRead};
 
 use crate::bodies::OpenPush;
 use crate::digests::digest;
-use crate::kinds::{HEADER, PUSH};
 use crate::reading::read_push;
 use crate::rooms::Room;
 use gd_cipher::a_text_is_opened_in_one_way;
 use gd_edges::Verifier;
+use gd_wire::kinds::{HEADER_OCTETS, PUSH};
 use gd_wire::{Header, Part, read_header};
 use group_terms::{NodeValue, PushRefusal};
 
@@ -55,7 +55,7 @@ pub fn open_push<V: Verifier>(
     room.start = 0;
     room.size = 0;
     let head = push_header(datagram, spi)?;
-    room.texts.open_text(&datagram[HEADER..], kek);
+    room.texts.open_text(&datagram[HEADER_OCTETS..], kek);
     let text = room.texts.text();
     match examine(datagram, spi, head.next, text, last, verifier) {
         Ok((open, keys)) => {
@@ -117,7 +117,7 @@ fn examine<V: Verifier>(
         Ok(read) => read,
         Err(fault) => return Err(PushRefusal::Malformed { at: fault.at }),
     };
-    let signed = digest(&datagram[..HEADER], &text[..read.signed]);
+    let signed = digest(&datagram[..HEADER_OCTETS], &text[..read.signed]);
     if !verifier.check(&signed, read.signature) {
         return Err(PushRefusal::BadSignature);
     }

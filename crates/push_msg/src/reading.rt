@@ -8,8 +8,8 @@ ghost use Rattle.push_msg.specs.Private.Seen.{seen};
 ghost use Rattle.push_msg.specs.Readings.{there, membership_body, traffic_body, key_download, epoch_of, push};
 
 use crate::bodies::OpenBody;
-use crate::kinds::{HEADER, KD, SA, SEQUENCE, SIGNATURE};
 use crate::rows::{Row, read_row};
+use gd_wire::kinds::{HEADER_OCTETS, KD, SA, SEQUENCE, SIGNATURE};
 use gd_wire::{Named, Part, Reader, chain_end, fault, payload};
 use group_terms::{SignKind, WireFault, WireWhat};
 use kd_wire::{KdView, Updates, read_kd};
@@ -40,7 +40,7 @@ pub(crate) fn read_push<'a>(
     ensures keys { IfOk result (λ read. PartFits text.now 28 read.keys) }
     ensures signed { IfOk result (λ read. read.signed ≤ length text.now) }
 {
-    let mut payloads = Reader::new(text, HEADER as u32);
+    let mut payloads = Reader::new(text, HEADER_OCTETS as u32);
     let (part, named) = payload(&mut payloads, SEQUENCE, Named::first(first))?;
     let sequence = part.sequence(text)?;
     let (part, named) = payload(&mut payloads, SA, named)?;

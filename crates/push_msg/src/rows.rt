@@ -6,8 +6,8 @@ ghost use Rattle.gd_wire.specs.Readings.{Cursor, Gives, check};
 ghost use Rattle.group_terms.specs.declared.wires.WireWhat.TheVariants.{Kind, Value};
 ghost use Rattle.push_msg.specs.Readings.{due_sign, membership, row_of, row};
 
-use crate::kinds::SA;
 use gd_wire::fault;
+use gd_wire::kinds::SA;
 use group_terms::{SignKind, WireFault, WireWhat};
 use sa_wire::{PlacedKek, PlacedSa, read_placed_sa};
 

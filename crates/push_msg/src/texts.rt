@@ -5,12 +5,10 @@ ghost use Rattle.gd_cipher.specs.Chains.{IsOpened};
 
 use gd_cipher::{Key128, cbc_open};
 use gd_wire::Room as Octets;
+use gd_wire::kinds::MOST_OCTETS;
 use group_terms::{NoMemory, NodeValue};
 use std::alloc::Global;
 use std::marker::Model;
-
-/// The most octets that UDP over IPv4 holds.
-const MOST: usize = 65_507;
 
 /// How many texts are kept.
 const KEPT: usize = 64;
@@ -40,8 +38,8 @@ impl OpenText {
     fn new(alloc: Global) -> Result<Self, NoMemory> {
         Ok(OpenText {
             kek: NodeValue::default(),
-            sealed: Octets::new(alloc, MOST)?,
-            octets: Octets::new(alloc, MOST)?,
+            sealed: Octets::new(alloc, MOST_OCTETS)?,
+            octets: Octets::new(alloc, MOST_OCTETS)?,
         })
     }
 

@@ -14,7 +14,8 @@ use Rattle.pull_msgs.specs.Pulls.{Awaited, fourth_awaited, second_awaited}
 use Rattle.pull_msgs.specs.Readings.{FourthSaid, PullRead, SecondSaid, fourth, root_made, second}
 use Rattle.pull_msgs.specs.Sent.{IsSomeFourth, IsSomeSecond}
 use Rattle.pull_msgs.specs.Texts.{next_iv}
-use Rattle.pull_msgs.proofs.FrontLemmas.{Front, fourth_front, same_value, second_front}
+use Rattle.gd_wire.proofs.ReadingLemmas.{same_value}
+use Rattle.pull_msgs.proofs.FrontLemmas.{Front, fourth_front, second_front}
 use Rattle.pull_msgs.proofs.KindLemmas.{fourth_kind, no_fourth, no_second, second_kind}
 use Rattle.pull_msgs.proofs.MessageLemmas as messages
 use Rattle.pull_msgs.proofs.MessageLemmas.{fourth_gives, policies_read, second_is_read}

@@ -5,6 +5,7 @@ use Rattle.gd_cipher.specs.Bytes.{AreBytes}
 use Rattle.gd_wire.specs.Bodies.{sequence_text, identification_text}
 use Rattle.gd_wire.specs.Chains.{payload_text}
 use Rattle.gd_wire.specs.Readings.{Cursor, from_start, value_of}
+use Rattle.gd_wire.proofs.OctetLemmas.{same_octets}
 use Rattle.group_terms.specs.Octets.{IsOctet, AreOctets}
 use Rattle.group_terms.specs.declared.paths.Keyed.{Keyed}
 use Rattle.group_terms.specs.declared.phases.Phase1.{Phase1}
@@ -17,7 +18,7 @@ use Rattle.pull_msgs.specs.Readings.{root_made, first, second, third, fourth}
 use Rattle.pull_msgs.specs.Texts.{IsPullText, message_hash, first_iv, first_message, second_message, third_message, fourth_message}
 use Rattle.pull_msgs.proofs.HashLemmas.{length-hash_of, first_iv_fits}
 use Rattle.pull_msgs.proofs.MessageLemmas as messages
-use Rattle.pull_msgs.proofs.MessageLemmas.{same_bytes, first_is_read, second_is_read, third_is_read, fourth_is_read, policies_read}
+use Rattle.pull_msgs.proofs.MessageLemmas.{first_is_read, second_is_read, third_is_read, fourth_is_read, policies_read}
 use Rattle.pull_msgs.proofs.WrittenLemmas as written
 use Rattle.pull_msgs.proofs.WrittenLemmas.{IsRead, is_read, policies_long, two_flat, two_octets, two_long}
 use Rattle.pull_msgs.proofs.laws.a_written_message_is_read.Goals as goal
@@ -43,7 +44,7 @@ opening c = record {
 }
 
 known_is_due : (message : List ℕ) (cursor : Cursor) → due_message (Some message) message cursor ≡ Ok (tt, cursor)
-known_is_due message cursor = rw (same_bytes message) refl
+known_is_due message cursor = rw (same_octets message) refl
 
 pub returns-clause-third : goal.returns-clause-third
 returns-clause-third c phase message iv ni nr datagram answer phase_fits message_fits iv_fits is answered =

@@ -1,5 +1,5 @@
 -- Each payload lies in the text, so places in it have 32 bits.
-use Rattle.pull_msgs.proofs.PartLemmas.{at_start, body_small}
+use Rattle.gd_wire.proofs.PartLemmas.{at_start, body_small}
 use Rattle.pull_msgs.proofs.reading.read_second.Goals as goal
 
 pub hash_payload-requires-clause-through : goal.hash_payload-requires-clause-through

@@ -1,4 +1,4 @@
-use Rattle.pull_msgs.proofs.PartLemmas.{at_start}
+use Rattle.gd_wire.proofs.PartLemmas.{at_start}
 use Rattle.pull_msgs.proofs.reading.read_third.Goals as goal
 
 pub hash_payload-requires-clause-through : goal.hash_payload-requires-clause-through

@@ -1,5 +1,5 @@
 -- Each payload lies in the text, so places in it have 32 bits.
-use Rattle.push_msg.proofs.PartLemmas.{at_start, part_small, body_small}
+use Rattle.gd_wire.proofs.PartLemmas.{at_start, part_small, body_small}
 use Rattle.push_msg.proofs.reading.read_push.Goals as goal
 
 pub read_row-requires : goal.read_row-requires
