@@ -1,0 +1,255 @@
+#!/usr/bin/env python3
+"""RSA signatures beside openssl.
+
+    python3 bench/rsa.py lines         writes the stored run of `case_signatures` anew: keys, signatures and refusals by openssl and Python
+    python3 bench/rsa.py vectors [N]   60 keys that openssl makes, or so many, 20 digests each: the same signatures, and each with one bit changed is refused
+    python3 bench/rsa.py times         signatures and checks in a second, beside openssl's
+
+It runs crates/case_signatures/out/case_signatures, built by `rt run`. The times of openssl are of its library, called from Python: with the primes of the
+key, and without them as `rsa_sign` has it. All are times of the processor, taken in turn in one run.
+"""
+import ctypes
+import ctypes.util
+import hashlib
+import pathlib
+import random
+import subprocess
+import sys
+import tempfile
+import time
+
+from keys import hexadecimal, numbers
+
+TOP = pathlib.Path(__file__).resolve().parent.parent
+CRATE = TOP / "crates" / "case_signatures"
+PROGRAM = CRATE / "out" / "case_signatures"
+NAME = bytes.fromhex("3031300d060960864801650304020105000420")
+BARE_NAME = bytes.fromhex("302f300b0609608648016503040201" + "0420")
+OTHER_NAME = bytes.fromhex("3031300d060960864801650304020405000420")
+
+
+class Key:
+    """A key that openssl made."""
+
+    def __init__(self, bits):
+        made = subprocess.run(["openssl", "genrsa", str(bits)], capture_output=True, check=True)
+        self.pem = made.stdout
+        self.modulus, self.public, self.private = numbers(self.pem)
+        self.size = (self.modulus.bit_length() + 7) // 8
+
+    def line(self, modulus=None, public=None, private=None):
+        """The line that gives it, with other numbers in place of its own."""
+        words = [
+            self.modulus if modulus is None else modulus,
+            self.public if public is None else public,
+            self.private if private is None else private,
+        ]
+        return "key " + " ".join(hexadecimal(word) or "-" for word in words)
+
+    def sign(self, digest):
+        """What openssl signs."""
+        with tempfile.NamedTemporaryFile() as file:
+            file.write(self.pem)
+            file.flush()
+            command = ["openssl", "pkeyutl", "-sign", "-inkey", file.name, "-pkeyopt", "digest:sha256"]
+            return subprocess.run(command, input=digest, capture_output=True, check=True).stdout
+
+    def power(self, message):
+        """A message of any form, signed by Python."""
+        signed = pow(int.from_bytes(message, "big"), self.private, self.modulus)
+        return signed.to_bytes(self.size, "big")
+
+    def message(self, end, padding=None):
+        """An encoded message with this end."""
+        rest = self.size - 3 - len(end)
+        return b"\0\1" + b"\xff" * (rest if padding is None else padding) + b"\0" + end
+
+
+def digest(*words):
+    return hashlib.sha256(repr(words).encode()).digest()
+
+
+def forgeries(key, text):
+    """Octets that are no signature of the digest."""
+    good = key.sign(text)
+    room = key.size - 3
+    loose = key.message(NAME + text, 8)
+    yield key.power(loose + b"\x5a" * (key.size - len(loose)))
+    yield key.power(key.message(NAME + text + b"\x5a" * 40))
+    yield key.power(key.message(OTHER_NAME + text))
+    yield key.power(key.message(BARE_NAME + text))
+    yield key.power(key.message(NAME + digest("another")))
+    yield key.power(b"\0\2" + b"\xff" * (room - 51) + b"\0" + NAME + text)
+    yield key.power(b"\0\1" + b"\xff" * (room - 52) + b"\xfe\0" + NAME + text)
+    yield b"\0" + good
+    yield good + b"\0"
+    yield good[:-1]
+    yield b"\0" * key.size
+    yield b"\xff" * key.size
+    above = int.from_bytes(good, "big") + key.modulus
+    yield above.to_bytes(key.size + 1, "big")
+    if above < 256**key.size:
+        yield above.to_bytes(key.size, "big")
+
+
+def cases():
+    """Lines and their answers."""
+    chance = random.Random(58)
+    for bits in (2048, 3072, 4096):
+        key = Key(bits)
+        yield key.line(), f"ok {bits}"
+        for i in range(2):
+            text = digest(bits, i)
+            good = key.sign(text)
+            yield f"sign {text.hex()}", good.hex()
+            yield f"check {text.hex()} {good.hex()}", "yes"
+            changed = bytearray(good)
+            changed[chance.randrange(key.size)] ^= 1 << chance.randrange(8)
+            yield f"check {text.hex()} {changed.hex()}", "no"
+            yield f"check {digest('other').hex()} {good.hex()}", "no"
+        if bits == 2048:
+            for forged in forgeries(key, text):
+                yield f"check {text.hex()} {forged.hex()}", "no"
+            short = next(d for d in (digest("short", i) for i in range(100000)) if key.power(key.message(NAME + d))[0] == 0)
+            good = key.sign(short)
+            yield f"check {short.hex()} {good.hex()}", "yes"
+            yield f"check {short.hex()} {good[1:].hex()}", "no"
+            yield f"sign {short.hex()}", good.hex()
+    key = Key(2048)
+    yield key.line(modulus=key.modulus + 1), "refused EvenModulus"
+    yield key.line(modulus=key.modulus >> 1 | 1), "refused FewBits"
+    yield key.line(modulus=1 << 4096 | 1), "refused ManyBits"
+    yield key.line(modulus=0), "refused FewBits"
+    yield key.line(public=0), "refused PublicExponent"
+    yield key.line(public=1 << 64 | 1), "refused PublicExponent"
+    yield key.line(private=key.modulus), "refused PrivateExponent"
+    yield key.line(private=key.private ^ 2), "refused Pair"
+    yield key.line(public=3), "refused Pair"
+
+
+def answers(lines):
+    """What the program answers."""
+    given = "".join(line + "\n" for line in lines)
+    done = subprocess.run([PROGRAM], input=given, capture_output=True, text=True, check=True)
+    return done.stdout.splitlines()
+
+
+def store():
+    rows = list(cases())
+    (CRATE / "stdin").write_text("".join(line + "\n" for line, _ in rows))
+    (CRATE / "stdout").write_text("".join(answer + "\n" for _, answer in rows))
+    print(len(rows), "lines")
+
+
+def vectors(keys=60):
+    chance = random.Random(58)
+    wrong = count = 0
+    for i in range(keys):
+        bits = (2048, 3072, 4096)[i % 3]
+        key = Key(bits)
+        rows = [(key.line(), f"ok {bits}")]
+        for j in range(20):
+            text = digest(i, j)
+            good = key.sign(text)
+            changed = bytearray(good)
+            changed[chance.randrange(key.size)] ^= 1 << chance.randrange(8)
+            rows.append((f"sign {text.hex()}", good.hex()))
+            rows.append((f"check {text.hex()} {good.hex()}", "yes"))
+            rows.append((f"check {text.hex()} {changed.hex()}", "no"))
+        found = answers([line for line, _ in rows])
+        wrong += sum(answer != row[1] for answer, row in zip(found, rows)) + abs(len(found) - len(rows))
+        count += len(rows)
+    print(count, "lines,", wrong, "wrong")
+
+
+class Library:
+    """openssl's library: RSA keys, with their primes or without."""
+
+    def __init__(self):
+        self.crypto = ctypes.CDLL(ctypes.util.find_library("crypto"))
+        for name in ("BN_bin2bn", "RSA_new"):
+            getattr(self.crypto, name).restype = ctypes.c_void_p
+
+    def number(self, value):
+        octets = value.to_bytes((value.bit_length() + 7) // 8, "big")
+        return ctypes.c_void_p(self.crypto.BN_bin2bn(octets, len(octets), None))
+
+    def key(self, key, primes):
+        made = ctypes.c_void_p(self.crypto.RSA_new())
+        self.crypto.RSA_set0_key(made, self.number(key.modulus), self.number(key.public), self.number(key.private))
+        if primes:
+            first, second = factors(key)
+            self.crypto.RSA_set0_factors(made, self.number(first), self.number(second))
+            rest = (key.private % (first - 1), key.private % (second - 1), pow(second, -1, first))
+            self.crypto.RSA_set0_crt_params(made, *(self.number(value) for value in rest))
+        return made
+
+    def sign(self, key, text, count):
+        out = ctypes.create_string_buffer(512)
+        size = ctypes.c_uint()
+        for _ in range(count):
+            assert self.crypto.RSA_sign(672, text, 32, out, ctypes.byref(size), key) == 1
+        return out.raw[: size.value]
+
+    def check(self, key, text, signed, count):
+        for _ in range(count):
+            assert self.crypto.RSA_verify(672, text, 32, signed, len(signed), key) == 1
+
+
+def factors(key):
+    """The primes of a key, from its exponents."""
+    rest = key.public * key.private - 1
+    twos = (rest & -rest).bit_length() - 1
+    for base in range(2, 100):
+        root = pow(base, rest >> twos, key.modulus)
+        for _ in range(twos):
+            square = root * root % key.modulus
+            if square == 1 and root not in (1, key.modulus - 1):
+                first = greatest(root - 1, key.modulus)
+                return max(first, key.modulus // first), min(first, key.modulus // first)
+            root = square
+    raise ValueError
+
+
+def greatest(a, b):
+    """The greatest common divisor."""
+    while b:
+        a, b = b, a % b
+    return a
+
+
+def processor(work):
+    """The time of the processor that this process and those that it ran took."""
+    before = sum(time_of())
+    work()
+    return sum(time_of()) - before
+
+
+def time_of():
+    import resource
+
+    for who in (resource.RUSAGE_SELF, resource.RUSAGE_CHILDREN):
+        used = resource.getrusage(who)
+        yield used.ru_utime + used.ru_stime
+
+
+def times():
+    library = Library()
+    print("bits  work   ours/ms  openssl/ms  without primes/ms  ratio  without primes")
+    for bits in (2048, 3072, 4096):
+        key = Key(bits)
+        text = digest("times")
+        good = key.sign(text)
+        whole, bare = library.key(key, True), library.key(key, False)
+        assert library.sign(whole, text, 1) == library.sign(bare, text, 1) == good
+        base = processor(lambda: answers([key.line()]))
+        for work, line, count in (("sign", f"sign {text.hex()}", 100), ("check", f"check {text.hex()} {good.hex()}", 2000)):
+            theirs = library.sign if work == "sign" else lambda k, t, n: library.check(k, t, good, n)
+            ours = min(processor(lambda: answers([key.line()] + [line] * count)) - base for _ in range(3)) / count
+            fast = min(processor(lambda: theirs(whole, text, count)) for _ in range(3)) / count
+            slow = min(processor(lambda: theirs(bare, text, count)) for _ in range(3)) / count
+            print(f"{bits}  {work:5}  {ours * 1e3:7.3f}  {fast * 1e3:10.3f}  {slow * 1e3:17.3f}  {ours / fast:5.2f}  {ours / slow:5.2f}")
+
+
+if __name__ == "__main__":
+    {"lines": store, "vectors": vectors, "times": times}[sys.argv[1]](*(int(word) for word in sys.argv[2:]))

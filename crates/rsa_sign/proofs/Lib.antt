@@ -1,0 +1,4 @@
+pub mod KeyLemmas
+pub mod LawLemmas
+pub mod MessageLemmas
+pub mod PowerLemmas
