@@ -89,15 +89,21 @@ told_then size cursor next all e =
 due_parts : (told all : ℕ) → is_due_length told all ≡ true → (told ≡ all) × (28 < all) × ((all - 28) % 16 ≡ 0)
 due_parts told all is_due = (grind (arith, nat_tests), grind (arith, nat_tests), grind (arith, nat_tests))
 
--- a header that was read, in a datagram of octets: the text of its fields stands before what is left, which it suits
+-- a header that was read, in a datagram of octets: the text of its fields comes before what is left, which it suits
 pub record IsHeader (datagram : List ℕ) (read : Header × Cursor) : Type 0 where
   pub text : datagram ≡ header_text read.0 ++ read.1.left
   pub fits : HeaderFits read.0 read.1.left
 
-pub header_read : (exchange : ℕ) (datagram : List ℕ) (read : Header × Cursor) → AreOctets datagram
-    → header exchange (from_start 0 datagram) ≡ Ok read → IsHeader datagram read
+-- the fields of a header that was read, in any datagram; in one of octets it is a header
+pub record IsFound (exchange : ℕ) (datagram : List ℕ) (read : Header × Cursor) : Type 0 where
+  pub cookies : read.0.cookies ≡ take 16 datagram
+  pub exchange_is : read.0.exchange ≡ exchange
+  pub of_octets : AreOctets datagram → IsHeader datagram read
+
+pub header_found : (exchange : ℕ) (datagram : List ℕ) (read : Header × Cursor) → header exchange (from_start 0 datagram) ≡ Ok read
+    → IsFound exchange datagram read
 unfolding header header_fields
-header_read exchange datagram read small e =
+header_found exchange datagram read e =
     let long = check_ok (leb 28 (length datagram)) _ _ _ _ read e in
     let few = check_ok (leb (length datagram) 65507) _ _ _ _ read long.1 in
     let start : Cursor = from_start 0 datagram in
@@ -115,42 +121,51 @@ header_read exchange datagram read small e =
     let c24 : Cursor = after 4 c20 in
     let told = told_then (length datagram) c24 _ read message.2 in
     let c28 : Cursor = after 4 c24 in
-    let s16 = All-drop IsOctet 16 datagram small in
-    let s17 = All-drop IsOctet 1 c16.left s16 in
-    let s18 = All-drop IsOctet 1 c17.left s17 in
-    let s19 = All-drop IsOctet 1 c18.left s18 in
-    let s20 = All-drop IsOctet 1 c19.left s19 in
-    let s24 = All-drop IsOctet 4 c20.left s20 in
-    let first : ℕ = slice_index_or (take 1 c16.left) 0 0 in
-    let exchange_is : ℕ = slice_index_or (take 1 c18.left) 0 0 in
-    let size : List ℕ = big_bytes 4 (big_from 0 4 (take 4 c24.left)) in
-    let middle : List ℕ = first ∷ 16 ∷ exchange_is ∷ 1 ∷ take 4 c20.left in
-    let text : datagram ≡ take 16 datagram ++ (middle ++ (size ++ c28.left)) =
-    sym (take-append-drop 16 datagram) ∙ ap (λ rest. take 16 datagram ++ rest) (
-    octet_text c16.left next.0 ∙ ap (λ rest. first ∷ rest) (
-    octet_text c17.left version.0 ∙ (λ i. version.1 i ∷ octet_text c18.left kind.0 i) ∙ ap (λ rest. 16 ∷ exchange_is ∷ rest) (
-    octet_text c19.left flags.0 ∙ (λ i. flags.1 i ∷ sym (take-append-drop 4 c20.left) i)
-    ∙ ap (λ rest. 1 ∷ (take 4 c20.left ++ rest)) (long_number_text c24.left s24 told.0)))) in
-    let cookies_long : length (take 16 datagram) ≡ 16 = length-take-le 16 datagram cookies.0 in
-    let message_long : length (take 4 c20.left) ≡ 4 = length-take-le 4 c20.left message.0 in
-    let one = length-append (take 16 datagram) (middle ++ (size ++ c28.left)) in
-    let two = length-append (take 4 c20.left) (size ++ c28.left) in
-    let all : length datagram ≡ 28 + length c28.left = omega (arith, ap length text) in
-    let parts = due_parts (big_from 0 4 (take 4 c24.left)) (length datagram) told.1 in
-    subst (IsHeader datagram) (same_value _ _ told.2) (record {
-      text = text
-          ∙ sym (append_assoc (take 16 datagram ++ middle) size c28.left ∙ append_assoc (take 16 datagram) middle (size ++ c28.left));
-      fits = record {
-        cookies = cookies_long;
-        cookie_octets = All-take IsOctet 16 datagram small;
-        next = first_small c16.left s16 next.0;
-        exchange = first_small c18.left s18 kind.0;
-        message = message_long;
-        message_octets = All-take IsOctet 4 c20.left s20;
-        suits = (λ i. suits_exchange (kind.1 i) (big_from 0 4 (take 4 c20.left))) ∙ message.1;
-        told = parts.0 ∙ all;
-        some = omega (arith, parts.1);
-        blocks = sym (ap (λ n. (n - 28) % 16) all ∙ omega arith) ∙ parts.2;
-        small = omega (arith, leb-true (length datagram) 65507 few.0);
-      };
+    subst (IsFound exchange datagram) (same_value _ _ told.2) (record {
+      cookies = refl;
+      exchange_is = kind.1;
+      of_octets = λ small.
+          let s16 = All-drop IsOctet 16 datagram small in
+          let s17 = All-drop IsOctet 1 c16.left s16 in
+          let s18 = All-drop IsOctet 1 c17.left s17 in
+          let s19 = All-drop IsOctet 1 c18.left s18 in
+          let s20 = All-drop IsOctet 1 c19.left s19 in
+          let s24 = All-drop IsOctet 4 c20.left s20 in
+          let first : ℕ = slice_index_or (take 1 c16.left) 0 0 in
+          let exchange_is : ℕ = slice_index_or (take 1 c18.left) 0 0 in
+          let size : List ℕ = big_bytes 4 (big_from 0 4 (take 4 c24.left)) in
+          let middle : List ℕ = first ∷ 16 ∷ exchange_is ∷ 1 ∷ take 4 c20.left in
+          let text : datagram ≡ take 16 datagram ++ (middle ++ (size ++ c28.left)) =
+          sym (take-append-drop 16 datagram) ∙ ap (λ rest. take 16 datagram ++ rest) (
+          octet_text c16.left next.0 ∙ ap (λ rest. first ∷ rest) (
+          octet_text c17.left version.0 ∙ (λ i. version.1 i ∷ octet_text c18.left kind.0 i) ∙ ap (λ rest. 16 ∷ exchange_is ∷ rest) (
+          octet_text c19.left flags.0 ∙ (λ i. flags.1 i ∷ sym (take-append-drop 4 c20.left) i)
+          ∙ ap (λ rest. 1 ∷ (take 4 c20.left ++ rest)) (long_number_text c24.left s24 told.0)))) in
+          let cookies_long : length (take 16 datagram) ≡ 16 = length-take-le 16 datagram cookies.0 in
+          let message_long : length (take 4 c20.left) ≡ 4 = length-take-le 4 c20.left message.0 in
+          let one = length-append (take 16 datagram) (middle ++ (size ++ c28.left)) in
+          let two = length-append (take 4 c20.left) (size ++ c28.left) in
+          let all : length datagram ≡ 28 + length c28.left = omega (arith, ap length text) in
+          let parts = due_parts (big_from 0 4 (take 4 c24.left)) (length datagram) told.1 in
+          record {
+            text = text
+                ∙ sym (append_assoc (take 16 datagram ++ middle) size c28.left ∙ append_assoc (take 16 datagram) middle (size ++ c28.left));
+            fits = record {
+              cookies = cookies_long;
+              cookie_octets = All-take IsOctet 16 datagram small;
+              next = first_small c16.left s16 next.0;
+              exchange = first_small c18.left s18 kind.0;
+              message = message_long;
+              message_octets = All-take IsOctet 4 c20.left s20;
+              suits = (λ i. suits_exchange (kind.1 i) (big_from 0 4 (take 4 c20.left))) ∙ message.1;
+              told = parts.0 ∙ all;
+              some = omega (arith, parts.1);
+              blocks = sym (ap (λ n. (n - 28) % 16) all ∙ omega arith) ∙ parts.2;
+              small = omega (arith, leb-true (length datagram) 65507 few.0);
+            };
+          };
     })
+
+pub header_read : (exchange : ℕ) (datagram : List ℕ) (read : Header × Cursor) → AreOctets datagram
+    → header exchange (from_start 0 datagram) ≡ Ok read → IsHeader datagram read
+header_read exchange datagram read small is = (header_found exchange datagram read is).of_octets small

@@ -1,5 +1,6 @@
 pub mod AlwaysLemmas
 pub mod AttributeLaws
+pub mod BodyLemmas
 pub mod ChainLaws
 pub mod ChainReadings
 pub mod FieldLemmas

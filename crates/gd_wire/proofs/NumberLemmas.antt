@@ -1,4 +1,4 @@
--- Numbers as octets, the highest first: its octets and the number tell each other.
+-- Numbers as octets, the highest first: its octets and the number determine each other.
 use Rattle.std.proofs.Common.{◌≡◌, ℕ, zero, suc, ◌+◌, ◌*◌, ◌/◌, ◌%◌, ◌^◌, ◌<◌, ◌≤◌, List, ◌∷◌, length, take, drop, get_or}
 use Rattle.std.proofs.Common.{slice_index, sym, refl, ap, ◌∙◌, inl, inr, arith}
 use Rattle.std.specs.List.{All}
@@ -30,7 +30,7 @@ byte_at-pow (suc k) number = refl
 pow256-above : (n : ℕ) → 0 < 256 ^ n
 pow256-above n = let h = one-le-pow n 256 (omega arith) in omega arith
 
--- what stands above n octets does not change them
+-- what is above n octets does not change them
 big_bytes-low : (n high low : ℕ) → big_bytes n (high * 256 ^ n + low) ≡ big_bytes n low
 big_bytes-low zero high low = refl
 big_bytes-low (suc n) high low =
@@ -40,7 +40,7 @@ big_bytes-low (suc n) high low =
     ∙ mul-add-mod_self_right high 256 (low / 256 ^ n) ∙ sym (byte_at-pow n low) in
     rw moved (λ i. octet i ∷ big_bytes-low n (high * 256) low i)
 
--- the octets of a number that is read are those that it was read from
+-- a number that is read has the octets that it was read from
 pub big_bytes-big_from : (n i : ℕ) (text : List ℕ) → All (λ octet. octet < 256) text → i + n ≤ length text
     → big_bytes n (big_from i n text) ≡ take n (drop i text)
 big_bytes-big_from zero i text small within = refl

@@ -62,7 +62,7 @@ value_ok (Err fault) given is = absurd (cc)
 
 -- ---- lists that are read item by item
 
--- of so many, one more has been read
+-- of n items, one more has been read
 pub one_less : (n k : ℕ) → k < n → n - k ≡ suc (n - (k + 1))
 one_less n k below = omega arith
 

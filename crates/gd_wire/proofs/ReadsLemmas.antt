@@ -1,4 +1,4 @@
--- A text that is read as a value, wherever it stands and whatever comes after it; and texts that are put together of such.
+-- A text that is read as a value, wherever it is and whatever comes after it; and texts that are put together of such texts.
 use Rattle.std.proofs.Common.{◌≡◌, ℕ, ◌+◌, ◌-◌, ◌<◌, Bool, true, List, [], ◌∷◌, ◌++◌, length, take, drop, Result, Ok, Err, refl, sym, ap}
 use Rattle.std.proofs.Common.{◌∙◌, append_assoc, append-nil, length-append, arith}
 use Rattle.std.specs.Prelude.{◌==◌, nat_le}

@@ -16,13 +16,13 @@ body_cursor text part = from_start (part.at + 4) (body_of text part)
 abbrev pub length_place : Part → ℕ
 length_place part = part.at + 2
 
--- a body of just so many octets
+-- a body of just this size
 unfoldable pub due_size : ℕ → ℕ → Reading (Unit {0})
 due_size size at = do
   left ← octets_left
   check (left == size) Length at
 
--- and one of at least and at most so many
+-- and one of at least and at most these sizes
 unfoldable pub sized : ℕ → ℕ → ℕ → Reading (List ℕ)
 sized least most at = do
   left ← octets_left

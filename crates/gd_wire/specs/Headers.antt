@@ -35,7 +35,7 @@ message_id exchange = do
   check (suits_exchange exchange (big_from 0 4 message)) Value at
   give message
 
--- the length, in a datagram of so many octets
+-- the length, in a datagram of this size
 unfoldable pub told_length : ℕ → Reading ℕ
 told_length size = do
   at ← here

@@ -79,7 +79,7 @@ impl Part {
     }
 }
 
-/// Finds that just so many octets are left; else `Length`, at a place.
+/// Finds that just `size` octets are left; else `Length`, at a place.
 #[tactic(auto, unfolding(crate::specs::Bodies::due_size))]
 fn due_size(reader: &Reader, size: usize, at: u32) -> Result<(), WireFault>
     ensures { Gives result reader.now (due_size size at reader.now) }
@@ -90,7 +90,7 @@ fn due_size(reader: &Reader, size: usize, at: u32) -> Result<(), WireFault>
     Ok(())
 }
 
-/// All octets, at least and at most so many; else `Length`, at a place.
+/// All octets, at least `least` and at most `most`; else `Length`, at a place.
 #[tactic(auto, unfolding(crate::specs::Bodies::sized))]
 fn sized<'a>(
     reader: &mut Reader<'a>,

@@ -19,7 +19,7 @@ pub const MOST_PAYLOADS: usize = 8;
 /// Where the header of a datagram names the kind of the first payload.
 const FIRST: u32 = 16;
 
-/// Where a payload stands.
+/// Where a payload is.
 #[derive(Clone, Copy, Default, PartialEq, Eq)]
 pub struct Part {
     pub kind: u8,
@@ -212,7 +212,7 @@ pub fn write_payload(next: u8, body: &[u8], out: &mut Octets) -> Result<(), NoMe
     append(&payload_head(next, body.len()), body, out)
 }
 
-/// Appends the header of a payload, whose body of so many octets is appended next: the kind of the payload after it or 0, and its length
+/// Appends the header of a payload, whose body of `size` octets is appended next: the kind of the payload after it or 0, and its length
 /// (RFC 2408 section 3.2).
 pub fn write_payload_head(next: u8, size: usize, out: &mut Octets) -> Result<(), NoMemory>
     requires { size ≤ 65531 }
@@ -234,7 +234,7 @@ pub fn write_padding(out: &mut Octets) -> Result<(), NoMemory>
     Ok(())
 }
 
-/// The header of a payload whose body has so many octets.
+/// The header of a payload whose body has `size` octets.
 fn payload_head(next: u8, size: usize) -> [u8; PAYLOAD_HEAD_OCTETS]
     requires { size ≤ 65531 }
     ensures { result ≡ payload_head next size }

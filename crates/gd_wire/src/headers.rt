@@ -49,7 +49,7 @@ fn header_of(datagram: &[u8], exchange: u8) -> Result<Header, WireFault>
     header_fields(&mut Reader::new(datagram, 0), exchange, size)
 }
 
-/// The fields of a header of a datagram of so many octets.
+/// The fields of a header of a datagram of `size` octets.
 #[tactic(auto, unfolding(crate::specs::Headers::header_fields))]
 fn header_fields(reader: &mut Reader, exchange: u8, size: usize) -> Result<Header, WireFault>
     ensures { Gives result reader.new (header_fields exchange size reader.old) }
@@ -83,7 +83,7 @@ fn message_id(reader: &mut Reader, exchange: u8) -> Result<[u8; 4], WireFault>
     Ok(message)
 }
 
-/// The length, which has to be that of a datagram of so many octets; else `Length`.
+/// The length, which has to be that of a datagram of `size` octets; else `Length`.
 #[tactic(auto, unfolding(crate::specs::Headers::told_length))]
 fn told_length(reader: &mut Reader, size: usize) -> Result<u32, WireFault>
     ensures { Gives result reader.new (told_length size reader.old) }

@@ -48,5 +48,5 @@ pub const HASH_OCTETS: usize = 32;
 /// The octets of a block of the cipher.
 pub const BLOCK_OCTETS: usize = 16;
 
-/// The most octets of a datagram: those that UDP over IPv4 holds.
+/// The most octets of a datagram: as many as UDP over IPv4 holds.
 pub const MOST_OCTETS: usize = 65_507;

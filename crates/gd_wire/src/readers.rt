@@ -91,7 +91,7 @@ impl<'a> Reader<'a> {
         self.left.is_empty()
     }
 
-    /// The next octets, so many, as a text of their own; else this fault at a place.
+    /// The next `size` octets, as a text of their own; else this fault at a place.
     #[tactic(auto, unfolding(crate::specs::Readings::part))]
     pub fn part(&mut self, size: usize, what: WireWhat, at: u32) -> Result<Reader<'a>, WireFault>
         ensures gives { Gives result self.new (part size what at self.old) }
@@ -111,7 +111,7 @@ impl<'a> Reader<'a> {
         })
     }
 
-    /// The next octets, so many; else `Short`, where the first would be.
+    /// The next `size` octets; else `Short`, where the first would be.
     #[tactic(auto, unfolding(crate::specs::Readings::octets))]
     pub fn octets(&mut self, size: usize) -> Result<&'a [u8], WireFault>
         ensures gives { Shows (λ field. field.now) result self.new (octets size self.old) }
@@ -276,7 +276,7 @@ impl<'a> Reader<'a> {
         Reader { base, at, left }
     }
 
-    /// The place in the datagram of the octet after so many more.
+    /// The place in the datagram of the octet after `size` more.
     pub fn here_after(&self, size: usize) -> u32
         requires { size ≤ length self.now.left }
         ensures { result ≡ self.now.base + self.now.at + size }
@@ -285,7 +285,7 @@ impl<'a> Reader<'a> {
     }
 }
 
-/// Where the first octet stands that is not zero.
+/// Where the first octet is that is not zero.
 fn first_other(octets: &[u8]) -> Option<usize>
     ensures place { result ≡ position (λ octet. not (octet == 0)) octets.now }
     ensures within { IfSome result (λ place. place < length octets.now) }

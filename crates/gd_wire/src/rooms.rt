@@ -26,7 +26,7 @@ impl Model for Room {
 impl Room {
     ghost use Rattle.gd_wire.specs.Rooms.{lends_octets};
 
-    /// Room for at least so many octets, without any yet.
+    /// Room for at least `most` octets, without any yet.
     pub fn new(alloc: Global, most: usize) -> Result<Self, NoMemory>
         ensures octets { IfOk result (λ room. room.octets ≡ []) }
         ensures room { IfOk result (λ room. most ≤ room.room) }
@@ -36,7 +36,7 @@ impl Room {
         })
     }
 
-    /// Puts these octets in place of those that were there.
+    /// Replaces the octets by these.
     pub fn fill(&mut self, octets: &[u8])
         requires { length octets.now ≤ self.old.room }
         ensures octets { self.new.octets ≡ octets.now }
