@@ -1,25 +1,24 @@
 -- SAs at their places, by their cookies and by their members.
-use Rattle.std.proofs.Common.{◌≡◌, ◌⊎◌, ℕ, zero, suc, ◌<◌, Bool, true, false, ltb, ◌||◌, List, [], ◌∷◌, ◌++◌, Option, None, Some, cond, length, map, get_or, take, drop, ◌+◌, add-one, refl, sym, ap, ◌∙◌, subst, arith, inl, inr}
+use Rattle.std.proofs.Common.{◌≡◌, ◌⊎◌, ℕ, zero, suc, ◌<◌, Bool, true, false, ltb, ◌||◌, List, [], ◌∷◌, ◌++◌, Option, None, Some, cond, length, map, get_or, take, drop, ◌+◌, add-one, Result, Ok, Err, IsOk, OnOk, refl, sym, ap, ◌∙◌, subst, arith, inl, inr}
 use Rattle.std.specs.Prelude.{is_some, option_and_then, slice_get}
-use Rattle.std.specs.HashMap.{HashMap, get}
-use Rattle.std.specs.Map.{lookup}
 use Rattle.std.specs.List.{IsDistinct, find, list_any, position, position_or_len}
 use Rattle.std.specs.Str.{bytes_eq}
-use Rattle.std.specs.Cmp.Lexicographic.{nat_list_eq_equiv}
 use Rattle.std.proofs.lemmas.Bool.{cases_Bool, false≢true, cond-true, cond-false}
-use Rattle.std.proofs.lemmas.List.{length-map, map-append}
+use Rattle.std.proofs.lemmas.List.{get_or_default, length-map, map-append}
 use Rattle.std.proofs.lemmas.List.Folds.{find_at}
 use Rattle.std.proofs.lemmas.List.Quantifiers.{position-Some}
-use Rattle.std.proofs.lemmas.Map.Keys.{IsDistinct-push, apart_from_distinct, IsDistinct-tail}
+use Rattle.std.proofs.lemmas.Map.Keys.{apart_from_distinct, IsDistinct-tail}
 use Rattle.std.proofs.lemmas.Option.{none-some, slice_get-get_or}
 use Rattle.group_terms.specs.Names.{Name}
 use Rattle.group_terms.specs.declared.phases.Phase1.{Phase1}
+use Rattle.indexmap.specs.IndexSet.{insert_key}
+use Rattle.group_model.proofs.FitLemmas.{list_any-map}
+use Rattle.group_model.proofs.SeatLemmas.{is_some-position}
 use Rattle.pull_sessions.specs.declared.sas.Sa.{Sa}
 use Rattle.pull_sessions.specs.declared.sas.Session.{Session}
-use Rattle.pull_sessions.specs.Private.Indexes.{IsIndex}
 use Rattle.pull_sessions.specs.Private.Places.{no_sa, with_session_at}
-use Rattle.pull_sessions.specs.Sessions.{AreApart, HasSession, Sessions, cookies_of, sessions_ended, has_cookies, is_of, is_taken_by, members_of, new_sa, put_session, put_sessions, sa_of, session_of, with_session}
-use Rattle.pull_sessions.proofs.IndexLemmas.{bytes_eq-is, is_some-position, position_keyed}
+use Rattle.pull_sessions.specs.Sessions.{AreApart, HasSession, Sessions, cookies_of, sessions_ended, has_cookies, is_of, is_taken_by, members_of, new_sa, put_session, put_sessions, session_of, with_session}
+use Rattle.pull_sessions.proofs.IndexLemmas.{bytes_eq-is}
 
 -- ---- what is found
 
@@ -36,7 +35,7 @@ not_found p sas none = absent sas (nowhere_any p sas none)
       | inr other ↦ cond-false (p sa) (Some sa) (find p sas) other ∙ absent sas (sym (ap (λ b. b || list_any p sas) other) ∙ none)
     ]
 
-pub found_at : (p : Sa → Bool) (sas : List Sa) (i : ℕ) → position p sas ≡ Some i → find p sas ≡ Some (get_or sas i no_sa)
+found_at : (p : Sa → Bool) (sas : List Sa) (i : ℕ) → position p sas ≡ Some i → find p sas ≡ Some (get_or sas i no_sa)
 found_at p sas i is =
     find_at p sas ∙ ap (slice_get sas) (place_is (ltb (position_or_len p sas) (length sas)) (position_or_len p sas) is)
     ∙ slice_get-get_or sas i no_sa (position-Some p sas i no_sa is).0
@@ -48,6 +47,11 @@ found_at p sas i is =
         or_zero None = 0
         or_zero (Some n) = n
     place_is false n is = absurd (none-some i is)
+
+-- what is read at its place is the SA that is found
+pub seen_at : (p : Sa → Bool) (was now : List Sa) (i : ℕ) (sa : Sa) → was ≡ now → position p now ≡ Some i → sa ≡ get_or was i sa → Some sa ≡ find p now
+seen_at p was now i sa same is seen =
+    ap Some (seen ∙ ap (λ sas. get_or sas i sa) same ∙ get_or_default now i sa no_sa (position-Some p now i no_sa is).0) ∙ sym (found_at p now i is)
 
 -- ---- whose cookies or member are taken
 
@@ -69,16 +73,15 @@ pub none_apart : AreApart []
 unfolding IsDistinct
 none_apart = record { cookies = tt; members = tt }
 
-pub none_indexed : {S : Type 0} (map : HashMap (List ℕ) ℕ S) → map.entries ≡ [] → IsIndex [] (get bytes_eq map)
-none_indexed map empty key = ap (lookup (bytes_eq key)) empty
-
-one_key_more : (key_of : Sa → List ℕ) (sas : List Sa) (sa : Sa) → IsDistinct bytes_eq (map key_of sas)
-    → list_any (λ other. bytes_eq (key_of sa) (key_of other)) sas ≡ false → IsDistinct bytes_eq (map key_of (sas ++ sa ∷ []))
-one_key_more key_of sas sa distinct none =
-    subst (IsDistinct bytes_eq) (sym (map-append key_of sas (sa ∷ [])))
-    (IsDistinct-push nat_list_eq_equiv (map key_of sas) (key_of sa) distinct
-    (sym (is_some-position (bytes_eq (key_of sa)) (map key_of sas)) ∙ ap is_some (position_keyed key_of (key_of sa) sas)
-    ∙ is_some-position (λ other. bytes_eq (key_of sa) (key_of other)) sas ∙ none))
+-- a new key goes last
+pub key_goes_last : {E : Type 0} (key_of : Sa → List ℕ) (sas : List Sa) (sa : Sa) (old new : List (List ℕ)) (result : Result Bool E)
+    → old ≡ map key_of sas → list_any (λ other. bytes_eq (key_of sa) (key_of other)) sas ≡ false → IsOk result
+    → OnOk result (new ≡ insert_key bytes_eq old (key_of sa)) → new ≡ map key_of (sas ++ sa ∷ [])
+key_goes_last key_of sas sa old new (Ok added) was none ok inserted =
+    inserted
+    ∙ ap (λ there. cond there old (old ++ key_of sa ∷ [])) (ap (list_any (bytes_eq (key_of sa))) was ∙ list_any-map (bytes_eq (key_of sa)) key_of sas ∙ none)
+    ∙ ap (λ keys. keys ++ key_of sa ∷ []) was ∙ sym (map-append key_of sas (sa ∷ []))
+key_goes_last key_of sas sa old new (Err refused) was none ok inserted = absurd (false≢true ok)
 
 -- where neither cookies nor member are taken
 pub free : (phase : Phase1) (sas : List Sa) → list_any (is_taken_by phase) sas ≡ false
@@ -88,24 +91,6 @@ free phase sas none = both (list_any (has_cookies phase.cookies) sas) (list_any 
     both : (a b : Bool) → (a || b) ≡ false → (a ≡ false) × (b ≡ false)
     both true b e = absurd (false≢true (sym e))
     both false b e = (refl, e)
-
-pub one_apart : (phase : Phase1) (sas : List Sa) → AreApart sas → list_any (is_taken_by phase) sas ≡ false → AreApart (sas ++ new_sa phase ∷ [])
-one_apart phase sas apart none =
-    let both = free phase sas none in
-    record {
-      cookies = one_key_more (λ (sa : Sa). sa.phase.cookies) sas (new_sa phase) apart.cookies both.0;
-      members = one_key_more (λ (sa : Sa). sa.phase.member) sas (new_sa phase) apart.members both.1;
-    }
-
--- a key that no SA has is at no place
-pub no_place : (key_of : Sa → List ℕ) (key : List ℕ) (sas : List Sa) → list_any (λ sa. bytes_eq key (key_of sa)) sas ≡ false
-    → position (bytes_eq key) (map key_of sas) ≡ None
-no_place key_of key sas none =
-    position_keyed key_of key sas ∙ none_from (position (λ sa. bytes_eq key (key_of sa)) sas) (is_some-position (λ sa. bytes_eq key (key_of sa)) sas ∙ none)
-  where
-    none_from : (place : Option ℕ) → is_some place ≡ false → place ≡ None
-    none_from None none = refl
-    none_from (Some i) none = absurd (false≢true (sym none))
 
 -- ---- another session
 

@@ -18,7 +18,7 @@ pub record SessionFits (session : Session) : Type 0 where
 abbrev pub IfSession : Option Session → Type 0
 IfSession session = (one : Session) → session ≡ Some one → SessionFits one
 
--- an SA has cookies and a key that can be written, and such a session, if it has one
+-- an SA has cookies and a key that can be written; and so can its session, if it has one
 pub record SaFits (sa : Sa) : Type 0 where
   pub phase : PhaseFits sa.phase
   pub session : IfSession sa.session

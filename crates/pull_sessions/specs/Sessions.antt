@@ -11,7 +11,7 @@ use Rattle.pull_sessions.specs.declared.refusals.SessionRefusal.TheVariants.{NoM
 use Rattle.pull_sessions.specs.declared.sas.Sa.{Sa}
 use Rattle.pull_sessions.specs.declared.sas.Session.{Session}
 
--- how many SAs there may be, and those that there are
+-- how many SAs there may be, and the SAs
 pub record Sessions : Type 0 where
   pub limit : ℕ
   pub sas : List Sa
@@ -108,6 +108,6 @@ abbrev pub has_queued : Option Session → Bool
 has_queued None = false
 has_queued (Some session) = is_queued session.step
 
--- whether a member has such a session
+-- whether a member has a session that awaits the next batch
 abbrev pub is_queued_of : List Sa → Name → Bool
 is_queued_of sas m = has_queued (session_of sas m)

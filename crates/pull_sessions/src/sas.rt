@@ -1,18 +1,15 @@
 //! SAs, found by their cookies and by their members.
-ghost use Rattle.std.specs.Prelude.{◌≡◌, ◌≤◌, ◌<◌, ◌∷◌, ◌++◌, [], List, ℕ, length, None, Some, OnOk, OnErr, option_copied, true, false, map, slice_set, slice_index_or, vec_len};
-ghost use Rattle.std.specs.HashMap.{get, spare};
+ghost use Rattle.std.specs.Prelude.{◌≡◌, ◌<◌, ◌∷◌, ◌++◌, [], length, None, Some, OnOk, OnErr, option_copied, false, slice_index_or, vec_len};
 ghost use Rattle.std.specs.List.{list_any, position};
-ghost use Rattle.std.specs.Str.{bytes_eq};
 ghost use Rattle.pull_sessions.specs.Fits.{AllFit, IfSession, SessionFits};
-ghost use Rattle.pull_sessions.specs.Private.Indexes.{IsIndex};
 ghost use Rattle.pull_sessions.specs.Private.Places.{no_sa, with_session_at};
 ghost use Rattle.pull_sessions.specs.Sessions.{AreApart, sessions_ended, has_cookies, is_of, is_taken_by, new_sa, put_sessions, sa_of, sa_with, session_of};
 
 use crate::answers::{Kept, Step};
 use group_terms::{MemberName, NoMemory, Octets, Phase1};
+use indexmap::IndexSet;
 use pull_msgs::{Nonce, phase_fits};
 use std::alloc::Global;
-use std::collections::HashMap;
 use std::marker::Model;
 use std::mem;
 
@@ -42,25 +39,23 @@ pub struct Session {
 #[derive(Drop)]
 pub(crate) struct Sas {
     list: Vec<Sa>,
-    by_cookies: HashMap<[u8; 16], usize>,
-    by_member: HashMap<MemberName, usize>,
+    /// The cookies of each SA, and its member, in the order of the list.
+    cookies: IndexSet<[u8; 16]>,
+    members: IndexSet<MemberName>,
 }
 
 impl Model for Sas {
-    ghost use Rattle.std.specs.Prelude.{List};
-    ghost use Rattle.std.specs.HashMap.{get};
-    ghost use Rattle.std.specs.Str.{bytes_eq};
+    ghost use Rattle.std.specs.Prelude.{◌≡◌, List};
     ghost use Rattle.pull_sessions.specs.declared.sas.Sa.{Sa};
     ghost use Rattle.pull_sessions.specs.Fits.{AllFit};
-    ghost use Rattle.pull_sessions.specs.Private.Indexes.{IsIndex};
     ghost use Rattle.pull_sessions.specs.Sessions.{AreApart, cookies_of, members_of};
 
     ghost Value = { List Sa };
 
     ghost view = { λ sas. sas.list.items };
 
-    ghost invariant = { λ sas. AreApart sas.list.items × IsIndex (cookies_of sas.list.items) (get bytes_eq sas.by_cookies)
-        × IsIndex (members_of sas.list.items) (get bytes_eq sas.by_member) × AllFit sas.list.items };
+    ghost invariant = { λ sas. AreApart sas.list.items × (sas.cookies.keys ≡ cookies_of sas.list.items)
+        × (sas.members.keys ≡ members_of sas.list.items) × AllFit sas.list.items };
 }
 
 impl Sas {
@@ -70,8 +65,8 @@ impl Sas {
     {
         Sas {
             list: Vec::new(alloc),
-            by_cookies: HashMap::new(alloc),
-            by_member: HashMap::new(alloc),
+            cookies: IndexSet::new(alloc),
+            members: IndexSet::new(alloc),
         }
     }
 
@@ -96,11 +91,10 @@ impl Sas {
     {
         phase_fits(&phase);
         self.list.reserve(1)?;
-        self.by_cookies.reserve(1)?;
-        self.by_member.reserve(1)?;
-        let place = self.list.len();
-        index_cookies(&mut self.by_cookies, phase.cookies, place);
-        index_member(&mut self.by_member, phase.member, place);
+        self.cookies.reserve(1)?;
+        self.members.reserve(1)?;
+        let _ = self.cookies.insert(phase.cookies);
+        let _ = self.members.insert(phase.member);
         self.list.push_reserved(Sa {
             phase,
             session: None,
@@ -112,20 +106,16 @@ impl Sas {
     pub(crate) fn with_cookies(&self, cookies: &[u8; 16]) -> Option<&Sa>
         ensures { option_copied result ≡ sa_with self.now cookies.now }
     {
-        match self.place_with(cookies) {
-            Some(place) => Some(&self.list[place]),
-            None => None,
-        }
+        let place = self.place_with(cookies)?;
+        Some(&self.list[place])
     }
 
     /// The SA of a member.
     pub(crate) fn of(&self, member: &MemberName) -> Option<&Sa>
         ensures { option_copied result ≡ sa_of self.now member.now }
     {
-        match self.place_of(member) {
-            Some(place) => Some(&self.list[place]),
-            None => None,
-        }
+        let place = self.place_of(member)?;
+        Some(&self.list[place])
     }
 
     /// Gives the SA of a member this session.
@@ -177,14 +167,14 @@ impl Sas {
     fn place_with(&self, cookies: &[u8; 16]) -> Option<usize>
         ensures { result ≡ position (has_cookies cookies.now) self.now }
     {
-        self.by_cookies.get(cookies).copied()
+        self.cookies.get_index_of(cookies)
     }
 
     /// The place of the SA of a member.
     fn place_of(&self, member: &MemberName) -> Option<usize>
         ensures { result ≡ position (is_of member.now) self.now }
     {
-        self.by_member.get(member).copied()
+        self.members.get_index_of(member)
     }
 }
 
@@ -205,22 +195,4 @@ fn end_all(sas: &mut Vec<Sa>)
     for place in 0..sas.len() {
         replace_at(sas, place, None);
     }
-}
-
-/// Notes the place of an SA, whose cookies are those of none before it.
-fn index_cookies(places: &mut HashMap<[u8; 16], usize>, cookies: [u8; 16], place: usize)
-    requires { 0 < spare places.old }
-    ensures { (keys : List (List ℕ)) → IsIndex keys (get bytes_eq places.old) → length keys ≡ place → position (bytes_eq cookies) keys ≡ None →
-        IsIndex (keys ++ cookies ∷ []) (get bytes_eq places.new) }
-{
-    let _ = places.insert(cookies, place);
-}
-
-/// Notes the place of an SA, whose member is that of none before it.
-fn index_member(places: &mut HashMap<MemberName, usize>, member: MemberName, place: usize)
-    requires { 0 < spare places.old }
-    ensures { (keys : List (List ℕ)) → IsIndex keys (get bytes_eq places.old) → length keys ≡ place → position (bytes_eq member) keys ≡ None →
-        IsIndex (keys ++ member ∷ []) (get bytes_eq places.new) }
-{
-    let _ = places.insert(member, place);
 }

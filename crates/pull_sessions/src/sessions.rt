@@ -144,7 +144,7 @@ impl Sessions {
         write_fourth(alloc, &sa.phase, message, &third.next_iv, ni, nr, keyed)
     }
 
-    /// The third message of a session that awaits the next batch; `None` exactly where the member has no such session. It takes no memory.
+    /// The third message of a session that awaits the next batch; `None` exactly where no session of the member awaits it. It takes no memory.
     pub fn held_third(&self, member: &MemberName) -> Option<Third>
         ensures { result ≡ third_of self.now.sas member.now }
     {

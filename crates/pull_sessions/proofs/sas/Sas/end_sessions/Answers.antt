@@ -1,6 +1,4 @@
 use Rattle.std.proofs.Common.{◌∙◌, ap, subst, sym}
-use Rattle.std.specs.List.{position}
-use Rattle.std.specs.Str.{bytes_eq}
 use Rattle.pull_sessions.proofs.FitLemmas.{ended_fit}
 use Rattle.pull_sessions.proofs.SaLemmas.{cookies_ended, members_ended, same_apart}
 use Rattle.pull_sessions.specs.Fits.{AllFit}
@@ -13,7 +11,7 @@ invariant_of-self c =
     let cookies = ap cookies_of c.end_all.ensures ∙ cookies_ended sas in
     let members = ap members_of c.end_all.ensures ∙ members_ended sas in (
       same_apart sas c.end_all.new.sas.items cookies members c.self.invariant.0,
-      λ key. c.self.invariant.1 key ∙ ap (position (bytes_eq key)) (sym cookies),
-      λ key. c.self.invariant.2 key ∙ ap (position (bytes_eq key)) (sym members),
+      c.self.invariant.1 ∙ sym cookies,
+      c.self.invariant.2 ∙ sym members,
       subst AllFit (sym c.end_all.ensures) (ended_fit sas c.self.invariant.3),
     )

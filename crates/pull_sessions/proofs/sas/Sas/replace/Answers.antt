@@ -1,6 +1,5 @@
 use Rattle.std.proofs.Common.{◌≡◌, ◌∙◌, Some, ap, subst, sym}
 use Rattle.std.specs.List.{position}
-use Rattle.std.specs.Str.{bytes_eq}
 use Rattle.pull_sessions.specs.Fits.{AllFit}
 use Rattle.pull_sessions.specs.Sessions.{cookies_of, is_of, members_of, put_sessions, session_of}
 use Rattle.pull_sessions.proofs.FitLemmas.{no_session, put_fits, session_fits}
@@ -13,8 +12,8 @@ invariant_of-self c =
     let cookies = ap cookies_of c.replace_at.ensures.has ∙ cookies_at sas c.in-Some.place c.args.session in
     let members = ap members_of c.replace_at.ensures.has ∙ members_at sas c.in-Some.place c.args.session in (
       same_apart sas c.replace_at.new.sas.items cookies members c.self.invariant.0,
-      λ key. c.self.invariant.1 key ∙ ap (position (bytes_eq key)) (sym cookies),
-      λ key. c.self.invariant.2 key ∙ ap (position (bytes_eq key)) (sym members),
+      c.self.invariant.1 ∙ sym cookies,
+      c.self.invariant.2 ∙ sym members,
       subst AllFit (sym c.replace_at.ensures.has) (put_fits sas c.in-Some.place c.args.session c.self.invariant.3 c.requires),
     )
 
