@@ -78,7 +78,7 @@ held_by_same before None some same = absurd (false≢true some)
 held_by_same None (Some m) some same = absurd (false≢true same)
 held_by_same (Some n) (Some m) some same = refl
 
--- where no leaf below a position changes hands, and somebody stands below it after that, somebody did before
+-- where no leaf below a position changes, and a member has one of them after that, a member had one before
 held_stays : (depth first v : ℕ) (before after : Holders) → length before ≡ length after → below_any depth first (changed_leaves before after) v ≡ false
     → below_any depth first (map is_some after) v ≡ true → below_any depth first (map is_some before) v ≡ true
 held_stays depth first v [] [] long none some = some
@@ -128,7 +128,7 @@ slice_get-more [] more k made is = absurd (cc is)
 slice_get-more (first ∷ list) more zero made is = is
 slice_get-more (first ∷ list) more (suc k) made is = slice_get-more list more k made is
 
-node_value-more : (list more : List Made) (v epoch : ℕ) (value : NodeValue) → node_value list v epoch ≡ Some value → node_value (list ++ more) v epoch ≡ Some value
+pub node_value-more : (list more : List Made) (v epoch : ℕ) (value : NodeValue) → node_value list v epoch ≡ Some value → node_value (list ++ more) v epoch ≡ Some value
 node_value-more list more v zero value is = absurd (cc is)
 node_value-more list more v (suc k) value is = at (slice_get list k) refl is
   where

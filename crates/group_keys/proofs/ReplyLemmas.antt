@@ -37,7 +37,7 @@ halved-suc : (n x : ℕ) → halved (suc n) x ≡ halved n x / 2
 halved-suc zero x = refl
 halved-suc (suc n) x = halved-suc n (x / 2)
 
--- somebody stands below each position at or above its leaf
+-- a member is below each position at or above its leaf
 held_marked : (depth first v : ℕ) (holders : Holders) (i : ℕ) (m : Name) → is_held_by m (get_or holders i None) ≡ true → is_below depth v (first + i) ≡ true
     → below_any depth first (map is_some holders) v ≡ true
 held_marked depth first v [] i m held below = absurd (false≢true held)
@@ -49,12 +49,12 @@ held_marked depth first v (holder ∷ holders) (suc i) m held below =
     or_right (is_some holder && is_below depth v first) (below_any depth (first + 1) (map is_some holders) v)
     (held_marked depth (first + 1) v holders i m held (ap (is_below depth v) (omega arith) ∙ below))
 
--- so many steps up from x is above it
+-- the position n steps up from x is above it
 halved_below : (n x : ℕ) → is_below n (halved n x) x ≡ true
 halved_below zero x = eq-eqb x x refl
 halved_below (suc n) x = or_right (eqb x (halved n (x / 2))) (is_below n (halved n (x / 2)) (x / 2)) (halved_below n (x / 2))
 
--- what is found above in so many steps is found in more
+-- what is found above in n steps is found in more
 below_later : (n v x : ℕ) → is_below n v x ≡ true → is_below (suc n) v x ≡ true
 below_later zero v x h = or_left (eqb x v) (is_below zero v (x / 2)) h
 below_later (suc n) v x h = elim (or_cases (eqb x v) (is_below n v (x / 2)) h) [

@@ -18,7 +18,7 @@ AreDrawnFrom depth before (made ∷ list) =
 abbrev pub AreDrawn : ℕ → List Made → Type 0
 AreDrawn depth list = AreDrawnFrom depth [] list
 
--- the root after some batch, and each position below which a member stands
+-- the root after some batch, and each position below which a member has a leaf
 abbrev pub IsInUse : ℕ → List Made → ℕ → Type 0
 IsInUse depth list v = ((v ≡ 1) × (0 < length list)) ⊎ (is_held_below depth (holders_of depth (batches_made list)) v ≡ true)
 

@@ -49,7 +49,7 @@ pub fn keyed(
 }
 
 /// What a member is told of the epoch that a batch makes, found out before the tree takes the step (RFC 6407 section 3.2). It is the member that has this
-/// leaf then, and the values are those that the batch drew. It takes no memory.
+/// leaf then, and the batch drew the values. It takes no memory.
 pub fn keyed_after(
     tree: &PresentTree,
     step: &TreeStep,
