@@ -42,7 +42,7 @@ pub record IsKnown (depth : ℕ) (list : List Made) (wrap : Wrap) : Type 0 where
 abbrev below_any : ℕ → ℕ → List Bool → ℕ → Bool
 below_any depth first passes v = list_any (λ leaf. leaf.1 && is_below depth v leaf.0) (enumerate_from first passes)
 
--- below a position where somebody stayed a member stands
+-- below a position where somebody stayed a member has a leaf
 kept_held : (depth first v : ℕ) (before after : Holders) → below_any depth first (kept_leaves before after) v ≡ true → below_any depth first (map is_some after) v ≡ true
 kept_held depth first v before [] some = some
 kept_held depth first v before (None ∷ after) some = kept_held depth (first + 1) v before after some

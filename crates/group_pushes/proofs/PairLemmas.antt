@@ -1,6 +1,6 @@
 -- What is written for a batch is the pair of its list.
 use Rattle.std.proofs.Common.{◌≡◌, ℕ, zero, suc, ◌+◌, ◌-◌, ◌^◌, ◌<◌, true, false, cond, MatchBool, List, [], ◌∷◌, ◌++◌, Option, None, Some, length, get_or, replicate, take, refl, sym, ap, subst, ◌∙◌, arith, inl, inr, length-append}
-use Rattle.std.specs.Prelude.{slice_get, option_and_then}
+use Rattle.std.specs.Prelude.{slice_get}
 use Rattle.std.specs.List.{All, AllWithin, list_any}
 use Rattle.std.specs.Option.{option_map, unwrap_or}
 use Rattle.std.proofs.lemmas.Bool.{cases_Bool, false≢true}
@@ -16,7 +16,7 @@ use Rattle.group_terms.specs.declared.keys.Wrap.{Wrap}
 use Rattle.group_terms.specs.declared.paths.PathKey.{PathKey}
 use Rattle.group_terms.specs.declared.values.BatchValues.{BatchValues}
 use Rattle.group_terms.specs.declared.values.NodeValue.{NodeValue}
-use Rattle.group_values.specs.Values.{HasValue, Kept, KeepsLast, Made, Rises, batches_made, ids_of, last_value, node_value, traffic_value, value_of}
+use Rattle.group_values.specs.Values.{HasValue, Kept, KeepsLast, Made, Rises, batches_made, ids_of, last_value, node_value, traffic_value}
 use Rattle.group_model.specs.Fresh.{last_change, node_name}
 use Rattle.group_model.specs.Laws.{EachLeafHasItsPlace}
 use Rattle.group_model.specs.Places.{Holders, holders_at, is_held_by, no_holders}
@@ -32,6 +32,7 @@ use Rattle.push_msg.specs.Texts.{IsPushText, membership_push, traffic_push}
 use Rattle.push_msg.specs.Written.{KindFits}
 use Rattle.group_pushes.specs.Pairs.{AreJobsOf, IsJobOf, IsPairIfStayed, IsPairOf}
 use Rattle.group_pushes.specs.Private.Jobs.{AreArraysAfter, AreJobsAfter, IsJobAfter, IsKeyAfter, IsLastValue}
+use Rattle.group_keys.proofs.LastLemmas.{node_value-more, slice_get-end}
 use Rattle.group_pushes.proofs.DrawnLemmas.{drawn_before, drawn_rise}
 use Rattle.group_pushes.proofs.KnownLemmas.{IsKnown, LastValuesAreDrawn, MarksAreThoseOfChildren, all_known, fresh_name}
 
@@ -81,24 +82,6 @@ module _ (depth : ℕ) (list : List Made) (changes : List Change) (values : Batc
   are_jobs (wrap ∷ wraps) [] known is = absurd is
   are_jobs (wrap ∷ wraps) (job ∷ jobs) known is =
       (is_job wrap job (known 0 wrap (omega arith)) is.0, are_jobs wraps jobs (λ k d low. known (suc k) d (omega (arith, low))) is.1)
-
-slice_get-end : (list : List Made) (made : Made) → slice_get (list ++ made ∷ []) (length list) ≡ Some made
-slice_get-end [] made = refl
-slice_get-end (first ∷ list) made = slice_get-end list made
-
-slice_get-more : (list more : List Made) (k : ℕ) (made : Made) → slice_get list k ≡ Some made → slice_get (list ++ more) k ≡ Some made
-slice_get-more [] more k made is = absurd (cc is)
-slice_get-more (first ∷ list) more zero made is = is
-slice_get-more (first ∷ list) more (suc k) made is = slice_get-more list more k made is
-
-node_value-more : (list more : List Made) (v epoch : ℕ) (value : NodeValue) → node_value list v epoch ≡ Some value → node_value (list ++ more) v epoch ≡ Some value
-node_value-more list more v zero value is = absurd (cc is)
-node_value-more list more v (suc k) value is = at (slice_get list k) refl is
-  where
-    at : (made : Option Made) → slice_get list k ≡ made → option_and_then (λ (made : Made). value_of made.values.nodes v) made ≡ Some value
-        → node_value (list ++ more) v (suc k) ≡ Some value
-    at None found is = absurd (cc is)
-    at (Some made) found is = ap (option_and_then (λ (made : Made). value_of made.values.nodes v)) (slice_get-more list more k made found) ∙ is
 
 traffic_value-end : (list : List Made) (made : Made) → traffic_value (list ++ made ∷ []) (suc (length list)) ≡ Some made.values.traffic
 traffic_value-end list made = ap (option_map (λ (made : Made). made.values.traffic)) (slice_get-end list made)
