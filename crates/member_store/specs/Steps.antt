@@ -106,7 +106,7 @@ abbrev pub room_after : Result PushRead PushRefusal → List ℕ
 room_after (Ok read) = read.keys
 room_after (Err why) = []
 
--- Datagrams are given one after the other: each is the next one of those that are due, or it is refused. At the end none is due any more.
+-- Datagrams are given one after the other: each is the next due one, or it is refused. At the end none is due any more.
 abbrev pub AreDueAcceptances : {V : Type 0} → VerifierGhosts V → V → Store → List (List ℕ) → List (List ℕ) → Store → Type 0
 AreDueAcceptances v verifier store due [] after = (due ≡ []) × (after ≡ store)
 AreDueAcceptances v verifier store due (datagram ∷ datagrams) after =

@@ -18,7 +18,7 @@ pub record Store : Type 0 where
 
 -- ---- the keys of a path
 
--- what stands for a key where there is none; a path has two at least
+-- the default key of a look-up in a path, which is never met: a path has at least two keys
 abbrev pub no_key : PathKey
 no_key = record { id = 0; made = 0; value = record { iv = []; key = [] } }
 

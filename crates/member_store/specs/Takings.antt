@@ -43,7 +43,7 @@ pub record TakesNext (path taken : List PathKey) (given : List SealedKey) (key :
   pub seals : sealer_of path taken first ≡ Some by
   pub unsealed : IsUnsealed by first key
 
--- after these keys those are taken, one after the other, until none can be
+-- after the keys taken so far these are taken, one after the other, until none can be
 abbrev pub TakesAfter : List PathKey → List SealedKey → List PathKey → List PathKey → Type 0
 TakesAfter path given taken [] = find (can_take path taken) given ≡ None
 TakesAfter path given taken (key ∷ keys) = TakesNext path taken given key × TakesAfter path given (taken ++ key ∷ []) keys

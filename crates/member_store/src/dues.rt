@@ -1,4 +1,4 @@
-//! The keys of a push that are for a path.
+//! Candidate keys: the keys of a push that are for a path.
 ghost use Rattle.std.specs.Prelude.{◌≡◌, ◌∷◌, ◌++◌, [], IfSome, true};
 ghost use Rattle.std.specs.List.{filter};
 ghost use Rattle.member_store.specs.Private.Dues.{is_due};
@@ -75,7 +75,7 @@ pub(crate) fn dues(path: &[PathKey], arrays: Updates<'_>) -> Option<ArrayVec<Due
     Some(due)
 }
 
-/// Adds those of these keys that are for a path; whether there was room for them.
+/// Adds the keys that are for a path; whether there was room for them.
 fn add_dues(path: &[PathKey], keys: SealedKeys<'_>, due: &mut ArrayVec<Due, MOST_DUE>) -> bool
     ensures { result ≡ true → due.new.items ≡ due.old.items ++ filter (is_due path.now) keys.entry }
 {

@@ -1,4 +1,4 @@
-//! Which keys a member takes from a membership push.
+//! Unwrapping: which keys a member takes from a membership push.
 ghost use Rattle.std.specs.Prelude.{◌≡◌, ◌≤◌, length, IfSome, IfNone, None, Some, is_some};
 ghost use Rattle.std.specs.List.{find};
 ghost use Rattle.gd_cipher.specs.Chains.{IsOpened};
@@ -28,8 +28,8 @@ pub(crate) fn new_path(path: &Path, span: &UpdateSpan, body: &[u8]) -> Option<Pa
     Some(with_keys(path, taken.as_slice()))
 }
 
-/// The keys that are taken of those of a span. Those for the path are gathered first, so that the arrays are read once; only where there is
-/// no room for them are they read anew for each key.
+/// The keys of a span that are taken. The candidates for the path are gathered first, so that the arrays are read once; only where there is
+/// no room for them are the arrays read anew for each key.
 fn keys_taken(path: &[PathKey], span: &UpdateSpan, body: &[u8]) -> ArrayVec<PathKey, LONGEST_PATH>
     requires { length path.now ≤ LONGEST_PATH }
     ensures { Takes path.now (keys_given (span_arrays span.now body.now)) result.items }

@@ -1,4 +1,4 @@
--- The keys of a push that are for a path.
+-- Candidate keys: the keys of a push that are for a path.
 use Rattle.std.specs.Prelude.{Bool, List}
 use Rattle.group_terms.specs.declared.paths.PathKey.{PathKey}
 use Rattle.kd_wire.specs.declared.updates.SealedKey.{SealedKey}
