@@ -1,4 +1,4 @@
-pub mod IndexLemmas
+pub mod NameLemmas
 pub mod NotedLemmas
 pub mod PeerLemmas
 pub mod StepLemmas

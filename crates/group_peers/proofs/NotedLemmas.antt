@@ -8,7 +8,7 @@ use Rattle.group_terms.specs.Names.{Name, same_name}
 use Rattle.group_terms.specs.declared.phases.Phase1.{Phase1}
 use Rattle.group_peers.specs.declared.members.Peer.{Peer}
 use Rattle.group_peers.specs.Peers.{is_named, is_peer, new_peer, store_of, with_peer}
-use Rattle.group_peers.proofs.IndexLemmas.{same_name-self}
+use Rattle.group_peers.proofs.NameLemmas.{same_name-self}
 
 any_more : (p : Peer → Bool) (peers : List Peer) (peer : Peer) → list_any p (peers ++ peer ∷ []) ≡ (p peer || list_any p peers)
 any_more p [] peer = refl

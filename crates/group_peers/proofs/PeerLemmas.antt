@@ -1,20 +1,20 @@
 -- Peers at their places, and by their names.
-use Rattle.std.proofs.Common.{◌≡◌, ℕ, zero, suc, ◌<◌, Bool, true, false, ltb, ◌||◌, List, [], ◌∷◌, ◌++◌, Option, None, Some, cond, length, get_or, set, refl, sym, ap, ◌∙◌, subst, arith, inl, inr}
-use Rattle.std.specs.Prelude.{is_some, slice_get}
+use Rattle.std.proofs.Common.{◌≡◌, ℕ, zero, suc, ◌<◌, Bool, true, false, ltb, ◌||◌, List, [], ◌∷◌, ◌++◌, Option, None, Some, Result, Ok, Err, IsOk, OnOk, cond, length, get_or, set, refl, sym, ap, ◌∙◌, subst, arith, inl, inr}
+use Rattle.std.specs.Prelude.{slice_get}
 use Rattle.std.specs.List.{IsDistinct, find, list_any, position, position_or_len}
-use Rattle.std.specs.Cmp.Lexicographic.{nat_list_eq_equiv}
 use Rattle.std.proofs.lemmas.Bool.{cases_Bool, false≢true, cond-true, cond-false}
 use Rattle.std.proofs.lemmas.List.{length-map, map-append}
 use Rattle.std.proofs.lemmas.List.Folds.{find_at}
 use Rattle.std.proofs.lemmas.List.Quantifiers.{position-Some}
-use Rattle.std.proofs.lemmas.Map.Keys.{IsDistinct-push, apart_from_distinct, IsDistinct-tail}
+use Rattle.std.proofs.lemmas.Map.Keys.{apart_from_distinct, IsDistinct-tail}
 use Rattle.std.proofs.lemmas.Option.{none-some, slice_get-get_or}
 use Rattle.group_terms.specs.Names.{Name, same_name}
+use Rattle.indexmap.specs.IndexSet.{insert_key}
 use Rattle.group_terms.specs.declared.phases.Phase1.{Phase1}
 use Rattle.group_peers.specs.declared.members.Peer.{Peer}
 use Rattle.group_peers.specs.Peers.{AreOnce, changed, is_named, is_peer, names_of, peer_of, put}
 use Rattle.group_peers.specs.Private.Places.{no_peer}
-use Rattle.group_peers.proofs.IndexLemmas.{is_some-position, position_named, same_name-is, same_name-self}
+use Rattle.group_peers.proofs.NameLemmas.{any_named, same_name-is, same_name-self}
 
 -- ---- one peer more
 
@@ -22,32 +22,26 @@ pub nobody_once : AreOnce []
 unfolding IsDistinct
 nobody_once = tt
 
-pub once_more : (peers : List Peer) (peer : Peer) → AreOnce peers → position (is_named peer.phase.member) peers ≡ None → AreOnce (peers ++ peer ∷ [])
-once_more peers peer once none =
-    subst (IsDistinct same_name) (sym (map-append (λ (peer : Peer). peer.phase.member) peers (peer ∷ [])))
-    (IsDistinct-push nat_list_eq_equiv (names_of peers) peer.phase.member once
-    (sym (is_some-position (same_name peer.phase.member) (names_of peers)) ∙ ap is_some (position_named peer.phase.member peers ∙ none)))
-
--- who is no peer has no place
-pub no_place : (peers : List Peer) (name : Name) → is_peer peers name ≡ false → position (is_named name) peers ≡ None
-no_place peers name none = none_from (position (is_named name) peers) (is_some-position (is_named name) peers ∙ none)
-  where
-    none_from : (place : Option ℕ) → is_some place ≡ false → place ≡ None
-    none_from None none = refl
-    none_from (Some i) none = absurd (false≢true (sym none))
+-- the name of one more goes last
+pub name_goes_last : {E : Type 0} (peers : List Peer) (peer : Peer) (old new : List Name) (result : Result Bool E) → old ≡ names_of peers
+    → is_peer peers peer.phase.member ≡ false → IsOk result → OnOk result (new ≡ insert_key same_name old peer.phase.member)
+    → new ≡ names_of (peers ++ peer ∷ [])
+name_goes_last peers peer old new (Ok added) was none ok inserted =
+    inserted
+    ∙ ap (λ there. cond there old (old ++ peer.phase.member ∷ []))
+    (ap (list_any (same_name peer.phase.member)) was ∙ any_named peer.phase.member peers ∙ none)
+    ∙ ap (λ names. names ++ peer.phase.member ∷ []) was ∙ sym (map-append (λ (peer : Peer). peer.phase.member) peers (peer ∷ []))
+name_goes_last peers peer old new (Err refused) was none ok inserted = absurd (false≢true ok)
 
 -- ---- the peer of a name
 
-pub nowhere : (peers : List Peer) (name : Name) → position (is_named name) peers ≡ None → peer_of peers name ≡ None
-nowhere peers name none = find_none peers (sym (is_some-position (is_named name) peers) ∙ ap is_some none)
-  where
-    find_none : (peers : List Peer) → list_any (is_named name) peers ≡ false → find (is_named name) peers ≡ None
-    find_none [] none = refl
-    find_none (peer ∷ peers) none = elim (cases_Bool (is_named name peer)) [
-      | inl here ↦ absurd (false≢true (sym none ∙ ap (λ b. b || list_any (is_named name) peers) here))
-      | inr other ↦ cond-false (is_named name peer) (Some peer) (find (is_named name) peers) other
-          ∙ find_none peers (sym (ap (λ b. b || list_any (is_named name) peers) other) ∙ none)
-    ]
+pub nobody : (peers : List Peer) (name : Name) → is_peer peers name ≡ false → peer_of peers name ≡ None
+nobody [] name none = refl
+nobody (peer ∷ peers) name none = elim (cases_Bool (is_named name peer)) [
+  | inl here ↦ absurd (false≢true (sym none ∙ ap (λ b. b || list_any (is_named name) peers) here))
+  | inr other ↦ cond-false (is_named name peer) (Some peer) (find (is_named name) peers) other
+      ∙ nobody peers name (sym (ap (λ b. b || list_any (is_named name) peers) other) ∙ none)
+]
 
 -- what is found by a name is at its place
 pub found_at : (peers : List Peer) (name : Name) (i : ℕ) → position (is_named name) peers ≡ Some i → peer_of peers name ≡ Some (get_or peers i no_peer)

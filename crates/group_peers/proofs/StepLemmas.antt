@@ -1,6 +1,6 @@
 -- What becomes of the peer at the place of a name.
-use Rattle.std.proofs.Common.{◌≡◌, ℕ, false, List, Option, None, Some, Result, Ok, Err, IsTrue, get_or, set, refl, sym, ap, ◌∙◌, subst}
-use Rattle.std.specs.Prelude.{is_some, option_and_then, IsSome, OnErr, OnOk}
+use Rattle.std.proofs.Common.{◌≡◌, ℕ, false, List, Option, None, Some, Result, Ok, Err, get_or, set, refl, sym, ap, ◌∙◌, subst}
+use Rattle.std.specs.Prelude.{is_some, option_and_then, OnErr, OnOk}
 use Rattle.std.specs.List.{IsDistinct, position}
 use Rattle.std.proofs.lemmas.List.{get_or_default}
 use Rattle.std.proofs.lemmas.List.Quantifiers.{position-Some}
@@ -16,20 +16,17 @@ use Rattle.group_peers.specs.declared.members.Peer.{Peer}
 use Rattle.group_peers.specs.declared.pulled.Pulled.{Pulled}
 use Rattle.group_peers.specs.declared.pulled.Pulled.TheVariants.{Ignored, Sends, Told}
 use Rattle.group_peers.specs.Peers.{AreOnce, changed, is_named, is_peer, names_of, peer_of, store_of}
-use Rattle.group_peers.specs.declared.indexes.NameIndex.{NameIndex}
-use Rattle.group_peers.specs.Private.Indexes.{IsIndexOf}
 use Rattle.group_peers.specs.Private.Places.{BeginsAt, GivesAt, IsGivenTo, KeepsAt, TakesAt, no_peer, store_at, with_store_at}
 use Rattle.group_peers.specs.Pulls.{Begins, Takes, TakesDatagram}
 use Rattle.group_peers.specs.Steps.{IsGiven, IsKeeping, IsLeft, Keeps}
-use Rattle.group_peers.proofs.IndexLemmas.{is_some-position}
-use Rattle.group_peers.proofs.PeerLemmas.{changed_there, found_at, names_stay, nowhere, put_there, same_there}
+use Rattle.group_peers.proofs.PeerLemmas.{changed_there, found_at, names_stay, nobody, put_there, same_there}
 
 -- the store of a name
 store_there : (peers : List Peer) (name : Name) (i : ℕ) → position (is_named name) peers ≡ Some i → store_of peers name ≡ store_at peers i
 store_there peers name i is = ap (option_and_then (λ (peer : Peer). peer.store)) (found_at peers name i is)
 
-pub no_store : (peers : List Peer) (name : Name) → position (is_named name) peers ≡ None → store_of peers name ≡ None
-no_store peers name none = ap (option_and_then (λ (peer : Peer). peer.store)) (nowhere peers name none)
+pub no_store : (peers : List Peer) (name : Name) → is_peer peers name ≡ false → store_of peers name ≡ None
+no_store peers name none = ap (option_and_then (λ (peer : Peer). peer.store)) (nobody peers name none)
 
 -- the peer of a name is changed
 pub changed_named : (change : Peer → Peer) (peers : List Peer) (name : Name) (i : ℕ) → AreOnce peers → position (is_named name) peers ≡ Some i
@@ -115,19 +112,15 @@ module _ {V : Type 0} (v : VerifierGhosts V) (verifier : V) (peers : List Peer) 
       → IsLeft v verifier (store_at peers i) datagram old new → IsLeft v verifier (store_of peers name) datagram old new
   left_named i old new is left = subst (λ kept. IsLeft v verifier kept datagram old new) (sym (store_there peers name i is)) left
 
-  pub left_nobody : (old new : List ℕ) → position (is_named name) peers ≡ None → new ≡ old → IsLeft v verifier (store_of peers name) datagram old new
+  pub left_nobody : (old new : List ℕ) → is_peer peers name ≡ false → new ≡ old → IsLeft v verifier (store_of peers name) datagram old new
   left_nobody old new none same = subst (λ kept. IsLeft v verifier kept datagram old new) (sym (no_store peers name none)) same
 
--- the place of somebody who is a peer
-pub some_place : (peers : List Peer) (name : Name) (place : Option ℕ) → place ≡ position (is_named name) peers → IsTrue (is_peer peers name) → IsSome place
-some_place peers name place is peer = ap is_some is ∙ is_some-position (is_named name) peers ∙ peer
-
 -- the names stay, and so does all that is known of them
-pub invariant_stays : (peers next : List Peer) (i : ℕ) (after : Peer) (index : NameIndex) → next ≡ set peers i after
+pub invariant_stays : (peers next : List Peer) (i : ℕ) (after : Peer) (names : List Name) → next ≡ set peers i after
     → after.phase ≡ (get_or peers i no_peer).phase
-    → AreOnce peers × IsIndexOf (names_of peers) index → AreOnce next × IsIndexOf (names_of next) index
-invariant_stays peers next i after index is same was =
-    subst (λ names. IsDistinct same_name names × IsIndexOf names index) (sym (ap names_of is ∙ names_stay peers i after same)) was
+    → AreOnce peers × (names ≡ names_of peers) → AreOnce next × (names ≡ names_of next)
+invariant_stays peers next i after names is same was =
+    subst (λ now. IsDistinct same_name now × (names ≡ now)) (sym (ap names_of is ∙ names_stay peers i after same)) was
 
 -- what is read at the place of a name is its peer
 pub seen_there : (was now : List Peer) (name : Name) (i : ℕ) (peer default : Peer) → was ≡ now → position (is_named name) now ≡ Some i
@@ -137,19 +130,16 @@ seen_there was now name i peer default items is seen =
     found_at now name i is ∙ ap Some (sym (seen ∙ ap (λ peers. get_or peers i default) items ∙ get_or_default now i default no_peer found.0))
 
 -- so it is after a pull that was begun, or could not be
-pub begun_stays : (message ni group : List ℕ) (peers next : List Peer) (i : ℕ) (index : NameIndex) (result : Result (Unit {0}) NoMemory)
+pub begun_stays : (message ni group : List ℕ) (peers next : List Peer) (i : ℕ) (names : List Name) (result : Result (Unit {0}) NoMemory)
     → OnOk result (BeginsAt message ni group peers i next) → OnErr result (next ≡ peers)
-    → AreOnce peers × IsIndexOf (names_of peers) index → AreOnce next × IsIndexOf (names_of next) index
-begun_stays message ni group peers next i index (Ok done) ok err was =
-    invariant_stays peers next i ok.after index ok.is (ap (λ (peer : Peer). peer.phase) ok.begun.now) was
-begun_stays message ni group peers next i index (Err short) ok err was =
-    subst (λ peers. AreOnce peers × IsIndexOf (names_of peers) index) (sym err) was
+    → AreOnce peers × (names ≡ names_of peers) → AreOnce next × (names ≡ names_of next)
+begun_stays message ni group peers next i names (Ok done) ok err was =
+    invariant_stays peers next i ok.after names ok.is (ap (λ (peer : Peer). peer.phase) ok.begun.now) was
+begun_stays message ni group peers next i names (Err short) ok err was =
+    subst (λ peers. AreOnce peers × (names ≡ names_of peers)) (sym err) was
 
 -- without a place there is no peer
-pub nobody_there : (peers : List Peer) (name : Name) (place : Option ℕ) → place ≡ position (is_named name) peers → ((i : ℕ) → place ≡ Some i → ⊥)
+pub nobody_there : (peers : List Peer) (name : Name) (place : Option ℕ) → is_some place ≡ is_peer peers name → ((i : ℕ) → place ≡ Some i → ⊥)
     → is_peer peers name ≡ false
-nobody_there peers name place is none = sym (is_some-position (is_named name) peers) ∙ ap is_some (sym is) ∙ nothing place none
-  where
-    nothing : (place : Option ℕ) → ((i : ℕ) → place ≡ Some i → ⊥) → is_some place ≡ false
-    nothing None none = refl
-    nothing (Some i) none = absurd (none i refl)
+nobody_there peers name None found none = sym found
+nobody_there peers name (Some i) found none = absurd (none i refl)

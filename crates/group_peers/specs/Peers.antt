@@ -26,7 +26,7 @@ is_peer peers name = list_any (is_named name) peers
 abbrev pub peer_of : List Peer → Name → Option Peer
 peer_of peers name = find (is_named name) peers
 
--- the store of the peer of this name; none where there is no such peer, or where it was not told its keys
+-- the store of the peer of this name; none where nobody has the name, or where it was not told its keys
 abbrev pub store_of : List Peer → Name → Option Store
 store_of peers name = option_and_then (λ (peer : Peer). peer.store) (peer_of peers name)
 
@@ -34,7 +34,7 @@ store_of peers name = option_and_then (λ (peer : Peer). peer.store) (peer_of pe
 abbrev pub sent_by : List Peer → Name → Option (List ℕ)
 sent_by peers name = option_and_then (λ (peer : Peer). peer.sent) (peer_of peers name)
 
--- its phase 1 SA; none where there is no such peer
+-- its phase 1 SA; none where nobody has the name
 abbrev pub phase_of : List Peer → Name → Option Phase1
 phase_of peers name = option_map (λ (peer : Peer). peer.phase) (peer_of peers name)
 
@@ -58,7 +58,7 @@ with_peer peers phase = peers ++ new_peer phase ∷ []
 abbrev pub put : List Peer → Peer → List Peer
 put peers peer = map (λ (other : Peer). if is_named peer.phase.member other then peer else other) peers
 
--- with the peer of this name changed so
+-- with the peer of this name changed
 abbrev pub changed : (Peer → Peer) → List Peer → Name → List Peer
 changed change peers name = map (λ (peer : Peer). if is_named name peer then change peer else peer) peers
 

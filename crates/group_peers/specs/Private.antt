@@ -1,4 +1,3 @@
 -- Definitions that only private contracts cite.
-pub mod Indexes
 pub mod Places
 pub mod Told

@@ -6,7 +6,6 @@ pub use members::Peer;
 pub use peers::Peers;
 pub use pulled::Pulled;
 
-mod indexes;
 mod laws;
 mod members;
 mod peers;

@@ -1,5 +1,5 @@
 //! The members of a run.
-ghost use Rattle.std.specs.Prelude.{◌≡◌, ◌+◌, ◌<◌, ◌≤◌, [], false, length, option_copied, slice_index_or, IsTrue, Ok, OnOk, OnErr};
+ghost use Rattle.std.specs.Prelude.{◌≡◌, ◌+◌, ◌<◌, ◌≤◌, [], false, is_some, length, option_copied, slice_index_or, IsTrue, Ok, OnOk, OnErr};
 ghost use Rattle.member_store.specs.Stores.{IsReply};
 ghost use Rattle.std.specs.List.{position};
 ghost use Rattle.group_peers.specs.Peers.{AreOnce, introduced, is_named, is_peer, loses, names_of, phase_of, sent_by, store_of, was_introduced, with_loss, with_peer};
@@ -7,12 +7,12 @@ ghost use Rattle.group_peers.specs.Pulls.{Begins, Takes};
 ghost use Rattle.group_peers.specs.declared.pulled.Pulled.TheVariants.{Ignored};
 ghost use Rattle.group_peers.specs.Steps.{IsGiven, IsLeft, Keeps};
 
-use crate::indexes::NameIndex;
 use crate::members::{Peer, give_at, introduce_at, keep_at, lose_at};
 use crate::pulled::Pulled;
 use crate::pulls::{begin_at, take_at};
 use gd_edges::Verifier;
 use group_terms::{GroupName, Keyed, MemberName, NoMemory, Octets, Phase1, PushRefusal};
+use indexmap::IndexSet;
 use member_store::{MemberStore, Older, Room, Taken};
 use std::alloc::Global;
 use std::marker::Model;
@@ -23,21 +23,22 @@ use std::marker::Model;
 #[derive(Drop)]
 pub struct Peers {
     list: Vec<Peer>,
-    index: NameIndex,
+    /// The name of each peer, in the order of the list.
+    names: IndexSet<MemberName>,
 }
 
 impl Model for Peers {
-    ghost use Rattle.std.specs.Prelude.{◌-◌, vec_len, vec_capacity};
+    ghost use Rattle.std.specs.Prelude.{◌≡◌, ◌-◌, min, vec_len, vec_capacity};
+    ghost use Rattle.indexmap.specs.IndexSet.{spare};
     ghost use Rattle.group_terms.specs.Logs.{Recorded};
     ghost use Rattle.group_peers.specs.declared.members.Peer.{Peer};
     ghost use Rattle.group_peers.specs.Peers.{AreOnce, names_of};
-    ghost use Rattle.group_peers.specs.Private.Indexes.{IsIndexOf};
 
     ghost Value = { Recorded Peer };
 
-    ghost view = { λ peers. record { items = peers.list.items; spare = vec_capacity peers.list - vec_len peers.list } };
+    ghost view = { λ peers. record { items = peers.list.items; spare = min (vec_capacity peers.list - vec_len peers.list) (spare peers.names) } };
 
-    ghost invariant = { λ peers. AreOnce peers.list.items × IsIndexOf (names_of peers.list.items) peers.index };
+    ghost invariant = { λ peers. AreOnce peers.list.items × (peers.names.keys ≡ names_of peers.list.items) };
 }
 
 impl Peers {
@@ -47,7 +48,7 @@ impl Peers {
     {
         Peers {
             list: Vec::new(alloc),
-            index: NameIndex::new(alloc),
+            names: IndexSet::new(alloc),
         }
     }
 
@@ -57,7 +58,7 @@ impl Peers {
         ensures spare { OnOk result (n ≤ self.new.spare) }
     {
         self.list.reserve(n as usize)?;
-        self.index.reserve(n as usize)?;
+        self.names.reserve(n as usize)?;
         Ok(())
     }
 
@@ -68,7 +69,7 @@ impl Peers {
         ensures items { self.new.items ≡ with_peer self.old.items phase }
         ensures spare { self.old.spare ≤ self.new.spare + 1 }
     {
-        self.index.follow(self.list.len(), &phase.member);
+        let _ = self.names.insert(phase.member);
         self.list.push_reserved(Peer::new(phase));
     }
 
@@ -226,8 +227,9 @@ impl Peers {
 
     /// The place of the peer of this name.
     fn place(&self, member: &MemberName) -> Option<usize>
-        ensures { result ≡ position (is_named member.now) self.now.items }
+        ensures place { result ≡ position (is_named member.now) self.now.items }
+        ensures found { is_some result ≡ is_peer self.now.items member.now }
     {
-        self.index.find(&self.list, member)
+        self.names.get_index_of(member)
     }
 }

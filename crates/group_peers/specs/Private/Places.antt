@@ -1,4 +1,4 @@
--- The same for the peer at a place.
+-- What is said of the peer of a name, said of the peer at a place.
 use Rattle.std.specs.Prelude.{Bool, true, ◌≡◌, ℕ, List, [], Option, None, Some, Result, slice_index_or, slice_set}
 use Rattle.gd_edges.specs.declared.verifiers.Verifier.{Ghosts as VerifierGhosts}
 use Rattle.group_terms.specs.declared.paths.Keyed.{Keyed}
@@ -14,7 +14,7 @@ use Rattle.group_peers.specs.Peers.{new_peer}
 use Rattle.group_peers.specs.Pulls.{Begun, TakesDatagram}
 use Rattle.group_peers.specs.declared.pulled.Pulled.{Pulled}
 
--- what stands for a peer where there is none
+-- the default of a look-up at a place
 abbrev pub no_peer : Peer
 no_peer = new_peer (record { member = []; cookies = []; skeyid_a = []; key = []; last = [] })
 
