@@ -6,7 +6,7 @@ use Rattle.std.proofs.lemmas.List.{nil_from_length}
 use Rattle.std.specs.List.{slice_split, onto_first, prefix_len, position_or_len}
 use Rattle.script_text.specs.Words.{is_space, is_word, words_of}
 
--- the pieces behind the first one, given what stands behind that from its space on
+-- the pieces after the first one, given what comes after that from its space on
 abbrev pieces_behind : List ℕ → List (List ℕ)
 pieces_behind [] = []
 pieces_behind (c ∷ cs) = slice_split is_space cs
@@ -27,7 +27,7 @@ slice_split-first [] = refl
 slice_split-first (c ∷ cs) =
     elim (cases_Bool (is_space c)) [ inl e ↦ first-space c cs e | inr e ↦ first-other c cs e (slice_split-first cs) ]
 
--- from its first space on, a text has the words that stand behind that space
+-- from its first space on, a text has the words that come after that space
 abbrev HasRest : List ℕ → Type 0
 HasRest text = filter is_word (pieces_behind (drop (position_or_len is_space text) text))
     ≡ words_of (drop (position_or_len is_space text) text)
@@ -77,7 +77,7 @@ words_of-behind_spaces [] = refl
 words_of-behind_spaces (c ∷ cs) =
     elim (cases_Bool (is_space c)) [ inl e ↦ skips-space c cs e (words_of-behind_spaces cs) | inr e ↦ skips-other c cs e ]
 
--- behind the spaces a word begins, if anything stands there
+-- after the spaces a word begins, if anything comes there
 abbrev BeginsWord : List ℕ → Type 0
 BeginsWord text = 0 < length (drop (prefix_len is_space text) text)
     → 0 < position_or_len is_space (drop (prefix_len is_space text) text)
@@ -93,13 +93,13 @@ position_or_len-behind_spaces [] = λ h. h
 position_or_len-behind_spaces (c ∷ cs) =
     elim (cases_Bool (is_space c)) [ inl e ↦ begins-space c cs e (position_or_len-behind_spaces cs) | inr e ↦ begins-other c cs e ]
 
--- where nothing stands behind the spaces, there is no word
+-- where nothing comes after the spaces, there is no word
 pub words_of-only_spaces : (text rest : List ℕ) → rest ≡ drop (prefix_len is_space text) text → length rest ≡ 0 → words_of text ≡ []
 unfolding words_of
 words_of-only_spaces text rest e h =
     sym (words_of-behind_spaces text) ∙ (ap words_of (sym e) ∙ ap words_of (nil_from_length rest h))
 
--- the first word, and what stands behind it
+-- the first word, and what comes after it
 pub words_of-next : (text rest : List ℕ) → rest ≡ drop (prefix_len is_space text) text → 0 < length rest
     → words_of text ≡ take (position_or_len is_space rest) rest ∷ words_of (drop (position_or_len is_space rest) rest)
 words_of-next text rest e h =

@@ -76,15 +76,15 @@ counts_with epoch sequence members =
     codes "sequence" ∷ decimal sequence ∷
     codes "members" ∷ decimal members ∷ []
 
--- those of a batch
+-- the counts of a batch
 abbrev pub epoch_line : Output → List ℕ
 epoch_line output = line_with (counts_with output.epoch output.sequence output.members)
 
--- those of a group as it is seen
+-- the counts of a group as it is seen
 abbrev pub seen_counts : GroupSeen → List (List ℕ)
 seen_counts group = counts_with group.epoch group.sequence (length group.members)
 
--- a push: its number, how many octets it has, and these in hex
+-- a push: its number, how many octets it has, and the octets in hex
 abbrev pub push_line : ℕ → List ℕ → List ℕ
 push_line sequence octets = line_with (codes "push" ∷ decimal sequence ∷ decimal (length octets) ∷ encode_lower octets ∷ [])
 
@@ -141,7 +141,7 @@ abbrev pub introduction_text : Name → Answer → List ℕ
 introduction_text m (Refused why) = refusal_line m why
 introduction_text m answer = []
 
--- a message to a member: which one, how many octets it has, and these in hex
+-- a message to a member: which one, how many octets it has, and the octets in hex
 abbrev pub message_line : List ℕ → Name → List ℕ → List ℕ
 message_line which m octets = line_with (which ∷ m ∷ decimal (length octets) ∷ encode_lower octets ∷ [])
 

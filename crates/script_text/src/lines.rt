@@ -1,3 +1,4 @@
+//! What a line of a script says.
 ghost use Rattle.std.specs.Prelude.{◌≡◌};
 ghost use Rattle.script_text.specs.Words.{words_of};
 ghost use Rattle.script_text.specs.Lines.{line_of, command_of, command_with, command_with_more, deliver_of, derive_of, lone_command};
@@ -16,9 +17,9 @@ pub const MOST_LINE_OCTETS: usize = 200;
 pub enum Line {
     /// A comment, or a line without words.
     Nothing,
-    /// Who may join is judged by one more rule, which allows those whose names match.
+    /// Who may join is judged by one more rule, which allows names that match.
     Allow { pattern: Pattern },
-    /// The same with a rule that denies them.
+    /// Who may join is judged by one more rule, which denies names that match.
     Deny { pattern: Pattern },
     /// A member begins a pull; its phase 1 SA is made at its first use, and introduced where it was not.
     Join { member: MemberName },

@@ -1,3 +1,4 @@
+//! Several names in a line.
 ghost use Rattle.std.specs.Prelude.{◌≡◌};
 ghost use Rattle.script_text.specs.Words.{words_of};
 ghost use Rattle.script_text.specs.Lines.{members_of};

@@ -1,3 +1,4 @@
+//! Decimal numbers, written and read.
 ghost use Rattle.std.specs.Prelude.{◌≡◌, ◌≤◌, ◌+◌, ◌^◌, ◌++◌, min, IsTrue, true, OnOk};
 ghost use Rattle.std.specs.Fmt.{decimal};
 ghost use Rattle.std.specs.List.{list_all};
@@ -35,7 +36,7 @@ pub fn read_number(text: &[u8]) -> Option<u32>
     Some(number as u32)
 }
 
-/// The number that a text says, of 1 to so many decimal digits and below a limit; `None` where it says none.
+/// The number that 1 to `most_digits` decimal digits say, if it is below a limit; `None` where it says none.
 ///
 /// Leading zeros are taken.
 pub fn read_decimal(text: &[u8], most_digits: usize, limit: u64) -> Option<u64>
@@ -44,7 +45,7 @@ pub fn read_decimal(text: &[u8], most_digits: usize, limit: u64) -> Option<u64>
     read_below(text, most_digits, u128::from(limit))
 }
 
-/// The number that a text says, of 1 to so many decimal digits and at most the greatest; `None` where it says none.
+/// The number that 1 to `most_digits` decimal digits say, if it is at most the greatest; `None` where it says none.
 ///
 /// Leading zeros are taken.
 pub fn read_decimal_to(text: &[u8], most_digits: usize, greatest: u64) -> Option<u64>

@@ -10,7 +10,7 @@ use group_model::{NoMemory, Octets, PushPair, PushRefusal};
 /// How many octets are written in hex at a time.
 const PIECE: usize = 64;
 
-/// How many digits these have.
+/// How many digits they have.
 const DIGITS: usize = 2 * PIECE;
 
 /// Puts a line for each push of a pair at the end of a text, where there is one.
@@ -35,7 +35,7 @@ fn append_push(sequence: u64, octets: &[u8], out: &mut Octets) -> Result<(), NoM
     append_octets(octets, out)
 }
 
-/// Puts the end of the line of a push or a message at the end of a text: how many octets it has, and these in hex.
+/// Puts the end of the line of a push or a message at the end of a text: how many octets it has, and the octets in hex.
 pub fn append_octets(octets: &[u8], out: &mut Octets) -> Result<(), NoMemory>
     ensures { OnOk result (out.new ≡ out.old ++ 32 ∷ line_with (decimal (length octets.now) ∷ encode_lower octets.now ∷ [])) }
 {

@@ -1,3 +1,4 @@
+//! The line of a request that is refused.
 ghost use Rattle.std.specs.Prelude.{◌≡◌, ◌++◌, OnOk};
 ghost use Rattle.std.specs.Fmt.{decimal};
 ghost use Rattle.script_text.specs.Report.{counter_text, refusal_line, why_text};

@@ -1,3 +1,4 @@
+//! The lines that report an entry.
 ghost use Rattle.std.specs.Prelude.{◌≡◌, ◌++◌, OnOk, OnErr};
 ghost use Rattle.script_text.specs.Report.{entry_text, answer_text};
 

@@ -25,7 +25,7 @@ pub fn append_counts(
     out.extend(b"\n")
 }
 
-/// Puts those of a group at the end of a text.
+/// Puts the epoch of a group, the number of its last push and how many members it has at the end of a text.
 pub fn append_seen(group: &GroupSeen, out: &mut Octets) -> Result<(), NoMemory>
     ensures { OnOk result (out.new ≡ out.old ++ line_with (seen_counts group.now)) }
 {

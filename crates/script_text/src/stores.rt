@@ -121,7 +121,7 @@ pub fn append_fingerprint(
     }
 }
 
-/// Puts the end of that line at the end of a text.
+/// Puts the end of the line of a key at the end of a text.
 fn append_print(sequence: u32, print: &[u8; 8], out: &mut Octets) -> Result<(), NoMemory>
     ensures { OnOk result (out.new ≡ out.old ++ 32 ∷ line_with (codes "sequence" ∷ decimal sequence ∷ encode_lower print.now ∷ [])) }
 {

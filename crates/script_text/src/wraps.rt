@@ -1,3 +1,4 @@
+//! The lines of what a batch encrypts.
 ghost use Rattle.std.specs.Prelude.{◌≡◌, ◌++◌, OnOk};
 ghost use Rattle.std.specs.List.{flat_map};
 ghost use Rattle.script_text.specs.Report.{key_text, wrap_line};
