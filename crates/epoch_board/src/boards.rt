@@ -1,3 +1,4 @@
+//! Boards: how a publisher publishes a pair, and a pass looks at the last one.
 ghost use Rattle.std.specs.Prelude.{◌≡◌, [], ◌∷◌, ◌++◌, IfOk};
 ghost use Rattle.epoch_board.specs.declared.moments.Moment.TheVariants.{Published, Looked};
 ghost use Rattle.epoch_board.specs.Moments.{pairs_in, EndsWith};

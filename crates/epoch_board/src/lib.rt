@@ -1,5 +1,4 @@
-//! The epoch board shows the last published pair of an epoch and a sequence number to any number of threads. One publisher writes it.
-//! Reading takes no lock, no turn and no runtime: no call of a board waits.
+//! A board shows the last pair of an epoch and a sequence number that its publisher published. No call waits: threads read it without a lock.
 #![tactic(auto)]
 
 pub use boards::{BoardMade, EpochBoard};

@@ -1,3 +1,4 @@
+//! The pairs that a board shows, as one word.
 ghost use Rattle.std.specs.Prelude.{◌≡◌};
 ghost use Rattle.epoch_board.specs.Private.Rule.{word_of, pair_of};
 

@@ -3,7 +3,7 @@ use Rattle.std.specs.Prelude.{◌≡◌, ◌⊎◌, ℕ, ◌<◌, ◌≤◌, Boo
 use Rattle.folder_files.specs.Files.{Standing}
 use Rattle.gd_disk.specs.Media.{Medium, MayLeave, LeftSince}
 
--- its octets and what was done to them, how it stands, the last moment at which its folder did not have it, how many octets a read or a write
+-- its octets and what was done to them, its standing, the last moment at which its folder did not have it, how many octets a read or a write
 -- takes at most, whether another process has its lock, and how many of the calls that open, lock or list it failed
 pub record FileMedium : Type 0 where
   pub medium : Medium

@@ -1,5 +1,4 @@
-//! Disks over files: a disk over a file of a folder, a file in memory that fails at chosen calls and can lose its power, and a file of the
-//! operating system.
+//! Disks over files: over a file of a folder, over a file in memory that fails at chosen calls and can lose its power, and over a file of the system.
 #![tactic(auto)]
 
 pub use mem_files::{FilePlan, MemFile};

@@ -50,9 +50,9 @@ pub struct FilePlan {
     pub most: usize,
     /// Whether another process has its lock.
     pub is_taken: bool,
-    /// Which calls fail, of those that open, lock or list it, counted from 1.
+    /// Which of the calls that open, lock or list it fail, counted from 1.
     pub steps: List<u64>,
-    /// Which calls fail, of those that read, write, cut or sync it, counted from 1. The first that lists it counts as a write, too.
+    /// Which of the calls that read, write, cut or sync it fail, counted from 1. The first that lists it counts as a write, too.
     pub calls: List<u64>,
 }
 
@@ -208,7 +208,7 @@ impl FolderFile for MemFile {
         Ok(())
     }
 
-    /// The folder has the file from then on: a write of no octets, which no loss of power tells from none, makes that a moment of its own.
+    /// The folder has the file from then on: a write of no octets, which no loss of power distinguishes from none, makes that a moment of its own.
     fn sync_folder(&mut self) -> Result<(), Failed> {
         self.is_sound = false;
         step(&mut self.steps)?;

@@ -18,7 +18,7 @@ use std::rt::Files;
 /// is synced.
 ///
 /// After a sync that failed, of the file or of its folder, each call fails: octets that were not on the device by then may be lost though a
-/// read still gives them, and no later sync would tell.
+/// read still gives them, and no later sync would show it.
 #[derive(Drop)]
 pub struct OverFile<F: FolderFile> {
     file: F,

@@ -1,4 +1,4 @@
--- What the definition of a stage tells apart: after a sync that failed a file is at no stage but the last one, without its lock it is not held, and before its
+-- What the definition of a stage distinguishes: after a failed sync a file is at no stage but the last one, without its lock it is not held, and before its
 -- folder has it on the device it is not listed.
 use Rattle.std.proofs.Common.{◌≡◌, ◌∙◌, false, Bool, sym}
 use Rattle.std.specs.Prelude.{IsTrue}

@@ -9,7 +9,7 @@ use Rattle.gd_cipher.specs.Blocks.{xor_all, block_at}
 use Rattle.gd_cipher.specs.Ciphers.{cipher, decipher}
 use Rattle.gd_cipher.specs.Chains.{IsSealed, IsOpened}
 
--- behind an IV the blocks of a text are one place further on
+-- after an IV the blocks of a text are one place further on
 pub chained_first : (iv text : List ℕ) → length iv ≡ 16 → block_at (iv ++ text) 0 ≡ iv
 chained_first iv text long = take_at iv text 16 long
 
@@ -18,7 +18,7 @@ chained_next iv text i long =
     let place : 16 * suc i ≡ length iv + 16 * i = omega arith in
     ap (λ n. take 16 (drop n (iv ++ text))) place ∙ ap (take 16) (drop-append-add iv text (16 * i))
 
--- texts whose first blocks are the same have the same block before each of those and behind the last one
+-- texts whose first blocks are the same have the same block before each of these blocks and after the last one
 same_chained : (iv these those : List ℕ) (i : ℕ) → length iv ≡ 16 → ((j : ℕ) → j < i → block_at these j ≡ block_at those j) → block_at (iv ++ these) i ≡ block_at (iv ++ those) i
 same_chained iv these those zero long same = chained_first iv these long ∙ sym (chained_first iv those long)
 same_chained iv these those (suc i) long same = chained_next iv these i long ∙ same i (omega arith) ∙ sym (chained_next iv those i long)
@@ -64,7 +64,7 @@ module _ (i : ℕ) (text block : List ℕ) (whole : 16 * (i + 1) ≤ length text
   unfolding with_block
   block_here = ap (take 16) (drop_at (take (16 * i) text) _ (16 * i) front) ∙ take_at block _ 16 long
 
-  -- the rest behind it is as it was
+  -- the rest after it is as it was
   block_behind : drop (16 * (i + 1)) (with_block i text block) ≡ drop (16 * (i + 1)) text
   unfolding with_block
   block_behind =
@@ -95,7 +95,7 @@ first_block text found block is_found cases =
     let first : IsFirstChunk text block.now 16 = subst (λ chunk. MatchOption chunk (length text < 16) (λ y. IsFirstChunk text y.now 16)) is_found cases in
     first.same
 
--- So many blocks of a text are sealed, the rest is as it was, and the block that stands before the next one is known.
+-- A number of blocks of a text are sealed, the rest is as it was, and the block before the next one is known.
 pub record SealsTo (i : ℕ) (key iv text now before : List ℕ) : Type 0 where
   pub blocks : (j : ℕ) → j < i → block_at now j ≡ cipher key (xor_all (block_at text j) (block_at (iv ++ now) j))
   pub rest : drop (16 * i) now ≡ drop (16 * i) text
@@ -107,7 +107,7 @@ pub record OpensTo (i : ℕ) (key iv sealed now before : List ℕ) : Type 0 wher
   pub rest : drop (16 * i) now ≡ drop (16 * i) sealed
   pub last : before ≡ block_at (iv ++ sealed) i
 
--- where the first blocks are sealed and the rest is as it was, the block behind them is still that of the text
+-- where the first blocks are sealed and the rest is as it was, the block after them is still that of the text
 same_block : (i : ℕ) (text now : List ℕ) → drop (16 * i) now ≡ drop (16 * i) text → block_at now i ≡ block_at text i
 same_block i text now rest = ap (take 16) rest
 

@@ -1,4 +1,4 @@
--- Examples of FIPS 197 as it stood in 2001 (its appendices C.1 and C.3), so that a wrong constant or step in the definitions does not check.
+-- Examples of FIPS 197 of 2001 (its appendices C.1 and C.3), so that a wrong constant or step in the definitions does not check.
 use Rattle.std.proofs.Common.{◌≡◌, ◌∙◌, List, ℕ, true, [], ◌∷◌, length, ltb, refl, sym, ap, inl, inr}
 use Rattle.std.specs.List.{range_with_len, list_all}
 use Rattle.std.proofs.lemmas.Bool.{ltb-true}

@@ -50,7 +50,7 @@ length-bytes : (words : List ℕ) → length (bytes_of words) ≡ 4 * length wor
 length-bytes [] = refl
 length-bytes (word ∷ words) = let rest = length-bytes words in omega (arith, rest)
 
--- the bytes of word i stand at its place
+-- the bytes of word i are at its place
 word_at-bytes : (words : List ℕ) (i : ℕ) → i < length words → word_at (bytes_of words) i ≡ to_be_bytes w32 (get_or words i 0)
 word_at-bytes [] i h = absurd (omega arith)
 word_at-bytes (word ∷ words) zero h = refl
@@ -58,7 +58,7 @@ word_at-bytes (word ∷ words) (suc i) h =
     let places : 4 * suc i ≡ suc (suc (suc (suc (4 * i)))) = omega arith in
     ap (λ (n : ℕ). take 4 (drop n (bytes_of (word ∷ words)))) places ∙ word_at-bytes words i (omega arith)
 
--- the word behind these, where it has the bytes that are due
+-- the word after these, where it has the bytes that are due
 next_bytes : (nk : ℕ) (words : List ℕ) (i y : ℕ) → 0 < nk → nk ≤ i → length words ≡ i → to_be_bytes w32 y ≡ xor_all (to_be_bytes w32 (get_or words (i - nk) 0)) (changed_word nk i (to_be_bytes w32 (get_or words (i - 1) 0))) → next_word nk (bytes_of words) ≡ to_be_bytes w32 y
 next_bytes nk words i y some far len made =
     let count : length (bytes_of words) / 4 ≡ i = let all = length-bytes words in omega (arith, all) in
@@ -85,7 +85,7 @@ expanded_more nk words i y some far there made =
     ∙ ap (expanded nk (length words - (i + 1))) (front ∙ ap (λ (word : List ℕ). bytes_of (take i words) ++ word) (sym next))
     ∙ ap (λ (n : ℕ). expanded nk n (bytes_of (take i words))) (sym more)
 
--- expanded to the length that a key of so many words has, they are the schedule of the key
+-- expanded to the length that a key of nk words has, they are the schedule of the key
 pub schedule_of_words : (nk : ℕ) (words : List ℕ) → length words ≡ 4 * (nk + 7) → expanded nk (length words - nk) (bytes_of (take nk words)) ≡ schedule (bytes_of (take nk words))
 schedule_of_words nk words len =
     let front = length-take-le nk words (omega arith) in
@@ -106,7 +106,7 @@ take-schedule : (n : ℕ) (key bytes : List ℕ) → length key ≡ n → bytes 
 take-schedule n key bytes len whole =
     ap (take n) whole ∙ take-expanded (key_words key) (4 * (rounds_of key + 1) - key_words key) n key (omega arith) ∙ take_all n key (omega arith)
 
--- the schedule made of words that were read from a key and zeros behind them
+-- the schedule made of words that were read from a key and zeros after them
 pub key_made : (nk behind : ℕ) (key read new : List ℕ) → length key ≡ 4 * nk → ((i : ℕ) → get_or key i 0 < 256) → length read ≡ nk → IsRead big_number 4 key read → bytes_of new ≡ schedule (bytes_of (take nk (read ++ replicate behind 0))) → (take (4 * nk) (bytes_of new) ≡ key) × (bytes_of new ≡ schedule (take (4 * nk) (bytes_of new)))
 key_made nk behind key read new len small count are whole =
     let front = take_at read (replicate behind 0) nk count in

@@ -17,7 +17,7 @@ module _ (keys : List ℕ) where
   last_round round rounds block state same is =
       ap (λ (bytes : List ℕ). add_round_key keys rounds (shift_rows (sub_bytes bytes))) (is ∙ ap (λ (n : ℕ). after_rounds keys (n - 1) block) same)
 
-  -- what is left to undo, from the state before this round and from the one behind it
+  -- what is left to undo, from the state before this round and from the one after it
   pub one_round_undone : (round : ℕ) (state next : List ℕ) → 1 ≤ round → next ≡ add_round_key keys round (undo_mix_columns (undo_shift_rows (undo_sub_bytes state)))
       → equivalently_undone keys (round - 1) next ≡ equivalently_undone keys round state
   one_round_undone round state next positive step =

@@ -23,7 +23,7 @@ module _ (key iv text sealed : List ℕ) (is_key : IsKey key) (iv_bytes : AreByt
   plain_bytes : (i : ℕ) → 16 * i < length text → AreBytes 16 (block_at text i)
   plain_bytes = text_block text bytes is_sealed.whole
 
-  -- what stands before a block is bytes
+  -- what comes before a block is bytes
   chain_bytes : (i : ℕ) → 16 * i < length text → AreBytes 16 (block_at (iv ++ sealed) i)
   chain_bytes zero within = subst (AreBytes 16) (sym (chained_first iv sealed iv_bytes.len)) iv_bytes
   chain_bytes (suc i) within =

@@ -18,7 +18,7 @@ get_or-xor_all these those k same within =
     get_or-map (λ pair. bit_xor pair.0 pair.1) (zip these those) k (0, 0) 0 (omega (arith, length-zip these those))
     ∙ ap (λ pair. bit_xor pair.0 pair.1) (get_or-zip these those k (0, 0) within (omega arith))
 
--- so many bytes, to which as many are added
+-- n bytes, to which as many are added
 module _ (n : ℕ) (these those : List ℕ) (first : AreBytes n these) (second : AreBytes n those) where
   same : length those ≡ length these
   same = second.len ∙ sym first.len

@@ -1,4 +1,4 @@
--- Lists of so many bytes: what the steps of a round make of them, and that each step can be undone.
+-- Lists of n bytes: what the steps of a round make of them, and that each step can be undone.
 -- `written_out`: a list of 16 elements is written out by `fill_by_all`, so permuting and mixing compute with no match on 16 elements.
 use Rattle.std.proofs.Common.{◌≡◌, ℕ, suc, ◌+◌, ◌<◌, ◌≤◌, List, [], ◌∷◌, ◌++◌, map, length, take, drop, slice_index_or, All, refl, sym, ◌∙◌, arith, length-append, length-drop, suc-le-suc}
 use Rattle.std.specs.List.{range_with_len}

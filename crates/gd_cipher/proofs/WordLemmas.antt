@@ -6,15 +6,15 @@ use Rattle.byteorder.specs.Endian.{big_number, IsRead}
 use Rattle.gd_cipher.specs.Blocks.{xor_all}
 use Rattle.gd_cipher.specs.Words.{bytes_of}
 
+-- the bytes of a number, one by one
+four_bytes : (n a b c d : ℕ) → n / 16777216 % 256 ≡ a → n / 65536 % 256 ≡ b → n / 256 % 256 ≡ c → n % 256 ≡ d → to_be_bytes w32 n ≡ a ∷ b ∷ c ∷ d ∷ []
+four_bytes n a b c d first second third fourth = λ i. first i ∷ second i ∷ third i ∷ fourth i ∷ []
+
 -- bytes put together and taken apart again
 pub bytes_of_word : (n a b c d : ℕ) → a < 256 → b < 256 → c < 256 → d < 256 → n ≡ from_be_bytes w32 (a ∷ b ∷ c ∷ d ∷ []) → to_be_bytes w32 n ≡ a ∷ b ∷ c ∷ d ∷ []
 bytes_of_word n a b c d la lb lc ld e =
     let sum : n ≡ a * 16777216 + b * 65536 + c * 256 + d = e in
-    let first : n / 16777216 % 256 ≡ a = omega arith in
-    let second : n / 65536 % 256 ≡ b = omega arith in
-    let third : n / 256 % 256 ≡ c = omega arith in
-    let fourth : n % 256 ≡ d = omega arith in
-    λ i. first i ∷ second i ∷ third i ∷ fourth i ∷ []
+    four_bytes n a b c d (omega arith) (omega arith) (omega arith) (omega arith)
 
 xor_byte : (k x y : ℕ) → bit_xor x y / 2 ^ k % 256 ≡ bit_xor (x / 2 ^ k % 256) (y / 2 ^ k % 256)
 xor_byte k x y = ap (λ (z : ℕ). z % 256) (xor_shr x y k) ∙ xor_mod (x / 2 ^ k) (y / 2 ^ k) 8
@@ -57,36 +57,24 @@ module _ (x a b c d : ℕ) (is : to_be_bytes w32 x ≡ a ∷ b ∷ c ∷ d ∷ [
       ∷ bit_xor (get_or (is i) 2 0) (get_or (same i) 2 0) ∷ bit_xor (get_or (is i) 3 0) (get_or (same i) 3 0) ∷ [])
 
   module _ (fits : x < 2 ^ 32) where
-    -- a word turned to the right by one byte, two and three
+    -- a word turned to the right: what falls out on the right comes in on the left
+    turned : (right left : ℕ) → x * 2 ^ left % 2 ^ 32 ≡ x % 2 ^ right * 2 ^ left → x / 2 ^ right < 2 ^ left
+        → bit_or (x / 2 ^ right) (x * 2 ^ left % 2 ^ 32) ≡ x % 2 ^ right * 2 ^ left + x / 2 ^ right
+    turned right left high small =
+        ap (bit_or (x / 2 ^ right)) high ∙ or_comm (x / 2 ^ right) (x % 2 ^ right * 2 ^ left) ∙ or_shifted (x % 2 ^ right) left (x / 2 ^ right) small
+
+    -- by one byte, two and three
     pub turned_8 : to_be_bytes w32 (rotate_right w32 x 8) ≡ d ∷ a ∷ b ∷ c ∷ []
     turned_8 =
-        let high : x * 16777216 % 4294967296 ≡ x % 256 * 16777216 = omega arith in
-        let turned : rotate_right w32 x 8 ≡ x % 256 * 16777216 + x / 256 =
-        ap (bit_or (x / 256)) high ∙ or_comm (x / 256) (x % 256 * 16777216) ∙ or_shifted (x % 256) 24 (x / 256) (omega arith) in
-        let first : rotate_right w32 x 8 / 16777216 % 256 ≡ d = omega (arith, in_row 3) in
-        let second : rotate_right w32 x 8 / 65536 % 256 ≡ a = omega (arith, in_row 0) in
-        let third : rotate_right w32 x 8 / 256 % 256 ≡ b = omega (arith, in_row 1) in
-        let fourth : rotate_right w32 x 8 % 256 ≡ c = omega (arith, in_row 2) in
-        λ i. first i ∷ second i ∷ third i ∷ fourth i ∷ []
+        let sum : rotate_right w32 x 8 ≡ x % 256 * 16777216 + x / 256 = turned 8 24 (omega arith) (omega arith) in
+        four_bytes (rotate_right w32 x 8) d a b c (omega (arith, in_row 3)) (omega (arith, in_row 0)) (omega (arith, in_row 1)) (omega (arith, in_row 2))
 
     pub turned_16 : to_be_bytes w32 (rotate_right w32 x 16) ≡ c ∷ d ∷ a ∷ b ∷ []
     turned_16 =
-        let high : x * 65536 % 4294967296 ≡ x % 65536 * 65536 = omega arith in
-        let turned : rotate_right w32 x 16 ≡ x % 65536 * 65536 + x / 65536 =
-        ap (bit_or (x / 65536)) high ∙ or_comm (x / 65536) (x % 65536 * 65536) ∙ or_shifted (x % 65536) 16 (x / 65536) (omega arith) in
-        let first : rotate_right w32 x 16 / 16777216 % 256 ≡ c = omega (arith, in_row 2) in
-        let second : rotate_right w32 x 16 / 65536 % 256 ≡ d = omega (arith, in_row 3) in
-        let third : rotate_right w32 x 16 / 256 % 256 ≡ a = omega (arith, in_row 0) in
-        let fourth : rotate_right w32 x 16 % 256 ≡ b = omega (arith, in_row 1) in
-        λ i. first i ∷ second i ∷ third i ∷ fourth i ∷ []
+        let sum : rotate_right w32 x 16 ≡ x % 65536 * 65536 + x / 65536 = turned 16 16 (omega arith) (omega arith) in
+        four_bytes (rotate_right w32 x 16) c d a b (omega (arith, in_row 2)) (omega (arith, in_row 3)) (omega (arith, in_row 0)) (omega (arith, in_row 1))
 
     pub turned_24 : to_be_bytes w32 (rotate_right w32 x 24) ≡ b ∷ c ∷ d ∷ a ∷ []
     turned_24 =
-        let high : x * 256 % 4294967296 ≡ x % 16777216 * 256 = omega arith in
-        let turned : rotate_right w32 x 24 ≡ x % 16777216 * 256 + x / 16777216 =
-        ap (bit_or (x / 16777216)) high ∙ or_comm (x / 16777216) (x % 16777216 * 256) ∙ or_shifted (x % 16777216) 8 (x / 16777216) (omega arith) in
-        let first : rotate_right w32 x 24 / 16777216 % 256 ≡ b = omega (arith, in_row 1) in
-        let second : rotate_right w32 x 24 / 65536 % 256 ≡ c = omega (arith, in_row 2) in
-        let third : rotate_right w32 x 24 / 256 % 256 ≡ d = omega (arith, in_row 3) in
-        let fourth : rotate_right w32 x 24 % 256 ≡ a = omega (arith, in_row 0) in
-        λ i. first i ∷ second i ∷ third i ∷ fourth i ∷ []
+        let sum : rotate_right w32 x 24 ≡ x % 16777216 * 256 + x / 16777216 = turned 24 8 (omega arith) (omega arith) in
+        four_bytes (rotate_right w32 x 24) b c d a (omega (arith, in_row 1)) (omega (arith, in_row 2)) (omega (arith, in_row 3)) (omega (arith, in_row 0))

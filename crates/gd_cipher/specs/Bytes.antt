@@ -1,4 +1,4 @@
--- Octets, lists of so many of them, and keys.
+-- Octets, lists of a number of octets, and keys.
 use Rattle.std.specs.Prelude.{◌≡◌, ℕ, ◌<◌, ◌⊎◌, List, length, All}
 
 -- a number of 8 bits

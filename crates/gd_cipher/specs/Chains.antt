@@ -4,13 +4,13 @@ use Rattle.std.specs.Prelude.{◌≡◌, ℕ, ◌*◌, ◌%◌, ◌<◌, List, �
 use Rattle.gd_cipher.specs.Blocks.{xor_all, block_at}
 use Rattle.gd_cipher.specs.Ciphers.{cipher, decipher}
 
--- Block i of the sealed text is the cipher of the sum of block i of the text and what stands before it in the IV and the sealed text.
+-- Block i of the sealed text is the cipher of the sum of block i of the text and what comes before it in the IV and the sealed text.
 pub record IsSealed (key iv text sealed : List ℕ) : Type 0 where
   pub whole : length text % 16 ≡ 0
   pub len : length sealed ≡ length text
   pub blocks : (i : ℕ) → 16 * i < length text → block_at sealed i ≡ cipher key (xor_all (block_at text i) (block_at (iv ++ sealed) i))
 
--- Block i of the opened text is the sum of block i of the sealed text, deciphered, and what stands before that block in the IV and the
+-- Block i of the opened text is the sum of block i of the sealed text, deciphered, and what comes before that block in the IV and the
 -- sealed text.
 pub record IsOpened (key iv sealed text : List ℕ) : Type 0 where
   pub whole : length text % 16 ≡ 0

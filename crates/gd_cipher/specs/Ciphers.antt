@@ -7,12 +7,12 @@ use Rattle.gd_cipher.specs.Schedules.{schedule, rounds_of}
 abbrev pub add_round_key : List ℕ → ℕ → List ℕ → List ℕ
 add_round_key keys round state = xor_all state (block_at keys round)
 
--- a block after the first addition and so many whole rounds
+-- a block after the first addition and this number of whole rounds
 abbrev pub after_rounds : List ℕ → ℕ → List ℕ → List ℕ
 after_rounds keys zero block = add_round_key keys 0 block
 after_rounds keys (suc round) block = add_round_key keys (suc round) (mix_columns (shift_rows (sub_bytes (after_rounds keys round block))))
 
--- so many rounds in all, of which the last mixes no columns
+-- this number of rounds in all, of which the last mixes no columns
 abbrev pub encrypted : List ℕ → ℕ → List ℕ → List ℕ
 encrypted keys rounds block = add_round_key keys rounds (shift_rows (sub_bytes (after_rounds keys (rounds - 1) block)))
 
@@ -22,7 +22,7 @@ undo_rounds keys zero state = state
 undo_rounds keys (suc round) state =
     undo_rounds keys round (undo_mix_columns (add_round_key keys (suc round) (undo_sub_bytes (undo_shift_rows state))))
 
--- so many rounds in all, undone from the last one to the first addition
+-- this number of rounds in all, undone from the last one to the first addition
 abbrev pub decrypted : List ℕ → ℕ → List ℕ → List ℕ
 decrypted keys rounds block =
     add_round_key keys 0 (undo_sub_bytes (undo_shift_rows (undo_rounds keys (rounds - 1) (add_round_key keys rounds block))))

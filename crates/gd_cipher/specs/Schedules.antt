@@ -33,7 +33,7 @@ next_word nk bytes =
     let i = length bytes / 4 in
     xor_all (word_at bytes (i - nk)) (changed_word nk i (word_at bytes (i - 1)))
 
--- so many words more
+-- this number of words more
 abbrev pub expanded : ℕ → ℕ → List ℕ → List ℕ
 expanded nk zero bytes = bytes
 expanded nk (suc more) bytes = expanded nk more (bytes ++ next_word nk bytes)

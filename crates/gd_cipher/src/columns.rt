@@ -1,4 +1,4 @@
-//! Columns of a state as words of 32 bits. The byte of the first row stands highest.
+//! Columns of a state as words of 32 bits. The byte of the first row is the highest.
 ghost use Rattle.std.specs.Prelude.{◌≡◌, ℕ, map};
 ghost use Rattle.std.specs.Int.{w32, to_be_bytes};
 ghost use Rattle.gd_cipher.specs.Fields.{substitute};

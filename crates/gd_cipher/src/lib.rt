@@ -1,7 +1,4 @@
-//! AES (FIPS 197) with keys of 128 and 256 bits, its cipher block chaining under keys of 128 bits (SP 800-38A), HMAC with
-//! SHA-256 (RFC 2104), and the IV of the first message of a phase 2 exchange (RFC 2409).
-//!
-//! No call takes memory, and none refuses.
+//! AES (FIPS 197), its cipher block chaining (SP 800-38A), HMAC with SHA-256 (RFC 2104), and IVs of phase 2. No call takes memory, and none refuses.
 #![tactic(auto)]
 
 pub use chains::{cbc_open, cbc_seal};

@@ -1,4 +1,4 @@
--- What the definitions of a disk tell apart: octets that were synced and those that were not, a write that took place and one that was forgotten, and a write that
+-- What the definitions of a disk distinguish: octets that were synced or not, a write that took place and one that was forgotten, and a write that
 -- ends at the farthest place and one that goes past it.
 use Rattle.std.proofs.Common.{◌≡◌, ℕ, ◌+◌, ◌-◌, ◌^◌, ◌≤◌, List, [], ◌∷◌, ◌++◌, length, take, drop, get_or, inl, inr, ap, sym, ◌∙◌, refl, arith, length-take}
 use Rattle.std.proofs.lemmas.List.{take_at, drop_at}
@@ -33,7 +33,7 @@ old_octet_is_gone left =
     let first : 1 ≡ 5 = ap (λ octets. get_or octets 0 0) (synced_octets_stay (5 ∷ []) one_write (1 ∷ []) left) in
     absurd (omega (arith, first))
 
--- a file stays as it was only if the octets that were written are those that were there
+-- a file stays as it was only if the octets that were written were there before
 forgotten_write_had_the_same_octets : (file : List ℕ) (at : ℕ) (octets : List ℕ) → at ≤ length file → written file at octets ≡ file
     → take (length octets) (drop at file) ≡ octets
 forgotten_write_had_the_same_octets file at octets within same =

@@ -13,7 +13,7 @@ pub record Medium : Type 0 where
   pub fails : List ℕ
   pub faults : ℕ
 
--- octets with others at a place, in place of so many that were there
+-- octets with others at a place, in place of a number of earlier ones
 abbrev pub replaced : List ℕ → ℕ → ℕ → List ℕ → List ℕ
 replaced octets at n others = take at octets ++ (others ++ drop (at + n) octets)
 

@@ -1,3 +1,4 @@
+//! What a crash leaves of a disk in memory.
 ghost use Rattle.std.specs.Prelude.{◌≡◌, ◌%◌, ◌≤◌, length, reverse, IfOk};
 ghost use Rattle.gd_disk.specs.Disks.{Torn, Cut};
 ghost use Rattle.gd_disk.specs.Media.{MayLeave, synced_image};
@@ -87,7 +88,7 @@ pub(crate) fn surviving(
     }
 }
 
-/// The same event by event, where the last of them is the newest or others came after it.
+/// What a crash leaves, event by event, where the last of them is the newest or others came after it.
 fn left(
     alloc: Global,
     octets: Octets,
@@ -154,7 +155,7 @@ fn write_in_part(
     }
 }
 
-/// So many octets by chance: the stream of this place, from this seed.
+/// `n` octets by chance: the stream of this place, from this seed.
 fn drawn(alloc: Global, seed: u64, at: usize, n: usize) -> Result<Octets, NoMemory>
     ensures { IfOk result (λ octets. length octets ≡ n) }
 {

@@ -1,3 +1,4 @@
+//! What a disk promises.
 ghost use Rattle.std.specs.Prelude.{◌≡◌, ◌↔◌, ℕ, ◌+◌, ◌^◌, ◌≤◌, Bool, List, length, take, Option, Some, IsSome, IfOk, OnOk, OnErr};
 ghost use Rattle.gd_disk.specs.Disks.{known, Knows, IsRead, written, Torn, Cut, Steps, Follows, Narrows, Only, Elapses};
 ghost use Rattle.group_terms.specs.Faults.{Rose};

@@ -1,3 +1,4 @@
+//! What was done to the octets of a disk in memory.
 use group_terms::Octets;
 
 /// What was done to the octets of a disk in memory, with the octets that undo it.

@@ -1,5 +1,4 @@
-//! Disks: what a disk promises of its octets and of what a crash may leave, and a disk in memory that
-//! fails at chosen calls and can be crashed.
+//! Disks: what a disk promises of its octets and of what a crash may leave, and one in memory that fails at chosen calls and can be crashed.
 #![tactic(auto)]
 
 pub use disks::Disk;

@@ -1,3 +1,4 @@
+//! The calls of a disk in memory.
 ghost use Rattle.std.specs.Prelude.{◌≡◌, ◌↔◌, ℕ, ◌+◌, ◌^◌, ◌≤◌, List as Items, length, take, true, Some, IsSome, IsTrue, IsErr, is_err, IfOk, OnOk, OnErr};
 ghost use Rattle.std.proofs.Common.{inl};
 ghost use Rattle.gd_disk.specs.Disks.{Knows, IsRead, written, Torn, Cut, Steps, Follows, Narrows, Only, Elapses};

@@ -1,3 +1,4 @@
+//! A disk in memory: how it is made, seen and crashed.
 ghost use Rattle.std.specs.Prelude.{◌≡◌, [], ◌+◌, ◌^◌, ◌%◌, ◌≤◌, length, IsTrue, IsErr, is_err, IfOk, OnOk, OnErr};
 ghost use Rattle.gd_disk.specs.Disks.{IsRead};
 ghost use Rattle.group_terms.specs.Faults.{fails_next};

@@ -1,3 +1,4 @@
+//! The octets of a disk in memory, and the events that change them.
 ghost use Rattle.std.specs.Prelude.{◌≡◌, ℕ, ◌+◌, ◌-◌, ◌≤◌, ◌∷◌, [], ◌++◌, min, max, length, take, drop, IfOk, OnOk, OnErr};
 ghost use Rattle.gd_disk.specs.Disks.{IsRead, written, Torn};
 ghost use Rattle.gd_disk.specs.Media.{replaced};
@@ -33,7 +34,7 @@ fn moved(from: &[u8], into: &mut [u8]) -> usize
     n
 }
 
-/// Writes octets over those at a place and past the end, and notes the event.
+/// Writes octets over what is at a place and past the end, and notes the event.
 pub(crate) fn write(
     alloc: Global,
     octets: &mut Octets,

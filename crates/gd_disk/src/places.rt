@@ -1,3 +1,4 @@
+//! How far the octets of a disk reach.
 ghost use Rattle.std.specs.Prelude.{◌↔◌, ◌+◌, ◌^◌, ◌<◌, length, IsTrue};
 
 /// No place and no end of a disk is past this one.

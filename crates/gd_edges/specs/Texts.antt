@@ -16,6 +16,6 @@ pub record TextWritten : Type 0 where
   pub fails : List ℕ
   pub faults : ℕ
 
--- known octets grow by so many from the front of a piece, or by none
+-- known octets grow by a front of a piece, or by none
 abbrev pub AppendsFront : Option (List ℕ) → Option (List ℕ) → List ℕ → Type 0
 AppendsFront old new piece = (n : ℕ) × (n ≤ length piece) × Appends old new (take n piece)

@@ -1,3 +1,4 @@
+//! Draws from the key stream of ChaCha20.
 ghost use Rattle.std.specs.Prelude.{◌≡◌, ◌+◌, ◌*◌, ◌%◌, ◌^◌, ◌<◌};
 ghost use Rattle.gd_edges.specs.Draws.{stream_block, stream_key, stream_seed, stream_word, stream_words};
 

@@ -1,3 +1,4 @@
+//! Draws from a list, for tests.
 ghost use Rattle.std.specs.Prelude.{◌≡◌, ◌+◌, ◌%◌, ◌^◌, ◌<◌, length};
 ghost use Rattle.gd_edges.specs.Draws.{listed_block};
 

@@ -1,3 +1,4 @@
+//! Where new keys and nonces come from.
 ghost use Rattle.std.specs.Prelude.{◌≡◌, ◌+◌, ◌%◌, ◌^◌, ℕ, List};
 
 /// Where new keys and nonces come from: blocks of 16 octets, one after the other.

@@ -1,5 +1,4 @@
-//! The outside that octets come from and go to: what a source and a sink promise, objects in memory that fail at
-//! chosen calls, and std's readers and writers; who signs and who checks signatures; and where new keys come from.
+//! Where octets come from and go to: sources and sinks, over std's and in memory; who signs and who checks signatures; and draws of new keys.
 #![tactic(auto)]
 
 pub use chacha_draws::ChaChaDraws;

@@ -1,3 +1,4 @@
+//! Who signs.
 ghost use Rattle.std.specs.Prelude.{◌≡◌, ◌<◌, ◌≤◌, ℕ, List, length};
 ghost use Rattle.group_terms.specs.declared.signatures.SignKind.{SignKind};
 

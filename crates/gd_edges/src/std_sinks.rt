@@ -1,3 +1,4 @@
+//! Writers of std as sinks.
 ghost use Rattle.std.specs.Prelude.{◌≡◌, ◌<◌, ◌≤◌, None, length, take, is_err, IfOk, OnOk, OnErr, if◌then◌else◌};
 ghost use Rattle.std.specs.Io.KnownBytes.{Appends, Keeps};
 ghost use Rattle.group_terms.specs.Faults.{Rose, one_more};
@@ -45,7 +46,7 @@ impl<T: Write> Sink for StdSink<T> {
         ensures cause { OnErr result (Rose self.old.faults self.new.faults) }
         ensures stands { OnOk result (self.new.faults ≡ self.old.faults) }
         ensures counted { self.old.faults ≤ self.new.faults }
-        // What the writer itself exposes: these octets come after those that it had.
+        // What the writer itself exposes: these octets come after its earlier ones.
         ensures reached { IfOk result
             (λ n. Appends (T.contents self.old.inner) (T.contents self.new.inner) (take n piece.now)) }
         // Also a call that fails brings nothing to it but a front of the piece.

@@ -1,3 +1,4 @@
+//! Who checks signatures.
 ghost use Rattle.std.specs.Prelude.{◌≡◌, ℕ, List, Bool};
 ghost use Rattle.group_terms.specs.declared.signatures.SignKind.{SignKind};
 

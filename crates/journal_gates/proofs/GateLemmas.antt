@@ -1,4 +1,4 @@
--- What a write behind a closed gate, and one on it, leave.
+-- What a write after a clear commit mark, and one on it, leave.
 -- After one write a crash leaves the old image with that write torn (`IsTorn`), after both one of two forms of file (`IsGated`).
 use Rattle.std.proofs.Common.{◌≡◌, ◌∙◌, ℕ, ◌+◌, ◌≤◌, min, List, [], ◌∷◌, ◌++◌, length, get_or, take, drop, refl, sym, ap, arith, append_assoc, length-append, length-take, take-append-drop, subst, inl, inr}
 use Rattle.std.proofs.lemmas.List.{take_at, drop_at, drop_more, take_all, drop-drop}
@@ -18,7 +18,7 @@ module _ (front : List ℕ) (shut : ℕ) (behind piece : List ℕ) (gate : ℕ) 
   pub length-whole : (rest : List ℕ) → length (front ++ shut ∷ rest) ≡ gate + 1 + length rest
   length-whole rest = omega (arith, ap length (at_head rest), length-append head rest, length-head)
 
-  -- the gate stands in all that a crash leaves of the first write
+  -- the commit mark is in all that a crash leaves of the first write
   pub torn_behind : (n : ℕ) (c : List ℕ) → Torn (gate + 1) n (front ++ shut ∷ behind) c → c ≡ front ++ shut ∷ drop (gate + 1) c
   torn_behind n c torn =
       let long = length-whole behind in
@@ -48,7 +48,7 @@ module _ (front : List ℕ) (shut : ℕ) (behind piece : List ℕ) (gate : ℕ) 
   back_of : drop (gate + 1) (gated front shut piece behind) ≡ later
   back_of = ap (λ (l : List ℕ). drop (gate + 1) l) (at_head later) ∙ drop_at head later (gate + 1) length-head
 
-  -- the piece stands whole in all that a crash leaves of the second write
+  -- the piece is whole in all that a crash leaves of the second write
   pub torn_gate : (c : List ℕ) → Torn gate 1 (gated front shut piece behind) c → c ≡ gated front (get_or c gate 0) piece behind
   torn_gate c torn =
       let file : List ℕ = gated front shut piece behind in

@@ -1,4 +1,4 @@
--- What a crash leaves while a piece is written behind a closed gate, and that is opened.
+-- What a crash leaves while a piece is written after a clear commit mark, and that is set.
 use Rattle.std.proofs.Common.{◌≡◌, ◌+◌, ◌++◌, ◌∷◌, ℕ, List, length}
 use Rattle.gd_disk.specs.Disks.{Only}
 use Rattle.gd_disk.specs.MomentLaws.{joined, weaker}

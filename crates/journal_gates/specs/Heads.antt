@@ -1,4 +1,4 @@
--- What the octets of a gate and a length say.
+-- What the octets of a commit mark and a length say.
 use Rattle.std.specs.Prelude.{ℕ, ◌==◌, ◌&&◌, nat_le, List, [], ◌∷◌, length, if◌then◌else◌}
 use Rattle.byteorder.specs.Endian.{big_from}
 use Rattle.journal_gates.specs.declared.heads.Head.{Head}
@@ -8,8 +8,8 @@ use Rattle.journal_gates.specs.declared.heads.Head.TheVariants.{Shut, Open, Brok
 abbrev pub most_octets : ℕ
 most_octets = 65536
 
--- What octets at a gate say: an open gate is 1, and is followed by the size of a body in 4 octets; any other gate is closed.
--- Octets without a gate, or without a size within the limit after an open one, are broken.
+-- What octets at a commit mark say: a set commit mark is 1, and is followed by the size of a body in 4 octets; any other commit mark is clear.
+-- Octets without a commit mark, or without a size within the limit after a set one, are broken.
 abbrev pub head_in : List ℕ → Head
 head_in [] = Broken
 head_in (gate ∷ rest) =

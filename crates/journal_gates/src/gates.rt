@@ -1,4 +1,4 @@
-//! Writing after a closed gate.
+//! Writing after a clear commit mark.
 ghost use Rattle.std.specs.Prelude.{◌≡◌, ◌<◌, ◌≤◌, ◌+◌, ◌^◌, ◌++◌, [], ◌∷◌, ℕ, List, length, Some, OnOk, OnErr};
 ghost use Rattle.gd_disk.specs.Disks.{Knows, Only, Steps, Torn, written};
 ghost use Rattle.group_terms.specs.Faults.{Rose};
@@ -7,13 +7,13 @@ ghost use Rattle.journal_gates.specs.Gates.{IsSplit, IsGated, IsTorn};
 
 use gd_disk::{Disk, Failed, a_crash_may_leave_nothing_or_all};
 
-/// An open gate.
+/// A set commit mark.
 pub const OPEN: u8 = 1;
 
-/// A closed gate.
+/// A clear commit mark.
 pub const SHUT: u8 = 0;
 
-/// Writes a piece after a closed gate, and opens that gate when the piece is on the device. `Failed` where a call of the disk fails.
+/// Writes a piece after a clear commit mark, and sets that mark when the piece is on the device. `Failed` where a call of the disk fails.
 pub fn write_gated<D: Disk>(disk: &mut D, gate: u64, piece: &[u8]) -> Result<(), Failed>
     requires near { gate < 2 ^ 63 }
     requires there { Knows (shown D.Disk disk.old) (λ file. gate < length file) }

@@ -1,4 +1,4 @@
-//! What the octets of a gate and a length say.
+//! What the octets of a commit mark and a length say.
 ghost use Rattle.std.specs.Prelude.{◌≡◌, ◌≤◌, ℕ};
 ghost use Rattle.journal_gates.specs.Heads.{head_in};
 ghost use Rattle.journal_gates.specs.declared.heads.Head.TheVariants.{Open};
@@ -9,18 +9,18 @@ use byteorder::{BigEndian, ByteOrder};
 /// The most octets of a record's body.
 pub const MOST: usize = 65_536;
 
-/// What the octets of a gate and a length say.
+/// What the octets of a commit mark and a length say.
 #[derive(Clone, Copy)]
 pub enum Head {
-    /// The gate is closed.
+    /// The commit mark is clear.
     Shut,
-    /// The gate is open, and the record's body has so many octets.
+    /// The commit mark is set, and the record's body has `size` octets.
     Open { size: usize },
-    /// There is no gate, or no length within its limit after an open one.
+    /// There is no commit mark, or no length within its limit after a set one.
     Broken,
 }
 
-/// What octets at a gate say, of which five are enough.
+/// What octets at a commit mark say, of which five are enough.
 pub fn head_in(octets: &[u8]) -> Head
     ensures head { result ≡ head_in octets.now }
     ensures short { (size : ℕ) → result ≡ Open size → size ≤ 65536 }

@@ -1,5 +1,4 @@
-//! The gates of a journal: a piece is written after a closed gate, which is opened when the piece is on the device, and a reader goes by what
-//! stands at a gate.
+//! The commit marks of a journal: a piece is written after a clear mark, which is set when the piece is on the device; a reader goes by the marks.
 #![tactic(auto)]
 
 pub use gates::{OPEN, SHUT, write_gated, write_through};

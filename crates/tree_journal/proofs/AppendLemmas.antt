@@ -22,7 +22,7 @@ read_first : (before all : List (List ℕ)) (read : Result (List (List ℕ)) ℕ
 read_first before all (Ok more) is = (more, refl, ap (bodies_of []) is)
 read_first before all (Err at) is = absurd (cc is)
 
--- a closed gate after a front
+-- a clear commit mark after a front
 pub front_closed : (front : List ℕ) (bodies : List (List ℕ)) (gate : ℕ) (behind : List ℕ) → IsFront front bodies → gate ≢ 1
     → records (front ++ gate ∷ behind) ≡ Ok bodies
 front_closed front bodies gate behind is shut =
@@ -81,7 +81,7 @@ module _ (front : List ℕ) (bodies : List (List ℕ)) (shut : ℕ) (behind body
     closed = omega arith;
   }
 
-  -- a place that was reached before stands in the new file
+  -- a place that was reached before is in the new file
   module _ (file : List ℕ) (text : file ≡ front ++ shut ∷ behind) (at : ℕ) (before : List (List ℕ)) (reaches : Reaches file at before) where
     all : records file ≡ Ok bodies
     all = ap records text ∙ front_closed front bodies shut behind is closed
@@ -128,7 +128,7 @@ module _ (front : List ℕ) (bodies : List (List ℕ)) (shut : ℕ) (behind body
         ∙ drop_at before (later ++ body ∷ []) (length before) refl in
         found.1 ∙ (λ i. Ok (rest i))
 
-  -- records that stood before, from a place that was reached, stand in the new file
+  -- the earlier records, from a place that was reached, are in the new file
   module _ (file : List ℕ) (text : file ≡ front ++ shut ∷ behind) (x : ℕ) (later : List ℕ) where
     still_there : (at : ℕ) (before : List (List ℕ)) (next : List ℕ) → Reaches file at before → IsRecordAt file at next
         → IsRecordAt (front ++ x ∷ later) at next
@@ -149,7 +149,7 @@ module _ (front : List ℕ) (bodies : List (List ℕ)) (shut : ℕ) (behind body
               (subst (λ (k : ℕ). Reaches file k (before ++ next ∷ [])) place (next_reached file at before next reaches there)) rest,
         )
 
--- all that an append makes of a file whose closed gate is at a place
+-- all that an append makes of a file whose clear commit mark is at a place
 pub record Ready (file : List ℕ) (end : ℕ) (body : List ℕ) : Type 0 where
   pub front : List ℕ
   pub shut : ℕ

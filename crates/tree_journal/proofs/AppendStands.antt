@@ -1,4 +1,4 @@
--- A journal stands after an append.
+-- A journal is one after an append, too.
 use Rattle.std.proofs.Common.{◌≡◌, ◌∙◌, ◌+◌, ◌≤◌, [], ◌∷◌, ℕ, List, length, Some, sym, subst, arith}
 use Rattle.gd_disk.specs.Disks.{Knows, Only, written}
 use Rattle.gd_disk.specs.MomentLaws.{shown_before}

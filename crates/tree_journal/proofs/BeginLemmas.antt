@@ -12,7 +12,7 @@ use Rattle.journal_gates.specs.Gates.{IsGated, IsTorn}
 use Rattle.tree_journal.specs.Records.{records, is_named, name_text, front_text}
 use Rattle.tree_journal.proofs.FrontLemmas.{first_is_reached, shut_is_last}
 
--- the name behind a gate is a journal without a record, or none
+-- the name after a commit mark is a journal without a record, or none
 named : (gate : ℕ) → (records (gate ∷ (name_text ++ 0 ∷ [])) ≡ Err 0) ⊎ (records (gate ∷ (name_text ++ 0 ∷ [])) ≡ Ok [])
 named gate = elim (cases_eq gate 1) [
   | inl is ↦ inr (ap (λ (g : ℕ). records (g ∷ (name_text ++ 0 ∷ []))) is)

@@ -26,7 +26,7 @@ abbrev with_tail : (rest body : List ℕ) (whole : IsWhole rest body) (tail : Li
 with_tail rest body whole tail =
     record { head = whole.head; more = tail; text = refl; four = whole.four; size = whole.size; short = whole.short }
 
--- a front, and a whole record after an open gate
+-- a front, and a whole record after a set commit mark
 module _ (front : List ℕ) (bodies : List (List ℕ)) (rest body : List ℕ) (whole : IsWhole rest body) where
   abbrev pub longer : List ℕ
   longer = front ++ 1 ∷ (whole.head ++ body)
@@ -67,7 +67,7 @@ module _ (front : List ℕ) (bodies : List (List ℕ)) (rest body : List ℕ) (w
     long = omega (arith, length-longer, is.long, length-records_text-one bodies body);
   }
 
--- the name behind an open gate
+-- the name after a set commit mark
 pub first_front : IsFront (1 ∷ name_text) []
 first_front = record {
   reads = λ rest. steps_enough (length ((1 ∷ name_text) ++ rest)) (length rest) 9 rest (omega arith) (omega arith) ∙ sym (with_none _);
@@ -110,7 +110,7 @@ module _ (file : List ℕ) (at : ℕ) (bodies : List (List ℕ)) where
   end_file end =
       reached_file end.reaches ∙ ap (λ (read : Result (List (List ℕ)) ℕ). with_front bodies read) (end_read end) ∙ (λ i. Ok (append-nil bodies i))
 
--- once the closed gate was found, the file is a journal
+-- once the clear commit mark was found, the file is a journal
 pub end_opens : (file : List ℕ) (end : Option ℕ) → IsSome end → IfSome end (IsLast file)
     → (bodies : List (List ℕ)) × (records file ≡ Ok bodies)
 unfolding IsLast
@@ -161,7 +161,7 @@ found_read file at body found =
         let sum : at + 1 + (4 + length body) ≡ at + (5 + length body) = omega arith in
         ap (λ (l : List ℕ). drop (4 + length body) l) (drop-drop 1 at file) ∙ drop-drop (4 + length body) (at + 1) file ∙ ap (λ (k : ℕ). drop k file) sum
 
--- of the places that reading comes to: the first gate, the next one after a record, and the closed gate
+-- of the places that reading comes to: the first commit mark, the next one after a record, and the clear commit mark
 pub reached_named_file : (file : List ℕ) (at : ℕ) → IsReached file at → records file ≡ bodies_from file 9
 unfolding IsReached
 reached_named_file file at reached = reached_named file at reached.0 reached.1

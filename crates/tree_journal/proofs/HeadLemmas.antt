@@ -1,4 +1,4 @@
--- What the octets at a gate say of the records from there on.
+-- What the octets at a commit mark say of the records from there on.
 use Rattle.std.proofs.Common.{◌≡◌, ◌≢◌, ◌∙◌, inl, inr, ℕ, zero, suc, ◌+◌, ◌-◌, ◌≤◌, ◌<◌, List, [], ◌∷◌, ◌++◌, length, min, take, drop, Option, Some, None, Result, Ok, Err, Bool, true, false, refl, sym, ap, subst, arith, length-take, length-drop}
 use Rattle.std.proofs.lemmas.Bool.{le-leb, lt-leb, eq-eqb, eqb-true, false≢true, cases_lt}
 use Rattle.std.proofs.lemmas.List.{append-nil, drop-drop, drop-take, drop_all, take-take, take_all, take_min}
@@ -121,7 +121,7 @@ open_record file at size (gate ∷ rest) text is there =
       whole_body size rest parts.1 parts.2 parts.3 ((λ i. leb size (sym fewer i)) ∙ there) ∙ (λ i. Some (take size (cut i))),
     )
 
--- the body of so many octets behind a gate and a length, if it is there
+-- the body of this size after a commit mark and a length, if it is there
 abbrev pub body_at : List ℕ → ℕ → ℕ → Option (List ℕ)
 body_at file at size = if leb size (length file - (at + 5)) then Some (take size (drop (at + 5) file)) else None
 
@@ -148,7 +148,7 @@ module _ (file : List ℕ) (at : ℕ) (head : Head) (is : head ≡ head_in (take
   pub found_whole : (size : ℕ) → head ≡ Open size → leb size (length file - (at + 5)) ≡ true → IsRecordAt file at (take size (drop (at + 5) file))
   found_whole size opens there = open_record file at size (drop at file) refl (sym opens ∙ is) there
 
--- The first octets from a place on are enough for the gate and the length, and for a record that ends within them.
+-- The first octets from a place on are enough for the commit mark and the length, and for a record that ends within them.
 module _ (file octets : List ℕ) (at : ℕ) (is : octets ≡ take near_octets (drop at file)) where
   pub near_head : (n : ℕ) → n ≡ min (length octets) 5 → take n octets ≡ take 5 (drop at file)
   near_head n few =

@@ -1,4 +1,4 @@
--- What is read of records that stand one after the other.
+-- What is read of records one after the other.
 use Rattle.std.proofs.Common.{◌≡◌, ◌≢◌, ◌∙◌, ℕ, zero, suc, ◌+◌, ◌-◌, ◌≤◌, ◌<◌, List, [], ◌∷◌, ◌++◌, length, take, drop, Some, None, Result, Ok, Err, Bool, true, false, refl, sym, ap, arith, append_assoc, length-append, length-drop, take-append-drop}
 use Rattle.std.proofs.lemmas.Bool.{le-leb, leb-true, ne_eqb}
 use Rattle.std.proofs.lemmas.List.{take_at, drop_at, append-nil, length-take-le}
@@ -24,7 +24,7 @@ steps_enough (suc m) (suc n) at (gate ∷ rest) some too =
 pub length-record_text : (body : List ℕ) → length (record_text body) ≡ 4 + length body
 length-record_text body = omega (arith, length-append (big_bytes 4 (length body)) body, length-bytes_high_first 4 (length body))
 
--- octets behind a gate that are a whole record, and more
+-- octets after a commit mark that are a whole record, and more
 pub record IsWhole (rest body : List ℕ) : Type 0 where
   pub head : List ℕ
   pub more : List ℕ
@@ -96,7 +96,7 @@ pub with_both : (before more : List (List ℕ)) (read : Result (List (List ℕ))
 with_both before more (Ok bodies) = λ i. Ok (sym (append_assoc before more bodies) i)
 with_both before more (Err at) = refl
 
--- what is read from an open gate on, where a whole record comes after it
+-- what is read from a set commit mark on, where a whole record comes after it
 pub record_read : (steps at enough : ℕ) (rest body : List ℕ) (whole : IsWhole rest body) → length rest < steps → length whole.more ≤ enough
     → records_from steps at (1 ∷ rest) ≡ with_front (body ∷ []) (records_from enough (at + (5 + length body)) whole.more)
 record_read zero at enough rest body whole some too = absurd (omega arith)

@@ -1,4 +1,4 @@
--- What is read of records that stand one after the other, and where no more are.
+-- What is read of records one after the other, and where no more are.
 use Rattle.std.proofs.Common.{◌≡◌, ◌∙◌, ℕ, zero, suc, ◌+◌, ◌≤◌, List, [], ◌∷◌, length, drop, Option, Some, None, Result, Ok, Err, Bool, true, false, sym, ap, arith}
 use Rattle.std.specs.Prelude.{if◌then◌else◌, ◌==◌}
 use Rattle.tree_journal.specs.Records.{records_from, bodies_from, body_next, record_then, with_front, AreRecordsFrom}
@@ -19,7 +19,7 @@ front_breaks : (before : List (List ℕ)) (read : Result (List (List ℕ)) ℕ) 
 front_breaks before (Ok bodies) place is = absurd (cc is)
 front_breaks before (Err at) place is = is
 
--- a gate breaks off a journal, or a later one does
+-- a commit mark breaks off a journal, or a later one does
 gate_breaks : (is_open : Bool) (at place : ℕ) (found : Option (List ℕ)) (later : List ℕ → Result (List (List ℕ)) ℕ)
     → ((body : List ℕ) → later body ≡ Err place → at ≤ place) → (if is_open then record_then at found later else Ok []) ≡ Err place → at ≤ place
 gate_breaks false at place found later after is = absurd (cc is)
@@ -41,6 +41,6 @@ breaks_from (suc steps) at (gate ∷ rest) place is =
     let further : at + 5 + length body ≤ place = breaks_from steps (at + 5 + length body) (drop (4 + length body) rest) place later in
     omega arith) is
 
--- the gate at which it breaks off is not before the first one
+-- the commit mark at which it breaks off is not before the first one
 pub breaks_further_on : (file : List ℕ) (from at : ℕ) → bodies_from file from ≡ Err at → from ≤ at
 breaks_further_on file from at is = breaks_from (length file) from (drop from file) at is

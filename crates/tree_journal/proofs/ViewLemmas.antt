@@ -1,4 +1,4 @@
--- A journal whose cursor moves, or whose closed gate is found.
+-- A journal whose cursor moves, or whose clear commit mark is found.
 use Rattle.std.proofs.Common.{◌≡◌, ℕ, ◌+◌, List, length, Option, Some, IfSome, subst}
 use Rattle.gd_disk.specs.Disks.{Knows}
 use Rattle.gd_disk.specs.Moments.{shown}

@@ -15,7 +15,7 @@ use gd_disk::{Disk, Failed};
 use journal_gates::{SHUT, write_gated};
 
 impl<D: Disk> Journal<D> {
-    /// Appends a record with a body of at most 65,536 octets. It takes no memory. A journal that was opened has to be read to its closed gate
+    /// Appends a record with a body of at most 65,536 octets. It takes no memory. A journal that was opened has to be read to its clear commit mark
     /// first.
     ///
     /// On an honest disk the record is there from Ok on, whatever crash comes. At `DiskFault` it is there whole or not at all, and the journal is
@@ -72,7 +72,7 @@ impl<D: Disk> Journal<D> {
     }
 }
 
-/// Writes a record over the closed gate at a place, and a closed gate after it. It is put together in a room first.
+/// Writes a record over the clear commit mark at a place, and a clear commit mark after it. It is put together in a room first.
 fn write_record<D: Disk>(
     disk: &mut D,
     gate: u64,
@@ -114,7 +114,7 @@ fn write_record<D: Disk>(
     Ok(())
 }
 
-/// Puts a record after its gate, and a closed gate, together at the front of a room.
+/// Puts a record after its commit mark, and a clear commit mark, together at the front of a room.
 fn put_together(room: &mut [u8], body: &[u8])
     requires few { length body.now ≤ 65536 }
     requires fits { 5 + length body.now ≤ length room.old }

@@ -15,10 +15,10 @@ use group_terms::NoMemory;
 use journal_gates::{SHUT, write_gated, write_through};
 use std::alloc::Global;
 
-/// What a journal begins with: an open gate and its name.
+/// What a journal begins with: a set commit mark and its name.
 const BEGINNING: [u8; 9] = *b"\x01GDOIJRNL";
 
-/// The name of a journal, and the closed gate after it.
+/// The name of a journal, and the clear commit mark after it.
 const NAME: [u8; 9] = *b"GDOIJRNL\0";
 
 impl<D: Disk> Journal<D> {
@@ -132,7 +132,7 @@ impl<D: Disk> Journal<D> {
     }
 }
 
-/// Writes a closed gate and nothing else, and after that the name, whose gate is opened last.
+/// Writes a clear commit mark and nothing else, and after that the name, whose commit mark is set last.
 fn begin_file<D: Disk>(disk: &mut D) -> Result<(), Failed>
     ensures octets { OnOk result (Knows (shown D.Disk disk.old) (λ _. shown D.Disk disk.new ≡ Some (front_text [] ++ 0 ∷ []))) }
     ensures durable { OnOk result (Knows (shown D.Disk disk.new) (λ file. Only file (D.may_leave disk.new))) }
@@ -146,7 +146,7 @@ fn begin_file<D: Disk>(disk: &mut D) -> Result<(), Failed>
     Ok(())
 }
 
-/// Empties the file, and writes a closed gate.
+/// Empties the file, and writes a clear commit mark.
 fn shut_file<D: Disk>(disk: &mut D) -> Result<(), Failed>
     ensures octets { OnOk result (Knows (shown D.Disk disk.old) (λ _. shown D.Disk disk.new ≡ Some (0 ∷ []))) }
     ensures durable { OnOk result (Knows (shown D.Disk disk.new) (λ file. Only file (D.may_leave disk.new))) }

@@ -11,10 +11,10 @@ use journal_gates::MOST;
 use std::alloc::Global;
 use std::marker::Model;
 
-/// A piece that is written at once: a length, a body and a closed gate.
+/// A piece that is written at once: a length, a body and a clear commit mark.
 const PIECE: usize = 4 + MOST + 1;
 
-/// The place of the first record's gate: after a gate and eight octets.
+/// The place of the first record's commit mark: after a commit mark and eight octets.
 pub(crate) const FIRST: u64 = 9;
 
 /// A journal on a disk.
@@ -22,9 +22,9 @@ pub(crate) const FIRST: u64 = 9;
 pub struct Journal<D: Disk> {
     pub(crate) disk: D,
     pub(crate) closed: bool,
-    /// The place of the gate of the record that is read next.
+    /// The place of the commit mark of the record that is read next.
     pub(crate) at: u64,
-    /// The place of the closed gate, once it was found.
+    /// The place of the clear commit mark, once it was found.
     pub(crate) end: Option<u64>,
     /// Room in which a piece is put together: as many octets as the longest has.
     pub(crate) piece: Octets,
@@ -65,7 +65,7 @@ impl<D: Disk> Journal<D> {
         self.at = FIRST;
     }
 
-    /// Goes on at the closed gate, if that is known, without reading what is before it.
+    /// Goes on at the clear commit mark, if that is known, without reading what is before it.
     pub fn to_end(&mut self)
         ensures { self.new ≡ record self.old { at = unwrap_or self.old.end self.old.at } }
     {
@@ -74,7 +74,7 @@ impl<D: Disk> Journal<D> {
         }
     }
 
-    /// The place of the gate at which reading goes on.
+    /// The place of the commit mark at which reading goes on.
     pub fn place(&self) -> u64
         ensures { result ≡ self.now.at }
     {
@@ -82,7 +82,7 @@ impl<D: Disk> Journal<D> {
     }
 
     /// Says what is known between two calls of a journal that is not closed: a crash leaves what a read gives and nothing else, the file begins as a
-    /// journal, its records are those from the first gate on, and once the closed gate was found it is a journal.
+    /// journal, its records are those from the first commit mark on, and once the clear commit mark was found it is a journal.
     pub fn rests(&self)
         ensures durable { self.now.closed ≡ false → Knows (shown D.Disk self.now.disk) (λ file. Only file (D.may_leave self.now.disk)) }
         ensures still { self.now.closed ≡ false → Knows (shown D.Disk self.now.disk)

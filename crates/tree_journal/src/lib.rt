@@ -1,5 +1,4 @@
-//! An append-only journal on a disk: on an honest one its records are there whole or not at all, whatever call fails and whenever the machine
-//! stops.
+//! An append-only journal on a disk: on an honest one its records are whole or absent, whatever call fails and whenever the machine stops.
 #![tactic(auto)]
 
 pub use journals::Journal;

@@ -18,38 +18,38 @@ use group_terms::{NoMemory, Octets};
 use journal_gates::{Head, head_in};
 use std::alloc::Global;
 
-/// A gate and a length.
+/// A commit mark and a length.
 const HEAD: usize = 5;
 
 /// How many octets are read first. Most records end within them.
 const NEAR: usize = 2048;
 
-/// What stands at a place of a file.
+/// What is at a place of a file.
 #[derive(Drop)]
 pub(crate) enum Found {
-    /// An open gate, and a whole record.
+    /// A set commit mark, and a whole record.
     Record { body: Octets },
-    /// A closed gate.
+    /// A clear commit mark.
     End,
     /// Neither.
     Nothing,
 }
 
-/// What the first octets at a place of a file tell of what stands there.
+/// What the first octets at a place of a file show of what is there.
 #[derive(Drop)]
 pub(crate) enum Near {
     /// All of it.
     Whole { found: Found },
-    /// That there is an open gate, and that so many octets are due after it and the length, of which some are further on.
+    /// That there is a set commit mark, and that `size` octets are due after it and the length, of which some are further on.
     Begun { size: usize },
 }
 
 impl<D: Disk> Journal<D> {
-    /// Reads the next record into `body`; false at the closed gate, after which records can be appended. `body` is as it was unless a record was
+    /// Reads the next record into `body`; false at the clear commit mark, after which records can be appended. `body` is as it was unless a record was
     /// read.
     ///
-    /// `Closed` after a fault of the disk, `DiskFault`, `NoMemory` for the body, and `NotAJournal` at a gate that is missing, or at an
-    /// open one that no whole record follows.
+    /// `Closed` after a fault of the disk, `DiskFault`, `NoMemory` for the body, and `NotAJournal` at a commit mark that is missing, or at a
+    /// set one that no whole record follows.
     pub fn read_next(&mut self, alloc: Global, body: &mut Octets) -> Result<bool, JournalRefusal>
         ensures whole { result ≡ Ok true → Knows (shown D.Disk self.old.disk) (λ file. IsRecordAt file self.old.at body.new) }
         ensures ahead { result ≡ Ok true → Knows (shown D.Disk self.old.disk)
@@ -83,7 +83,7 @@ impl<D: Disk> Journal<D> {
         Ok(true)
     }
 
-    /// The same without going on after the record.
+    /// Like `read_next`, but does not advance.
     pub fn peek(&mut self, alloc: Global, body: &mut Octets) -> Result<bool, JournalRefusal>
         ensures whole { result ≡ Ok true → Knows (shown D.Disk self.old.disk) (λ file. IsRecordAt file self.old.at body.new) }
         ensures ended { result ≡ Ok false → Knows (shown D.Disk self.old.disk) (λ file. bodies_from file self.old.at ≡ Ok []) }
@@ -136,7 +136,7 @@ impl<D: Disk> Journal<D> {
         self.at += (HEAD + body.len()) as u64;
     }
 
-    /// What stands at the place where reading goes on, which stays.
+    /// What is at the place where reading goes on, which stays.
     fn next(&mut self, alloc: Global) -> Result<Found, JournalRefusal>
         requires { self.old.closed ≡ false }
         ensures found { IfOk result (λ found. Knows (shown D.Disk self.old.disk) (λ file. IsFound file self.old.at found)) }
@@ -161,7 +161,7 @@ impl<D: Disk> Journal<D> {
     }
 }
 
-/// What stands at a place of a file, by the octets that are read into a room: `DiskFault`, and `NoMemory` for a body.
+/// What is at a place of a file, by the octets that are read into a room: `DiskFault`, and `NoMemory` for a body.
 fn found_at<D: Disk>(
     alloc: Global,
     disk: &mut D,
@@ -189,7 +189,7 @@ fn found_at<D: Disk>(
     }
 }
 
-/// What the first octets there tell.
+/// What the first octets there show.
 fn near_at<D: Disk>(
     alloc: Global,
     disk: &mut D,
@@ -214,7 +214,7 @@ fn near_at<D: Disk>(
     Ok(near_in(alloc, &room[..count])?)
 }
 
-/// What stands at an open gate that says so many octets, of which some may be missing.
+/// What is at a set commit mark after which `size` octets are due, of which some may be missing.
 fn begun_at<D: Disk>(
     alloc: Global,
     disk: &mut D,
@@ -242,7 +242,7 @@ fn begun_at<D: Disk>(
     Ok(begun_in(alloc, &room[..count], size)?)
 }
 
-/// What so many octets of a body make of a record; `NoMemory` where there is none for all of them.
+/// The record of a body of which these octets are there; `NoMemory` where there is none for all of them.
 fn begun_in(alloc: Global, octets: &[u8], size: usize) -> Result<Found, NoMemory>
     requires { size ≤ 65536 }
     ensures found { (file : List ℕ) (at : ℕ) → head_in (take 5 (drop at file)) ≡ Open size → octets.now ≡ take size (drop (at + 5) file) →
@@ -258,7 +258,7 @@ fn begun_in(alloc: Global, octets: &[u8], size: usize) -> Result<Found, NoMemory
     Ok(Found::Record { body })
 }
 
-/// What the first octets at a gate tell of what stands there; `NoMemory` where there is none for a record.
+/// What the first octets at a commit mark show of what is there; `NoMemory` where there is none for a record.
 fn near_in(alloc: Global, octets: &[u8]) -> Result<Near, NoMemory>
     ensures near { (file : List ℕ) (at : ℕ) → octets.now ≡ take near_octets (drop at file) → IfOk result (IsNear file at) }
     ensures memory { (file : List ℕ) (at : ℕ) → octets.now ≡ take near_octets (drop at file) →

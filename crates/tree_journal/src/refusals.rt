@@ -15,7 +15,7 @@ pub enum JournalRefusal {
     /// The disk failed.
     #[error("the disk failed")]
     DiskFault,
-    /// The file is no journal; the place of the gate where that shows, or 0 where its beginning is another.
+    /// The file is no journal; the place of the commit mark where that shows, or 0 where its beginning is another.
     #[error("no journal at octet {at}")]
     NotAJournal { at: u64 },
     /// There is no memory.

@@ -2,6 +2,7 @@
 use Rattle.std.specs.Prelude.{◌≡◌, ℕ, ◌+◌, ◌*◌, ◌/◌, ◌%◌, ◌^◌, List, [], ◌∷◌, ◌++◌}
 use mathlib.Core.Option.{some}
 use lib.ListN.{get_elem?}
+use Rattle.atomic_table.specs.Seated.{TableId}
 use Rattle.atomic_table.specs.Table.{State, Me}
 use Rattle.epoch_board.specs.declared.pairs.Seen.{Seen}
 use Rattle.epoch_board.specs.declared.moments.Moment.{Moment}
@@ -10,6 +11,7 @@ use Rattle.epoch_board.specs.declared.rule.View.{View}
 use Rattle.epoch_board.specs.declared.rule.View.TheVariants.{Publishes, Follows}
 use Rattle.epoch_board.specs.Moments.{pairs_in, EndsWith}
 use Rattle.epoch_board.specs.Pairs.{last_pair, StartsWith}
+use Rattle.epoch_board.specs.Passes.{PassState, PublisherState}
 
 -- a pair in one word: the epoch in its upper half, the sequence number in its lower
 abbrev pub word_of : Seen → ℕ
@@ -23,6 +25,13 @@ pair_of word = record { epoch = word / 2 ^ 32; sequence = word % 2 ^ 32 }
 abbrev pub moments_of : View → List Moment
 moments_of (Publishes known beside) = known
 moments_of (Follows known) = known
+
+-- what contracts see of a publisher's seat, and of that of a pass
+abbrev pub publisher_state : TableId → View → PublisherState
+publisher_state board view = record { board = board; published = pairs_in (moments_of view); moments = moments_of view }
+
+abbrev pub pass_state : TableId → View → PassState
+pass_state board view = record { board = board; seen = pairs_in (moments_of view); moments = moments_of view }
 
 -- the other first part of the history that a publisher was told of
 abbrev pub beside_of : View → List Moment

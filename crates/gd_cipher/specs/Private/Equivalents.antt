@@ -4,7 +4,7 @@ use Rattle.std.specs.Prelude.{◌≡◌, ◌≤◌, ◌<◌, ℕ, zero, suc, ◌
 use Rattle.gd_cipher.specs.Blocks.{block_at, undo_sub_bytes, undo_shift_rows, undo_mix_columns}
 use Rattle.gd_cipher.specs.Ciphers.{add_round_key}
 
--- The keys for it, from those of so many rounds: between the first one and the last, each has its columns unmixed.
+-- The keys for it, from the keys of this number of rounds: between the first one and the last, each has its columns unmixed.
 pub record AreEquivalentKeys (rounds : ℕ) (keys equivalent : List ℕ) : Type 0 where
   pub first : block_at equivalent 0 ≡ block_at keys 0
   pub between : (round : ℕ) → 1 ≤ round → round < rounds → block_at equivalent round ≡ undo_mix_columns (block_at keys round)

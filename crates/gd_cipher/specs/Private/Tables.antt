@@ -12,7 +12,7 @@ part p q r s byte = from_be_bytes w32 (times p byte ∷ times s byte ∷ times r
 abbrev pub table : (ℕ → ℕ) → ℕ → ℕ → ℕ → ℕ → List ℕ
 table rule p q r s = map (λ byte. part p q r s (rule byte)) (range_with_len 0 256)
 
--- the words turned to the right by so many bits
+-- the words turned to the right by this number of bits
 abbrev pub turned : ℕ → List ℕ → List ℕ
 turned bits words = map (λ word. rotate_right w32 word bits) words
 

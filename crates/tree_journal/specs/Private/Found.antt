@@ -1,4 +1,4 @@
--- What stands at a place of a file.
+-- What is at a place of a file.
 use Rattle.std.specs.Prelude.{◌≡◌, ◌≢◌, ◌≤◌, ℕ, List, ◌∷◌, length, take, drop, Err}
 use Rattle.tree_journal.specs.Records.{bodies_from, IsRecordAt}
 use Rattle.journal_gates.specs.Heads.{head_in}
@@ -8,11 +8,11 @@ use Rattle.journal_gates.specs.declared.heads.Head.TheVariants.{Open}
 use Rattle.tree_journal.specs.declared.reads.Near.{Near}
 use Rattle.tree_journal.specs.declared.reads.Near.TheVariants.{Whole, Begun}
 
--- a closed gate
+-- a clear commit mark
 abbrev pub IsShutAt : List ℕ → ℕ → Type 0
 IsShutAt file at = (gate : ℕ) × (behind : List ℕ) × (drop at file ≡ gate ∷ behind) × (gate ≢ 1)
 
--- a record, a closed gate, or neither
+-- a record, a clear commit mark, or neither
 abbrev pub IsFound : List ℕ → ℕ → Found → Type 0
 IsFound file at (Record body) = IsRecordAt file at body
 IsFound file at End = IsShutAt file at
@@ -22,7 +22,7 @@ IsFound file at Nothing = bodies_from file at ≡ Err at
 abbrev pub near_octets : ℕ
 near_octets = 2048
 
--- what stands at the place, or that there is an open gate, and so long a record is due after it
+-- what is at the place, or that there is a set commit mark, after which a record of this length is due
 abbrev pub IsNear : List ℕ → ℕ → Near → Type 0
 IsNear file at (Whole found) = IsFound file at found
 IsNear file at (Begun size) = head_in (take 5 (drop at file)) ≡ Open size

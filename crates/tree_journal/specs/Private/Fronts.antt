@@ -1,4 +1,4 @@
--- Where a journal's cursor and its closed gate stand.
+-- Where a journal's cursor and its clear commit mark are.
 -- `IsReached` and `IsLast` are unfoldable: written out, the search opened the existential in every goal of the invariant.
 use Rattle.std.specs.Prelude.{◌≡◌, ◌≢◌, ℕ, ◌+◌, List, ◌∷◌, ◌++◌, length, Option, IfSome}
 use Rattle.gd_disk.specs.Disks.{Knows, Only}
@@ -20,7 +20,7 @@ pub record Reaches (file : List ℕ) (at : ℕ) (bodies : List (List ℕ)) : Typ
   pub place : at ≡ length front
   pub is : IsFront front bodies
 
--- and there is a closed gate
+-- and there is a clear commit mark
 pub record IsEnd (file : List ℕ) (at : ℕ) (bodies : List (List ℕ)) : Type 0 where
   pub reaches : Reaches file at bodies
   pub gate : ℕ
@@ -32,11 +32,11 @@ pub record IsEnd (file : List ℕ) (at : ℕ) (bodies : List (List ℕ)) : Type 
 unfoldable pub IsReached : List ℕ → ℕ → Type 0
 IsReached file at = (bodies : List (List ℕ)) × Reaches file at bodies
 
--- the place of the closed gate
+-- the place of the clear commit mark
 unfoldable pub IsLast : List ℕ → ℕ → Type 0
 IsLast file at = (bodies : List (List ℕ)) × IsEnd file at bodies
 
--- what is known of a disk, of the place where reading goes on and of that of the closed gate, while no call has failed
+-- what is known of a disk, of the place where reading goes on and of that of the clear commit mark, while no call has failed
 pub record Stands {D : Type 0} (g : Ghosts D) (disk : D) (at : ℕ) (end : Option ℕ) : Type 0 where
   pub read : Knows (shown g disk) (λ file. IsReached file at)
   pub ended : Knows (shown g disk) (λ file. IfSome end (IsLast file))
