@@ -1,94 +1,29 @@
 -- The header of a message that was read: its exchange, and its message id.
-use Rattle.std.proofs.Common.{◌≡◌, ℕ, ◌+◌, Bool, true, false, ◌||◌, List, [], ◌∷◌, ◌++◌, Option, None, Some, Result, Ok, Err, length, take, drop, refl, sym, ap, ◌∙◌, subst, inl, inr, append_assoc, arith}
-use Rattle.std.specs.Prelude.{if◌then◌else◌, ◌==◌, nat_le}
-use Rattle.std.specs.List.{list_any}
+use Rattle.std.proofs.Common.{◌≡◌, ℕ, ◌+◌, Bool, true, false, List, [], ◌∷◌, ◌++◌, Option, None, Some, Result, Ok, Err, length, take, drop}
+use Rattle.std.proofs.Common.{refl, sym, ap, ◌∙◌, subst, inl, inr, append_assoc}
+use Rattle.std.specs.Prelude.{if◌then◌else◌}
 use Rattle.std.specs.Str.{bytes_eq}
-use Rattle.std.proofs.lemmas.Bool.{eqb-true}
 use Rattle.std.proofs.lemmas.List.{drop_at, length-append, take_at}
 use Rattle.byteorder.specs.Endian.{big_bytes, big_from}
-use Rattle.gd_wire.specs.Headers.{HeaderFits, header, header_fields, header_text, message_id, suits_exchange, told_length}
-use Rattle.gd_wire.specs.Readings.{Cursor, Reading, ◌>>=◌, ◌>>◌, and_then, check, due_kind, due_octet, from_start, give, octet, octets, value_of}
+use Rattle.gd_wire.specs.Headers.{HeaderFits, header, header_text, suits_exchange}
+use Rattle.gd_wire.specs.Readings.{Cursor, ◌>>◌, from_start, give}
+use Rattle.gd_wire.proofs.HeaderLemmas.{header_found}
+use Rattle.gd_wire.proofs.ReadingLemmas.{and_then_ok, check_ok, same_value, value_ok}
 use Rattle.gd_wire.specs.declared.headers.Header.{Header}
 use Rattle.group_terms.specs.Octets.{AreOctets}
 use Rattle.group_terms.specs.declared.phases.Phase1.{Phase1}
 use Rattle.group_terms.specs.declared.wires.WireFault.{WireFault}
-use Rattle.group_terms.specs.declared.wires.WireWhat.{WireWhat}
-use Rattle.group_terms.specs.declared.wires.WireWhat.TheVariants.{Kind, Length, Short, Value, Version}
+use Rattle.group_terms.specs.declared.wires.WireWhat.TheVariants.{Value}
 use Rattle.pull_msgs.specs.Fits.{MessageFits}
 use Rattle.pull_msgs.specs.Pulls.{Awaited, IsAnswer, IsOfHead, answer_for, due_message, first_awaited, head, head_of, third_awaited}
 use Rattle.pull_msgs.specs.Hashes.{hash_of}
 use Rattle.pull_msgs.specs.Readings.{PullRead}
 use Rattle.pull_msgs.specs.Texts.{pull_exchange}
 use Rattle.pull_msgs.specs.declared.faults.PullFault.{PullFault}
-use Rattle.pull_msgs.specs.declared.faults.PullFault.TheVariants.{BadHash, Malformed}
+use Rattle.pull_msgs.specs.declared.faults.PullFault.TheVariants.{BadHash}
 use Rattle.pull_msgs.specs.declared.messages.First.{First}
 use Rattle.pull_msgs.specs.declared.messages.Third.{Third}
 use Rattle.pull_sessions.proofs.IndexLemmas.{bytes_eq-is}
-
--- ---- what a reading that gave something went through
-
-bound : {A B : Type 0} (first : Result (A × Cursor) WireFault) (next : A → Reading B) (value : B × Cursor) → and_then first next ≡ Ok value
-    → (read : A × Cursor) × (first ≡ Ok read) × (next read.0 read.1 ≡ Ok value)
-bound (Ok read) next value is = (read, refl, is)
-bound (Err fault) next value is = absurd (cc)
-
-passed : {B : Type 0} (holds : Bool) (what : WireWhat) (at : ℕ) (next : Reading B) (cursor : Cursor) (value : B × Cursor)
-    → and_then (check holds what at cursor) (λ done. next) ≡ Ok value → (holds ≡ true) × (next cursor ≡ Ok value)
-passed true what at next cursor value is = (refl, is)
-passed false what at next cursor value is = absurd (cc)
-
-given : {A : Type 0} → A → Result (A × Cursor) WireFault → A
-given other (Ok read) = read.0
-given other (Err fault) = other
-
-gives_same : {A : Type 0} (one other : A) (at now : Cursor) → give one at ≡ Ok (other, now) → one ≡ other
-unfolding given
-gives_same one other at now is = ap (given one) is
-
-same_value : {A : Type 0} (one other : A) (read : Result A WireFault) → read ≡ Ok one → read ≡ Ok other → one ≡ other
-same_value one other read first second = cc
-
-valued : {A : Type 0} (read : Result (A × Cursor) WireFault) (value : A) → value_of read ≡ Ok value → (now : Cursor) × (read ≡ Ok (value, now))
-valued (Ok read) value is =
-    let same = same_value read.0 value (Ok read.0) refl is in
-    (read.1, λ i. Ok (same i, read.1))
-valued (Err fault) value is = absurd (cc)
-
--- ---- the exchange of a header
-
-or_nothing : (b : Bool) → (b || false) ≡ true → b ≡ true
-or_nothing true is = refl
-or_nothing false is = is
-
-kind_is : (exchange kind : ℕ) (cursor now : Cursor) → due_kind (exchange ∷ []) cursor ≡ Ok (kind, now) → kind ≡ exchange
-unfolding due_kind
-kind_is exchange kind cursor now is =
-    let read = bound (octet cursor) (λ kind. check (list_any (λ due. due == kind) (exchange ∷ [])) (Kind kind) (cursor.base + cursor.at) >> give kind) (kind, now) is in
-    let test = passed (list_any (λ due. due == read.0.0) (exchange ∷ [])) (Kind read.0.0) (cursor.base + cursor.at) (give read.0.0) read.0.1 (kind, now) read.2 in
-    sym (eqb-true exchange read.0.0 (or_nothing (exchange == read.0.0) test.0) ∙ gives_same read.0.0 kind read.0.1 now test.1)
-
-fields_exchange : (exchange size : ℕ) (cursor : Cursor) (found : Header) (now : Cursor) → header_fields exchange size cursor ≡ Ok (found, now)
-    → found.exchange ≡ exchange
-unfolding header_fields
-fields_exchange exchange size cursor found now is =
-    let cookies = bound (octets 16 cursor) _ (found, now) is in
-    let next = bound (octet cookies.0.1) _ (found, now) cookies.2 in
-    let version = bound (due_octet 16 Version next.0.1) _ (found, now) next.2 in
-    let kind = bound (due_kind (exchange ∷ []) version.0.1) _ (found, now) version.2 in
-    let flags = bound (due_octet 1 Value kind.0.1) _ (found, now) kind.2 in
-    let message = bound (message_id exchange flags.0.1) _ (found, now) flags.2 in
-    let told = bound (told_length size message.0.1) _ (found, now) message.2 in
-    sym (ap (λ (header : Header). header.exchange) (gives_same _ found told.0.1 now told.2))
-    ∙ kind_is exchange kind.0.0 version.0.1 kind.0.1 kind.1
-
-header_exchange : (exchange : ℕ) (datagram : List ℕ) (found : Header) (now : Cursor) → header exchange (from_start 0 datagram) ≡ Ok (found, now)
-    → found.exchange ≡ exchange
-unfolding header
-header_exchange exchange datagram found now is =
-    let size = length datagram in
-    let long = passed (nat_le 28 size) Short size (check (nat_le size 65507) Length 65507 >> header_fields exchange size) (from_start 0 datagram) (found, now) is in
-    let few = passed (nat_le size 65507) Length 65507 (header_fields exchange size) (from_start 0 datagram) (found, now) long.1 in
-    fields_exchange exchange size (from_start 0 datagram) found now few.1
 
 -- ---- the header of a message of a pull
 
@@ -97,12 +32,15 @@ abbrev HasId : Option (List ℕ) → List ℕ → Type 0
 HasId None message = Unit {0}
 HasId (Some known) message = message ≡ known
 
-id_of : (known : Option (List ℕ)) (read : Header × Cursor) (found : Header) (now : Cursor)
-    → (due_message known read.0.message >> give read.0) read.1 ≡ Ok (found, now) → (read.0 ≡ found) × HasId known read.0.message
-id_of None read found now is = (gives_same read.0 found read.1 now is, tt)
-id_of (Some known) read found now is =
-    let test = passed (bytes_eq read.0.message known) Value 20 (give read.0) read.1 (found, now) is in
-    (gives_same read.0 found read.1 now test.1, bytes_eq-is read.0.message known test.0)
+given_is : (read found : Header) (at now : Cursor) → give read at ≡ Ok (found, now) → read ≡ found
+given_is read found at now is = ap (λ (given : Header × Cursor). given.0) (same_value (read, at) (found, now) is)
+
+id_of : (known : Option (List ℕ)) (read : Header) (at : Cursor) (found : Header) (now : Cursor)
+    → (due_message known read.message >> give read) at ≡ Ok (found, now) → (read ≡ found) × HasId known read.message
+id_of None read at found now is = (given_is read found at now is, tt)
+id_of (Some known) read at found now is =
+    let test = check_ok (bytes_eq read.message known) Value 20 at (λ done. give read) (found, now) is in
+    (given_is read found at now test.1, bytes_eq-is read.message known test.0)
 
 record HasHeader (datagram : List ℕ) (known : Option (List ℕ)) (found : Header) : Type 0 where
   now : Cursor
@@ -113,13 +51,14 @@ head_read : (phase : Phase1) (known : Option (List ℕ)) (datagram : List ℕ) (
     → HasHeader datagram known found
 unfolding head
 head_read phase known datagram found is =
-    let whole = valued (head phase known (from_start 0 datagram)) found is in
-    let read = bound (header pull_exchange (from_start 0 datagram)) _ (found, whole.0) whole.1 in
-    let cookies = passed (bytes_eq read.0.0.cookies phase.cookies) Value 0 (due_message known read.0.0.message >> give read.0.0) read.0.1 (found, whole.0) read.2 in
-    let same = id_of known read.0 found whole.0 cookies.1 in
+    let whole = value_ok (head phase known (from_start 0 datagram)) found is in
+    let read = and_then_ok (header pull_exchange (from_start 0 datagram)) _ found whole.0 whole.1 in
+    let cookies = check_ok (bytes_eq read.0.cookies phase.cookies) Value 0 read.1 (λ done. due_message known read.0.message >> give read.0) (found, whole.0)
+    read.3 in
+    let same = id_of known read.0 read.1 found whole.0 cookies.1 in
     record {
-      now = read.0.1;
-      reads = read.1 ∙ (λ i. Ok (same.0 i, read.0.1));
+      now = read.1;
+      reads = read.2 ∙ (λ i. Ok (same.0 i, read.1));
       id = subst (λ (header : Header). HasId known header.message) same.0 same.1;
     }
 
@@ -187,11 +126,12 @@ module _ (laws : Laws) (datagram : List ℕ) (octets : AreOctets datagram) where
   message_in : (known : Option (List ℕ)) (found : Header) → HasHeader datagram known found → HasMessage datagram found.message
   message_in known found has =
       let h = laws.fits pull_exchange datagram found has.now octets has.reads in
+      let exchange = (header_found pull_exchange datagram (found, has.now) has.reads).exchange_is in
       record {
         fits = record {
           size = h.message;
           octets = h.message_octets;
-          suits = subst (λ exchange. suits_exchange exchange (big_from 0 4 found.message) ≡ true) (header_exchange pull_exchange datagram found has.now has.reads) h.suits;
+          suits = subst (λ exchange. suits_exchange exchange (big_from 0 4 found.message) ≡ true) exchange h.suits;
         };
         at = ap (λ (text : List ℕ). take 4 (drop 20 text)) (laws.text pull_exchange datagram found has.now octets has.reads)
             ∙ id_in found has.now.left h.cookies h.message;
