@@ -140,31 +140,42 @@ stands_there {draws = draws} same server stands = subst (λ at. Stands draws at 
 -- the step that a change takes
 module _ {D G R : Type 0} {draws : DrawGhosts R} {core view : View D G R} (same : core ≡ view)
     (server : Server) (stands : Stands draws view server) where
+  -- it waits where there is no reason against it
+  granted : (change : Change) (done : Unit {0}) (queue : List Change) {given due : Option Refusal} → given ≡ due → GivesRefusal given (Ok done)
+      → queue ≡ core.queue ++ change ∷ []
+      → (next : Server) × ((due ≡ None) × (next ≡ with_change server change)) × Stands draws (record core { queue = queue }) next
+  granted change done queue {due = due} is gives more = (
+    with_change server change,
+    (none_given due done (subst (λ refusal. GivesRefusal refusal (Ok done)) is gives), refl),
+    stands_with_change draws core server (stands_there same server stands) change queue more,
+  )
+
+  -- and else is refused for that reason
+  refused : (why : Refusal) (queue : List Change) {given due : Option Refusal} → given ≡ due → GivesRefusal given (Err why) → queue ≡ core.queue
+      → (next : Server) × ((due ≡ Some why) × (next ≡ server)) × Stands draws (record core { queue = queue }) next
+  refused why queue {due = due} is gives unchanged = (
+    server,
+    (some_given due why (subst (λ refusal. GivesRefusal refusal (Err why)) is gives), refl),
+    stands_as_before draws core server (stands_there same server stands) queue unchanged,
+  )
+
   pub join_step : (m : Name) (result : Result (Unit {0}) Refusal) (queue : List Change)
       → GivesRefusal (why_no_join core.need core.tree.depth core.tree.holders core.queue m) result
       → OnOk result (queue ≡ core.queue ++ In m ∷ []) → OnErr result (queue ≡ core.queue)
       → (next : Server) × IsJoin server m result next × Stands draws (record core { queue = queue }) next
   join_step m (Ok done) queue gives more unchanged =
-      let was = stands_there same server stands in
-      let due = subst (λ refusal. GivesRefusal refusal (Ok done)) (same_no_join draws core server was m) gives in
-      (with_change server (In m), (none_given _ done due, refl), stands_with_change draws core server was (In m) queue more)
+      granted (In m) done queue (same_no_join draws core server (stands_there same server stands) m) gives more
   join_step m (Err why) queue gives more unchanged =
-      let was = stands_there same server stands in
-      let due = subst (λ refusal. GivesRefusal refusal (Err why)) (same_no_join draws core server was m) gives in
-      (server, (some_given _ why due, refl), stands_as_before draws core server was queue unchanged)
+      refused why queue (same_no_join draws core server (stands_there same server stands) m) gives unchanged
 
   pub leave_step : (m : Name) (result : Result (Unit {0}) Refusal) (queue : List Change)
       → GivesRefusal (why_no_leave core.need core.tree.depth core.tree.holders core.queue m) result
       → OnOk result (queue ≡ core.queue ++ Out m ∷ []) → OnErr result (queue ≡ core.queue)
       → (next : Server) × IsLeave server m result next × Stands draws (record core { queue = queue }) next
   leave_step m (Ok done) queue gives more unchanged =
-      let was = stands_there same server stands in
-      let due = subst (λ refusal. GivesRefusal refusal (Ok done)) (same_no_leave draws core server was m) gives in
-      (with_change server (Out m), (none_given _ done due, refl), stands_with_change draws core server was (Out m) queue more)
+      granted (Out m) done queue (same_no_leave draws core server (stands_there same server stands) m) gives more
   leave_step m (Err why) queue gives more unchanged =
-      let was = stands_there same server stands in
-      let due = subst (λ refusal. GivesRefusal refusal (Err why)) (same_no_leave draws core server was m) gives in
-      (server, (some_given _ why due, refl), stands_as_before draws core server was queue unchanged)
+      refused why queue (same_no_leave draws core server (stands_there same server stands) m) gives unchanged
 
 -- ---- what is stored: the record that is written is read as the batch
 

@@ -48,7 +48,7 @@ module _ (block : ℕ → List ℕ) (place : ℕ) (values : BatchValues) (positi
   pub ids_are : ids_of values.nodes ≡ drawn
   ids_are = ap (λ (v : BatchValues). ids_of v.nodes) are ∙ ids_drawn block place positions ∙ same
 
-  -- an SPI of traffic is none of those that are reserved
+  -- an SPI of traffic is no reserved one
   pub high_there : length values.traffic.spi ≡ 4 → 128 ≤ octet_at values.traffic.spi 0
   high_there long = high_bit values.traffic.spi _ (ap (λ (v : BatchValues). v.traffic.spi) are) long
 

@@ -1,4 +1,4 @@
--- Those who come in with a batch, and what they are told.
+-- The members who come in with a batch, and what they are told.
 -- A loop that answers some items of a list: the names so far and those of what is left are all names, which also bounds the index.
 use Rattle.std.proofs.Common.{◌≡◌, ◌∙◌, ℕ, ◌+◌, ◌*◌, ◌^◌, ◌<◌, ◌≤◌, Bool, true, false, List, [], ◌∷◌, ◌++◌, length, map, get_or, drop, Option, None, Some, refl, sym, ap, subst, arith}
 use Rattle.std.specs.List.{All, position}
@@ -111,7 +111,7 @@ module _ (tree : Present) (kept : Kept) (values : BatchValues) (spi : List ℕ) 
   abbrev pub IsToldRight : List Made → Name × Keyed → Type 0
   IsToldRight list reply = IsKeyedOf tree.depth spi (list ++ record { changes = batch; values = values } ∷ []) reply.0 reply.1
 
-  -- whatever batches the tree stands for, if the values are those that were drawn
+  -- whatever batches the tree represents, if the values are the ones that were drawn
   abbrev pub IsToldWhere : Name × Keyed → Type 0
   IsToldWhere reply =
       (list : List Made) → StandsFor tree (batches_made list) → KeepsLast kept list

@@ -8,8 +8,9 @@ use Rattle.gd_disk.specs.declared.disks.Disk.{Ghosts}
 use Rattle.gd_edges.specs.declared.draws.Draws.{Ghosts as DrawGhosts}
 use Rattle.gd_edges.specs.declared.signers.Signer.{Ghosts as SignerGhosts}
 use Rattle.group_terms.specs.declared.changes.Change.{Change}
-use Rattle.group_values.specs.Values.{Made}
+use Rattle.group_values.specs.Values.{Kept, Made}
 use Rattle.group_model.specs.Places.{Fits, Holders}
+use Rattle.group_model.specs.Present.{Present}
 use Rattle.group_model.specs.Servers.{MayHave, Server, opened_server, reopened}
 use Rattle.group_model.specs.declared.entries.PushPair.{PushPair}
 use Rattle.group_pushes.specs.Pairs.{IsPairIfStayed}
@@ -65,36 +66,47 @@ module _ {D G R : Type 0} (draws : DrawGhosts R) (old : View D G R) (server : Se
       (stands_as draws new found group)
 
 -- what is found when a journal is opened again
-module _ {D G R : Type 0} (disk : Ghosts D) (signing : SignerGhosts G) (draws : DrawGhosts R) (old new : View D G R)
-    (same_signer : new.signer ≡ old.signer) (same_draws : new.draws ≡ old.draws) (shows : shown disk new.disk ≡ shown disk old.disk)
-    (need : new.need ≡ false) (queue : new.queue ≡ [])
-    (list : List Made) (group : IsGroupOf new.head new.tree new.kept list)
-    (has : Knows (shown disk new.disk) (λ file. IsGroup file new.head (stored_list new.head.depth list))) (resent : Option PushPair)
-    (pair : IsPairIfStayed signing new.signer new.head.depth new.head.spi list resent) where
-  pub read_anew : (all : List Made) × Stands draws new (opened_server new.head.depth new.head.limit all (draws.place_of old.draws))
-      × Knows (shown disk old.disk) (λ file. IsGroup file new.head (stored_list new.head.depth all))
-      × IsPairIfStayed signing old.signer new.head.depth new.head.spi all resent
+module _ {D G R : Type 0} (disk : Ghosts D) (signing : SignerGhosts G) (draws : DrawGhosts R) {inside old : View D G R} (same : inside ≡ old)
+    (now : D) (shows : shown disk now ≡ shown disk inside.disk) (head : Head) (tree : Present) (kept : Kept) (queue : List Change) (none : queue ≡ [])
+    (list : List Made) (group : IsGroupOf head tree kept list) (has : Knows (shown disk now) (λ file. IsGroup file head (stored_list head.depth list)))
+    (resent : Option PushPair) (pair : IsPairIfStayed signing inside.signer head.depth head.spi list resent) where
+  -- the core that is open then
+  abbrev new : View D G R
+  new = record { disk = now; signer = inside.signer; draws = inside.draws; head = head; tree = tree; kept = kept; queue = queue; need = false }
+
+  was_shown : shown disk now ≡ shown disk old.disk
+  was_shown = shows ∙ ap (λ (core : View D G R). shown disk core.disk) same
+
+  same_draws : inside.draws ≡ old.draws
+  same_draws = ap (λ (core : View D G R). core.draws) same
+
+  same_signer : inside.signer ≡ old.signer
+  same_signer = ap (λ (core : View D G R). core.signer) same
+
+  pub read_anew : (all : List Made) × Stands draws new (opened_server head.depth head.limit all (draws.place_of old.draws))
+      × Knows (shown disk old.disk) (λ file. IsGroup file head (stored_list head.depth all))
+      × IsPairIfStayed signing old.signer head.depth head.spi all resent
   read_anew = (
     list,
-    stands_opened draws new list group need queue (draws.place_of old.draws) (ap draws.place_of same_draws),
-    (λ file is. has file (shows ∙ is)),
-    subst (λ (who : G). IsPairIfStayed signing who new.head.depth new.head.spi list resent) same_signer pair,
+    stands_opened draws new list group refl none (draws.place_of old.draws) (ap draws.place_of same_draws),
+    (λ file is. has file (was_shown ∙ is)),
+    subst (λ (who : G). IsPairIfStayed signing who head.depth head.spi list resent) same_signer pair,
   )
 
   -- where the file was one that the server may find
   pub found_again : OneGroup → (server : Server) → Stands draws old server → Knows (shown disk old.disk) (λ file. IsFileOf old.head server file
-      → (all : List Made) × (next : Server) × (MayHave server all × (next ≡ reopened server all)) × Stands draws new next × (new.head ≡ old.head)
-      × IsOnDisk disk new.disk new.head next × IsPairIfStayed signing old.signer server.depth old.head.spi all resent)
+      → (all : List Made) × (next : Server) × (MayHave server all × (next ≡ reopened server all)) × Stands draws new next × (head ≡ old.head)
+      × IsOnDisk disk now head next × IsPairIfStayed signing old.signer server.depth old.head.spi all resent)
   found_again one server stands file is (all, may, there) =
-      let was = one_list one file new.head old.head list all (has file (shows ∙ is)) there in
+      let was = one_list one file head old.head list all (has file (was_shown ∙ is)) there in
       let depth = ap (λ (h : Head). h.depth) was.0 ∙ stands.depth in
       let spi = ap (λ (h : Head). h.spi) was.0 in (
         all,
         reopened server all,
         (may, refl),
-        stands_again draws old server stands new list all group was.0 was.1 need queue same_draws,
+        stands_again draws old server stands new list all group was.0 was.1 refl none same_draws,
         was.0,
-        (λ f shows_it. (all, inl refl, subst (λ l. IsGroup f new.head (stored_list new.head.depth l)) was.1 (has f shows_it))),
+        (λ f shows_it. (all, inl refl, subst (λ l. IsGroup f head (stored_list head.depth l)) was.1 (has f shows_it))),
         subst (λ (x : G × ℕ × List ℕ × List Made). IsPairIfStayed signing x.0 x.1 x.2 x.3 resent)
             (λ i. (same_signer i, depth i, spi i, was.1 i)) pair,
       )

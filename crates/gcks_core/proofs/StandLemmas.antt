@@ -1,5 +1,5 @@
 -- Which servers a core is.
--- A step of a core is a step of every server that it stands for (`Stands`): `stands_as` gives a server for a list, `group_of` the list of a server.
+-- A step of a core is a step of every server that it represents (`Stands`): `stands_as` gives a server for a list, `group_of` the list of a server.
 use Rattle.std.proofs.Common.{◌≡◌, ◌∙◌, ◌+◌, ◌^◌, List, None, refl, sym, ap, subst}
 use Rattle.gd_edges.specs.declared.draws.Draws.{Ghosts as DrawGhosts}
 use Rattle.group_terms.specs.Names.{Name}

@@ -89,8 +89,8 @@ impl<D: Disk, G: Signer, R: Draws> Core<D, G, R> {
         queue_leave(self.stopped, &self.tree, &mut self.queue, member)
     }
 
-    /// Makes all that the changes that wait make as a batch: the values of its keys, which are drawn now, its record, and what it puts out, with what
-    /// those are told who come in. Nothing but the draws moves, and these not where it is refused for another reason than being out of memory.
+    /// Makes all that the changes that wait make as a batch: the values of its keys, which are drawn now, its record, and what it puts out, with the keys for
+    /// each member who comes in. Nothing but the draws moves, and these not where it is refused for another reason than being out of memory.
     ///
     /// `NeedsReopen`; `Spent` where the epoch is the limit, or else where the number of the last push would be past it, exactly there; `NoMemory`.
     pub fn prepare(&mut self, alloc: Global) -> Result<Prepared, Refusal>

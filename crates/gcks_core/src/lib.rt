@@ -1,5 +1,4 @@
-//! The core of a key server: one group in its journal, its present tree with the values of its keys, the changes that wait, and the batches that are
-//! made of them, with their pushes.
+//! The core of a key server: a group in its journal, its present tree with the values of its keys, changes that wait, and batches with their pushes.
 #![tactic(auto)]
 
 pub use batch_queue::Queue;

@@ -96,7 +96,7 @@ impl<D: Disk, G: Signer, R: Draws> Core<D, G, R> {
         self.tree.members()
     }
 
-    /// The leaf of a member; `None` exactly for who is none.
+    /// The leaf of a member; `None` iff not a member.
     pub fn place(&self, member: &MemberName) -> Option<LkhId>
         ensures { result ≡ place_in self.now.tree.depth self.now.tree.holders member.now }
     {
@@ -117,7 +117,7 @@ impl<D: Disk, G: Signer, R: Draws> Core<D, G, R> {
         self.tree.member_at(leaf)
     }
 
-    /// What a member is told that asks now. It takes no memory. `NeedsReopen` exactly where that is so.
+    /// The keys for a present member. It takes no memory. `NeedsReopen` iff it has to be opened again.
     pub fn reply(&self, member: &MemberName) -> Result<Keyed, Refusal>
         requires { is_member self.now.tree.holders member.now ≡ true }
         ensures ok { (server : Server) → Stands R.Draws self.now server →
@@ -153,7 +153,7 @@ impl<D: Disk, G: Signer, R: Draws> Core<D, G, R> {
         self.queue.batch()
     }
 
-    /// The value of the present traffic key; `None` exactly at epoch 0.
+    /// The value of the present traffic key; `None` iff the epoch is 0.
     pub fn traffic(&self) -> Option<TrafficValue>
         ensures { result ≡ self.now.kept.traffic }
     {
@@ -184,7 +184,7 @@ impl<D: Disk, G: Signer, R: Draws> Core<D, G, R> {
         self.stopped
     }
 
-    /// What it stood on, as it is.
+    /// Returns disk, signer and draws.
     pub fn into_parts(self) -> Parts<D, G, R>
         ensures { result ≡ record { disk = self.disk; signer = self.signer; draws = self.draws } }
     {

@@ -4,7 +4,7 @@ use gd_disk::Disk;
 use gd_edges::{Draws, Signer};
 use group_terms::{List, Wrap};
 
-/// What a core stands on: a disk for its journal, who signs its pushes, and where its keys come from.
+/// What a core is built on: a disk for its journal, who signs its pushes, and where its keys come from.
 #[derive(Drop)]
 pub struct Parts<D, G, R> {
     pub disk: D,
@@ -20,7 +20,7 @@ pub struct NewGroup {
     pub limit: u32,
 }
 
-/// Why no core was made or opened, and what it would stand on.
+/// Why no core was made or opened, and the parts, given back.
 #[derive(Drop)]
 pub struct Opening<D, G, R> {
     pub refusal: Refusal,
@@ -35,7 +35,7 @@ pub struct CoreOpened<D: Disk, G: Signer, R: Draws> {
 }
 
 /// What a batch puts out: the epoch that it made, the number of the last push, how many members there are, what is encrypted, the pair of pushes if
-/// somebody stayed, and what those are told who come in, in the order of their changes.
+/// somebody stayed, and the keys for each member who comes in, in the order of their changes.
 #[derive(Drop)]
 pub struct CoreOutput {
     pub epoch: u32,

@@ -29,7 +29,7 @@ impl Model for Prepared {
 }
 
 impl Prepared {
-    /// What those are told who come in with the batch, in the order of their changes.
+    /// The keys for each member who comes in with the batch, in the order of their changes.
     pub fn told(&self) -> &[(MemberName, Keyed)]
         ensures { result.now ≡ self.now.output.told }
     {

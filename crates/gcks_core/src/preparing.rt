@@ -34,7 +34,7 @@ use group_values::{KeptValues, draw_values};
 use std::alloc::Global;
 use tree_store::{Head, TreeStore};
 
-/// Makes all that a batch makes; only the draws move, and these not where it is refused for another reason than want of memory.
+/// Makes all that a batch makes; only the draws move, and these not where it is refused for another reason than being out of memory.
 pub(crate) fn prepare_batch<D: Disk, G: Signer, R: Draws>(
     alloc: Global,
     tree: &PresentTree,
@@ -182,7 +182,7 @@ fn wraps_of(alloc: Global, pushes: &Option<PushPair>) -> Result<List<Wrap>, NoMe
     }
 }
 
-/// What those are told who come in with a batch.
+/// The keys for each member who comes in with a batch.
 fn replies(
     alloc: Global,
     tree: &PresentTree,

@@ -43,7 +43,7 @@ pub record HasDrawn {D G R : Type 0} (draws : DrawGhosts R) (old new : CoreView 
   pub rest : new ≡ record old { draws = new.draws }
 
 module _ {D G R : Type 0} (draws : DrawGhosts R) where
-  -- it stands for the server after that
+  -- it represents the server after that
   stands_drawn : (old new : CoreView D G R) (server : Server) → HasDrawn draws old new → Stands draws old server → Stands draws new (after_draws server 1)
   stands_drawn old new server drawn stands =
       subst (λ core. Stands draws core (after_draws server 1)) (sym drawn.rest) (record {

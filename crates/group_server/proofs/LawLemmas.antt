@@ -220,7 +220,7 @@ module _ {D G : Type 0} (d : DiskGhosts D) (g : SignerGhosts G) (signer : G) (bl
       let leaving : IsLeaving m host entry.answer entry.outside next = served host (Leave m) entry next asked step in
       leaving.answers ∙ ap (λ reason. unless_refused reason Done) (may_leave host m may)
 
-  -- where the disk counted no fault, none is told
+  -- where the disk counted no fault, it did not fail
   no_rise : (old new : D) → IsFaultless d g signer block old new → Counts d true old new → ⊥
   no_rise old new still (inl more) = omega (arith, more, still.same)
   no_rise old new still (inr last) = omega (arith, last, still.same, still.countable)

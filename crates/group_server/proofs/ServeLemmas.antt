@@ -48,7 +48,7 @@ use Rattle.server_steps.specs.Refusals.{names_group, refusal_of, refusal_to_firs
 use Rattle.server_steps.specs.Serves.{GoesOn, Serves}
 use Rattle.server_steps.specs.Steps.{IsServed}
 use Rattle.server_steps.specs.Views.{View}
-use Rattle.group_server.specs.Private.Accepted.{AcceptsFirst, AcceptsJoin, AcceptsMember}
+use Rattle.group_server.specs.Private.Accepted.{AcceptsFirst, AcceptsJoin, AcceptsMember, StepsBy}
 use Rattle.group_server.proofs.JudgeLemmas.{same_member}
 
 -- ---- answers beside which nothing is noted but the place of the draws
@@ -312,68 +312,55 @@ module _ {D G R : Type 0} (d : DiskGhosts D) (g : SignerGhosts G) (draws : DrawG
               server = server;
             })
 
-        pub accepted_member : (new : View D G R) (answer : Answer) → reason ≡ None → is_member old.core.tree.holders m ≡ true
-            → AcceptsMember d g draws m third datagram answer old new → Serves d g draws (Serve asker datagram) answer old new
-        accepted_member new answer none member accepts =
+        -- it is accepted, by this step, which is the one that is due to its member, or memory is short
+        accepted_third : (Step : Host D → Answer → Outside → Host D → Type 0) (new : View D G R) (answer : Answer) → reason ≡ None
+            → ((host next : Host D) (outside : Outside) → Step host answer outside next → IsPlain answer)
+            → ((host next : Host D) (outside : Outside) → IsServerOf d draws old host → Step host answer outside next
+            → MatchBool (is_member (members_now host.server) m)
+            (Replies g old.core.signer (draws.block_at old.core.draws) host m third datagram answer outside next)
+            (Queues g old.core.signer (draws.block_at old.core.draws) host m third datagram answer outside next))
+            → StepsBy d g draws (λ host answer outside next. Step host answer outside next ⊎ Says (Refused NoMemory) host answer outside next) answer old new
+            → Serves d g draws (Serve asker datagram) answer old new
+        accepted_third Step new answer none plain due accepts =
             looked_at (Ok (record { member = m; what = NextThird third })) answer old new goes look accepts.goes_on (λ host server.
+            let outside : Outside = beside answer (draws.place_of old.core.draws) in
             let step = accepts.each host server in record {
-              plain = plain_of host step.0 step.1;
+              plain = plain_of host step.0 outside step.1;
               next = step.0;
               answered =
-                  subst (λ reason. AnswersThird g old.core.signer (draws.block_at old.core.draws) host reason m third datagram answer
-                  (beside answer (draws.place_of old.core.draws)) step.0) (sym none ∙ third_due host server)
-                  (put host step.0 (sym (same_member server.stands m) ∙ member) step.1);
+                  subst (λ reason. AnswersThird g old.core.signer (draws.block_at old.core.draws) host reason m third datagram answer outside step.0)
+                  (sym none ∙ third_due host server) (answers host step.0 outside server step.1);
               disk = step.2;
               server = step.3;
             })
           where
-            plain_of : (host next : Host D)
-                → Replies g old.core.signer (draws.block_at old.core.draws) host m third datagram answer (beside answer (draws.place_of old.core.draws)) next
-                ⊎ Says (Refused NoMemory) host answer (beside answer (draws.place_of old.core.draws)) next
+            plain_of : (host next : Host D) (outside : Outside) → Step host answer outside next ⊎ Says (Refused NoMemory) host answer outside next
                 → IsPlain answer
-            plain_of host next (inl replies) = plain_datagram answer replies.fourth (Some (reply_now host.server m)) replies.becomes.answers
-            plain_of host next (inr out) = plain_memory answer out.answers
+            plain_of host next outside (inl step) = plain host next outside step
+            plain_of host next outside (inr out) = plain_memory answer out.answers
 
-            put : (host next : Host D) → is_member (members_now host.server) m ≡ true
-                → Replies g old.core.signer (draws.block_at old.core.draws) host m third datagram answer (beside answer (draws.place_of old.core.draws)) next
-                ⊎ Says (Refused NoMemory) host answer (beside answer (draws.place_of old.core.draws)) next
-                → AnswersThird g old.core.signer (draws.block_at old.core.draws) host None m third datagram answer (beside answer (draws.place_of old.core.draws)) next
-            put host next its (inl replies) =
-                inl (subst (λ b. MatchBool b
-                (Replies g old.core.signer (draws.block_at old.core.draws) host m third datagram answer (beside answer (draws.place_of old.core.draws)) next)
-                (Queues g old.core.signer (draws.block_at old.core.draws) host m third datagram answer (beside answer (draws.place_of old.core.draws)) next))
-                (sym its) replies)
-            put host next its (inr out) = inr out
+            answers : (host next : Host D) (outside : Outside) → IsServerOf d draws old host
+                → Step host answer outside next ⊎ Says (Refused NoMemory) host answer outside next
+                → AnswersThird g old.core.signer (draws.block_at old.core.draws) host None m third datagram answer outside next
+            answers host next outside server (inl step) = inl (due host next outside server step)
+            answers host next outside server (inr out) = inr out
+
+        -- the step that is due to its member, if this is known
+        due_to : (host : Host D) (b : Bool) → IsServerOf d draws old host → is_member old.core.tree.holders m ≡ b → (P Q : Type 0) → MatchBool b P Q
+            → MatchBool (is_member (members_now host.server) m) P Q
+        due_to host b server its P Q = subst (λ b. MatchBool b P Q) (sym (sym (same_member server.stands m) ∙ its))
+
+        pub accepted_member : (new : View D G R) (answer : Answer) → reason ≡ None → is_member old.core.tree.holders m ≡ true
+            → AcceptsMember d g draws m third datagram answer old new → Serves d g draws (Serve asker datagram) answer old new
+        accepted_member new answer none member =
+            accepted_third (λ host answer outside next. Replies g old.core.signer (draws.block_at old.core.draws) host m third datagram answer outside next)
+            new answer none
+            (λ host next outside replies. plain_datagram answer replies.fourth (Some (reply_now host.server m)) replies.becomes.answers)
+            (λ host next outside server. due_to host true server member _ _)
 
         pub accepted_join : (new : View D G R) (answer : Answer) → reason ≡ None → is_member old.core.tree.holders m ≡ false
             → AcceptsJoin d g draws m third datagram answer old new → Serves d g draws (Serve asker datagram) answer old new
-        accepted_join new answer none stranger accepts =
-            looked_at (Ok (record { member = m; what = NextThird third })) answer old new goes look accepts.goes_on (λ host server.
-            let step = accepts.each host server in record {
-              plain = plain_of host step.0 step.1;
-              next = step.0;
-              answered =
-                  subst (λ reason. AnswersThird g old.core.signer (draws.block_at old.core.draws) host reason m third datagram answer
-                  (beside answer (draws.place_of old.core.draws)) step.0) (sym none ∙ third_due host server)
-                  (put host step.0 (sym (same_member server.stands m) ∙ stranger) step.1);
-              disk = step.2;
-              server = step.3;
-            })
-          where
-            plain_of : (host next : Host D)
-                → Queues g old.core.signer (draws.block_at old.core.draws) host m third datagram answer (beside answer (draws.place_of old.core.draws)) next
-                ⊎ Says (Refused NoMemory) host answer (beside answer (draws.place_of old.core.draws)) next
-                → IsPlain answer
-            plain_of host next (inl queues) = plain_queued answer queues.becomes.answers
-            plain_of host next (inr out) = plain_memory answer out.answers
-
-            put : (host next : Host D) → is_member (members_now host.server) m ≡ false
-                → Queues g old.core.signer (draws.block_at old.core.draws) host m third datagram answer (beside answer (draws.place_of old.core.draws)) next
-                ⊎ Says (Refused NoMemory) host answer (beside answer (draws.place_of old.core.draws)) next
-                → AnswersThird g old.core.signer (draws.block_at old.core.draws) host None m third datagram answer (beside answer (draws.place_of old.core.draws)) next
-            put host next its (inl queues) =
-                inl (subst (λ b. MatchBool b
-                (Replies g old.core.signer (draws.block_at old.core.draws) host m third datagram answer (beside answer (draws.place_of old.core.draws)) next)
-                (Queues g old.core.signer (draws.block_at old.core.draws) host m third datagram answer (beside answer (draws.place_of old.core.draws)) next))
-                (sym its) queues)
-            put host next its (inr out) = inr out
+        accepted_join new answer none stranger =
+            accepted_third (λ host answer outside next. Queues g old.core.signer (draws.block_at old.core.draws) host m third datagram answer outside next)
+            new answer none (λ host next outside queues. plain_queued answer queues.becomes.answers)
+            (λ host next outside server. due_to host false server stranger _ _)

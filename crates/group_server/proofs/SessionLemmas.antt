@@ -1,10 +1,7 @@
 -- Whose session awaits the batch, after each change of sessions and of the changes that wait.
-use Rattle.std.proofs.Common.{◌≡◌, ◌∙◌, ◌||◌, Bool, true, false, List, [], ◌∷◌, ◌++◌, Option, None, Some, Result, Ok, Err, map, refl, sym, ap, subst, inl, inr}
-use Rattle.std.specs.Prelude.{option_and_then}
+use Rattle.std.proofs.Common.{◌≡◌, ◌∙◌, ◌||◌, Bool, true, false, List, [], ◌∷◌, ◌++◌, Option, None, Some, Result, Ok, Err, refl, sym, ap, subst, inl, inr}
 use Rattle.std.specs.Option.{option_map}
-use Rattle.std.specs.Cmp.Lexicographic.{nat_list_eq_equiv}
 use Rattle.std.proofs.lemmas.Bool.{cases_Bool, cond-true, cond-false}
-use Rattle.std.proofs.lemmas.Slice.Eq.{bytes_eq-Decides}
 use Rattle.group_terms.specs.Changes.{is_pending}
 use Rattle.group_terms.specs.Names.{Name, same_name}
 use Rattle.group_terms.specs.declared.changes.Change.{Change}
@@ -17,56 +14,7 @@ use Rattle.pull_sessions.specs.declared.sas.Session.{Session}
 use Rattle.server_steps.specs.Serves.{answer_done}
 use Rattle.server_steps.specs.Waiting.{queue_after_leave}
 use Rattle.server_steps.specs.Joining.{JoinsHaveSessions, is_joining}
-
--- ---- names
-
-is_same : (a b : Name) → same_name a b ≡ true → a ≡ b
-is_same a b same = (bytes_eq-Decides a b).0 same
-
-same_self : (a : Name) → same_name a a ≡ true
-same_self a = nat_list_eq_equiv.refl a
-
--- ---- the SA of a name
-
--- whose session, if there is an SA, awaits the batch
-abbrev queued_in : Option Sa → Bool
-queued_in None = false
-queued_in (Some sa) = has_queued sa.session
-
-queued_found : (sas : List Sa) (n : Name) → is_queued_of sas n ≡ queued_in (sa_of sas n)
-queued_found sas n = by (sa_of sas n)
-  where
-    by : (found : Option Sa) → has_queued (option_and_then (λ (sa : Sa). sa.session) found) ≡ queued_in found
-    by None = refl
-    by (Some sa) = refl
-
--- it is the SA of that name
-its_name : (sas : List Sa) (n : Name) (sa : Sa) → sa_of sas n ≡ Some sa → n ≡ sa.phase.member
-its_name [] n sa is = absurd (cc)
-its_name (first ∷ sas) n sa is = elim (cases_Bool (is_of n first)) [
-  | inl here ↦ is_same n sa.phase.member (subst (λ (sa : Sa). is_of n sa ≡ true) (only (sym (cond-true (is_of n first) (Some first) (sa_of sas n) here) ∙ is)) here)
-  | inr other ↦ its_name sas n sa (sym (cond-false (is_of n first) (Some first) (sa_of sas n) other) ∙ is)
-]
-  where
-    only : {a b : Sa} → Some a ≡ Some b → a ≡ b
-    only e = cc
-
--- what changes sessions alone finds the same SA
-module _ (f : Sa → Sa) (same : (sa : Sa) → (f sa).phase ≡ sa.phase) where
-  of_changed : (n : Name) (sas : List Sa) → sa_of (map f sas) n ≡ option_map f (sa_of sas n)
-  of_changed n [] = refl
-  of_changed n (sa ∷ sas) =
-      let still : is_of n (f sa) ≡ is_of n sa = ap (λ (phase : Phase1). same_name n phase.member) (same sa) in
-      elim (cases_Bool (is_of n sa)) [
-        | inl here ↦ cond-true (is_of n (f sa)) (Some (f sa)) (sa_of (map f sas) n) (still ∙ here)
-            ∙ ap (option_map f) (sym (cond-true (is_of n sa) (Some sa) (sa_of sas n) here))
-        | inr other ↦ cond-false (is_of n (f sa)) (Some (f sa)) (sa_of (map f sas) n) (still ∙ other)
-            ∙ (of_changed n sas ∙ ap (option_map f) (sym (cond-false (is_of n sa) (Some sa) (sa_of sas n) other)))
-      ]
-
-  -- whose session awaits the batch then
-  queued_changed : (n : Name) (sas : List Sa) → is_queued_of (map f sas) n ≡ queued_in (option_map f (sa_of sas n))
-  queued_changed n sas = queued_found (map f sas) n ∙ ap queued_in (of_changed n sas)
+use Rattle.server_steps.proofs.WaitLemmas.{is_same, its_name, queued_changed, queued_found, queued_in, same_self}
 
 -- ---- a session is put
 
@@ -175,21 +123,17 @@ joins_left [] m n = refl
 joins_left (In name ∷ queue) m n = ap (λ (b : Bool). same_name n name || b) (joins_left queue m n)
 joins_left (Out name ∷ queue) m n = joins_left queue m n
 
+neither : (a b : Bool) → (a || b) ≡ false → (a ≡ false) × (b ≡ false)
+neither true b is = absurd (cc)
+neither false b is = (refl, is)
+
 -- of whom no change waits, no join waits
 pub no_join : (queue : List Change) (n : Name) → is_pending queue n ≡ false → is_joining queue n ≡ false
 no_join [] n idle = refl
 no_join (In name ∷ queue) n idle =
     let one = neither (same_name n name) (is_pending queue n) idle in
     ap (λ (b : Bool). b || is_joining queue n) one.0 ∙ no_join queue n one.1
-  where
-    neither : (a b : Bool) → (a || b) ≡ false → (a ≡ false) × (b ≡ false)
-    neither true b is = absurd (cc)
-    neither false b is = (refl, is)
 no_join (Out name ∷ queue) n idle = no_join queue n (neither (same_name n name) (is_pending queue n) idle).1
-  where
-    neither : (a b : Bool) → (a || b) ≡ false → (a ≡ false) × (b ≡ false)
-    neither true b is = absurd (cc)
-    neither false b is = (refl, is)
 
 -- what waits after a leave was answered
 pub left_sound : (queue : List Change) (m : Name) (sas : List Sa) (result : Result (Unit {0}) Refusal) → JoinsHaveSessions queue sas

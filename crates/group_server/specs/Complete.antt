@@ -58,7 +58,7 @@ abbrev pub IsNewIn : Option Session → List ℕ → List ℕ → Type 0
 IsNewIn None message datagram = Unit {0}
 IsNewIn (Some session) message datagram = (bytes_eq datagram session.last ≡ false) × (bytes_eq message session.message ≡ false)
 
--- A datagram of a member is read, but for want of memory, as a first message for this group, with a new message id.
+-- A datagram of a member is read, unless memory runs out, as a first message for this group, with a new message id.
 pub record IsDueFirst {D : Type 0} (host : Host D) (m : Name) (datagram : List ℕ) : Type 0 where
   pub sa : Sa
   pub head : Header
@@ -68,7 +68,7 @@ pub record IsDueFirst {D : Type 0} (host : Host D) (m : Name) (datagram : List �
   pub reads : (answer : Result First PullFault) → IsAnswer sa.phase (first_awaited sa.phase) datagram answer → ReadsAs answer (Ok first)
   pub group : names_group host.head.name first ≡ true
 
--- A datagram of a member is read, but for want of memory, as the third message that its session awaits.
+-- A datagram of a member is read, unless memory runs out, as the third message that its session awaits.
 pub record IsDueThird {D : Type 0} (host : Host D) (m : Name) (datagram : List ℕ) : Type 0 where
   pub sa : Sa
   pub head : Header

@@ -66,7 +66,7 @@ impl<D: Disk, G: Signer, R: Draws> GroupServer<D, G, R> {
         self.core.member_at(leaf)
     }
 
-    /// The value of the present traffic key; `None` exactly at epoch 0.
+    /// The value of the present traffic key; `None` iff the epoch is 0.
     pub fn traffic(&self) -> Option<TrafficValue>
         ensures { result ≡ self.now.core.kept.traffic }
     {

@@ -1,7 +1,6 @@
 pub mod ActLemmas
 pub mod CountLemmas
 pub mod CrashLemmas
-pub mod FitLemmas
 pub mod GrowthLemmas
 pub mod HeadLemmas
 pub mod HistoryLemmas

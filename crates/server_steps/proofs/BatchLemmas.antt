@@ -251,6 +251,25 @@ module _ {D G R : Type 0} (d : DiskGhosts D) (g : SignerGhosts G) (draws : DrawG
     goes_on_stored : (after : Sessions) → GoesOn draws was_drawn (server_of new rules after)
     goes_on_stored after = record { signer = same.0; blocks = λ k. ap (λ at. draws.block_at at k) same.1 ∙ blocks k }
 
+    -- a host on the disk after it
+    abbrev host_on : Sessions → Server → Host D
+    host_on after server = record { disk = new.disk; head = mid.head; server = server; rules = rules; sessions = after }
+
+    -- the step of a host that its answer is
+    closes : (answer : Answer) (after : Sessions) (server later : Server) → Stands draws new later → HasJournal d (host_on after later)
+        → Counts d (disk_failed_by answer) mid.disk new.disk
+        → IsBatching d g mid.signer (draws.block_at before) (at_host was_drawn server) answer (beside answer server.place) (host_on after later)
+        → (next : Host D) × Closes was_drawn answer (server_of new rules after) (at_host was_drawn server) next
+    closes answer after server later stands journal counts answered = (
+      host_on after later,
+      record {
+        answered = answered;
+        keeps = keeps;
+        counts = counts;
+        server = record { disk = refl; head = sym same.2; stands = stands; journal = journal; rules = refl; sessions = refl };
+      },
+    )
+
     module _ (server : Server) (stands : Stands draws old server) where
       -- the batch with its values as they are, and as they were drawn
       abbrev made_ready : Made
@@ -338,13 +357,7 @@ module _ {D G R : Type 0} (d : DiskGhosts D) (g : SignerGhosts G) (draws : DrawG
             }
 
         abbrev host_after : Host D
-        host_after = record {
-          disk = new.disk;
-          head = mid.head;
-          server = with_batch (drawn_for server) (made_drawn server stands);
-          rules = rules;
-          sessions = settled sessions replies;
-        }
+        host_after = host_on (settled sessions replies) (with_batch (drawn_for server) (made_drawn server stands))
 
         journal_after : HasJournal d (at_host was_drawn server) → HasJournal d host_after
         journal_after journal = record {
@@ -367,32 +380,19 @@ module _ {D G R : Type 0} (d : DiskGhosts D) (g : SignerGhosts G) (draws : DrawG
           each : (server : Server) → Stands draws old server → HasJournal d (at_host was_drawn server)
               → (next : Host D) × Closes was_drawn (Batched (with_replies ready.output replies)) is_after (at_host was_drawn server) next
           each server stands journal =
-              let after = journal_after server stands journal in (
-                host_after server stands,
-                record {
-                  answered = inl (record {
-                    granted = granted server stands;
-                    fit = fits_drawn server stands;
-                    output = with_replies ready.output replies;
-                    puts_out = puts_out server stands;
-                    answers = refl;
-                    beside = refl;
-                    now = refl;
-                    journal = after;
-                    moments = moments_at server stands journal.file;
-                  });
-                  keeps = keeps;
-                  counts = faults;
-                  server = record {
-                    disk = refl;
-                    head = sym same.2;
-                    stands = (known server stands).stands_after;
-                    journal = after;
-                    rules = refl;
-                    sessions = refl;
-                  };
-                },
-              )
+              let after = journal_after server stands journal in
+              closes (Batched (with_replies ready.output replies)) (settled sessions replies) server (with_batch (drawn_for server) (made_drawn server stands))
+              (known server stands).stands_after after faults (inl (record {
+                granted = granted server stands;
+                fit = fits_drawn server stands;
+                output = with_replies ready.output replies;
+                puts_out = puts_out server stands;
+                answers = refl;
+                beside = refl;
+                now = refl;
+                journal = after;
+                moments = moments_at server stands journal.file;
+              }))
 
     -- ---- that failed, and it is in doubt
 
@@ -419,13 +419,7 @@ module _ {D G R : Type 0} (d : DiskGhosts D) (g : SignerGhosts G) (draws : DrawG
             })
 
         abbrev host_in_doubt : Host D
-        host_in_doubt = record {
-          disk = new.disk;
-          head = mid.head;
-          server = in_doubt (drawn_for server) (made_drawn server stands);
-          rules = rules;
-          sessions = sessions;
-        }
+        host_in_doubt = host_on sessions (in_doubt (drawn_for server) (made_drawn server stands))
 
         journal_in_doubt : HasJournal d (at_host was_drawn server) → HasJournal d host_in_doubt
         journal_in_doubt journal = record {
@@ -447,27 +441,14 @@ module _ {D G R : Type 0} (d : DiskGhosts D) (g : SignerGhosts G) (draws : DrawG
           each server stands journal =
               let after = journal_in_doubt server stands journal in
               let failed : why ≡ DiskFault = (step (drawn_for server) (stands_drawn server stands)).1.0 in
-              subst (λ at. (next : Host D) × Closes was_drawn (Refused at) is_doubted (at_host was_drawn server) next) (sym failed) (
-                host_in_doubt server stands,
-                record {
-                  answered = inr (inl (record {
-                    granted = granted server stands;
-                    fit = fits_drawn server stands;
-                    answers = refl;
-                    beside = refl;
-                    now = refl;
-                    journal = after;
-                    moments = moments_at server stands journal.file;
-                  }));
-                  keeps = keeps;
-                  counts = rose;
-                  server = record {
-                    disk = refl;
-                    head = sym same.2;
-                    stands = (doubted server stands).stands_after;
-                    journal = after;
-                    rules = refl;
-                    sessions = refl;
-                  };
-                },
-              )
+              subst (λ at. (next : Host D) × Closes was_drawn (Refused at) is_doubted (at_host was_drawn server) next) (sym failed)
+              (closes (Refused DiskFault) sessions server (in_doubt (drawn_for server) (made_drawn server stands))
+              (doubted server stands).stands_after after rose (inr (inl (record {
+                granted = granted server stands;
+                fit = fits_drawn server stands;
+                answers = refl;
+                beside = refl;
+                now = refl;
+                journal = after;
+                moments = moments_at server stands journal.file;
+              }))))

@@ -92,7 +92,7 @@ module _ {D G R : Type 0} (d : DiskGhosts D) (draws : DrawGhosts R) (parts : Par
       unfaulted (inl fault) other = absurd (other fault)
       unfaulted (inr none) other = ap d.faults (untouched none)
 
-      -- so many blocks were drawn
+      -- this many blocks were drawn
       fails : (n : ℕ) → n ≤ 1 → place_after n place ≡ draws.place_of back.draws
           → FailsToOpen d draws (IsCreation d (draws.block_at parts.draws) group.depth) (Create group.depth) start parts why back
       fails n few at = record {

@@ -15,7 +15,7 @@ use Rattle.group_model.specs.declared.entries.Refusal.{Refusal}
 use Rattle.group_model.specs.declared.entries.Refusal.TheVariants.{NeedsReopen, NotMember, AlreadyPending, TreeFull}
 use Rattle.gcks_core.specs.Stored.{AreDueFrom}
 
--- a batch that fits behind a list makes it longer
+-- a batch that fits after a list makes it longer
 pub fit_more : (holders : Holders) (batches : List (List Change)) (batch : List Change) → FitInTurn holders batches
     → Fits (fold holders_after holders batches) batch → FitInTurn holders (batches ++ batch ∷ [])
 fit_more holders [] batch valid fits = (fits, tt)

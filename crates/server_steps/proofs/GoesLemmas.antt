@@ -1,4 +1,4 @@
--- A server that goes on as it was: sound, with messages of its group that its sessions keep, and such messages alone that it sends. What does not send any.
+-- A server that goes on as it was: sound, with messages of its group that its sessions keep, and no others that it sends. What does not send any.
 use Rattle.std.proofs.Common.{◌≡◌, ◌∙◌, ◌≤◌, ℕ, Bool, true, false, List, [], ◌∷◌, ◌++◌, length, Option, None, Some, Result, Ok, Err}
 use Rattle.std.proofs.Common.{refl, sym, ap, subst, inl, inr, arith}
 use Rattle.std.specs.Prelude.{Contains, IfSome, if◌then◌else◌}

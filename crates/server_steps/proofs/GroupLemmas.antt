@@ -1,4 +1,4 @@
--- A sound server that keeps messages of its group goes on so, and sends such messages alone.
+-- A sound server that keeps messages of its group goes on so, and sends no others.
 use Rattle.std.proofs.Common.{◌≡◌, ℕ, List, refl, inl, inr}
 use Rattle.gd_disk.specs.declared.disks.Disk.{Ghosts as DiskGhosts}
 use Rattle.gd_edges.specs.declared.signers.Signer.{Ghosts as SignerGhosts}

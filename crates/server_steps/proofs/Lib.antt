@@ -3,7 +3,7 @@ mod BesideLemmas
 mod ChangeLemmas
 mod CreateLemmas
 mod DatagramLemmas
-mod FitLemmas
+pub mod FitLemmas
 mod GoesLemmas
 mod GroupLemmas
 mod JournalLemmas
@@ -20,4 +20,4 @@ mod ServedLemmas
 mod SessionLemmas
 mod StillLemmas
 mod StoredLemmas
-mod WaitLemmas
+pub mod WaitLemmas

@@ -71,7 +71,7 @@ module _ {D G R : Type 0} (d : DiskGhosts D) (g : SignerGhosts G) (draws : DrawG
   IsServedBy core request answer host next =
       IsServed d g core.signer (draws.block_at core.draws) request host answer (beside answer (draws.place_of core.draws)) next
 
-  -- such a step
+  -- a step that leaves the disk
   pub plain_step : (request : Asked) (core : View D G R) (answer : Answer) (host : Host D) (server : Server) → IsPlain answer
       → IsServedBy core request answer host (with_server host server)
       → IsServerStep d g core.signer (draws.block_at core.draws) host (noted request answer (draws.place_of core.draws)) (with_server host server)
@@ -95,7 +95,7 @@ module _ {D G R : Type 0} (d : DiskGhosts D) (g : SignerGhosts G) (draws : DrawG
         );
   }
 
-  -- one that is due
+  -- the answer that is due
   pub says_due : (due : Host D → Answer) (core : View D G R) (answer : Answer) (host : Host D) → IsCoreOf d draws core host → IsPlain answer
       → answer ≡ due host → Says (due host) host answer (beside answer (draws.place_of core.draws)) host
   says_due due core answer host server plain is = record { answers = is; beside = plain_beside d draws core host answer server plain; stays = refl }

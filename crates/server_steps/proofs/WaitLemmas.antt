@@ -28,11 +28,11 @@ same_self a = nat_list_eq_equiv.refl a
 -- ---- the SA of a name
 
 -- whose session, if there is an SA, awaits the batch
-abbrev queued_in : Option Sa → Bool
+abbrev pub queued_in : Option Sa → Bool
 queued_in None = false
 queued_in (Some sa) = has_queued sa.session
 
-queued_found : (sas : List Sa) (n : Name) → is_queued_of sas n ≡ queued_in (sa_of sas n)
+pub queued_found : (sas : List Sa) (n : Name) → is_queued_of sas n ≡ queued_in (sa_of sas n)
 queued_found sas n = by (sa_of sas n)
   where
     by : (found : Option Sa) → has_queued (option_and_then (λ (sa : Sa). sa.session) found) ≡ queued_in found
@@ -66,12 +66,12 @@ module _ (f : Sa → Sa) (same : (sa : Sa) → (f sa).phase ≡ sa.phase) where
       ]
 
   -- whose session awaits the batch then
-  queued_changed : (n : Name) (sas : List Sa) → is_queued_of (map f sas) n ≡ queued_in (option_map f (sa_of sas n))
+  pub queued_changed : (n : Name) (sas : List Sa) → is_queued_of (map f sas) n ≡ queued_in (option_map f (sa_of sas n))
   queued_changed n sas = queued_found (map f sas) n ∙ ap queued_in (of_changed n sas)
 
 -- ---- a batch
 
--- a name among those that replies go to has one of them
+-- a name to which a reply goes has one
 has_reply : (replies : List SentReply) (n : Name) → list_any (same_name n) (map (λ (reply : SentReply). reply.says.member) replies) ≡ true
     → (reply : SentReply) × (reply_to replies n ≡ Some reply)
 has_reply [] n is = absurd (cc)

@@ -18,7 +18,7 @@ abbrev pub shown_group : Server → Answer
 shown_group server = if server.need then Refused NeedsReopen else Shown (seen_group server.depth (present_batches server))
 
 module _ {D : Type 0} where
-  -- One more rule comes after all others, and its number is told, unless memory is short; also where the group has to be opened again.
+  -- One more rule comes after all others, and its number is the answer, unless memory runs out; also where the group has to be opened again.
   abbrev pub IsAddingRule : Rule → Host D → Answer → Outside → Host D → Type 0
   IsAddingRule rule host answer outside next =
       Becomes (RuleNumber (length host.rules + 1)) (with_rules host (host.rules ++ rule ∷ [])) host answer outside next

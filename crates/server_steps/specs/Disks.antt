@@ -23,7 +23,7 @@ module _ {D : Type 0} (d : Ghosts D) where
   abbrev pub ComesToLast : List ℕ → D → D → Type 0
   ComesToLast file old new = (mid : D) × LeavesOnly d old mid (d.may_leave old) × LeavesOnly d mid new (λ c. c ≡ file)
 
-  -- a fault of the disk was counted where one is told, and nowhere else
+  -- a fault of the disk was counted where it failed, and nowhere else
   abbrev pub Counts : Bool → D → D → Type 0
   Counts true old new = Rose (d.faults old) (d.faults new)
   Counts false old new = d.faults new ≡ d.faults old

@@ -85,7 +85,7 @@ module _ (kind : SignKind) (first depth : ℕ) (spi : List ℕ) (list : List Mad
     pub own : IsPullText phase iv (second_message session.message session.ni session.nr (present_policy spi kind (take message.epoch list))) octets
     pub left : session.iv ≡ next_iv octets
 
-  -- what a session keeps is such a message, if it is a datagram
+  -- what a session keeps is a message of its own pull, if it is a datagram
   abbrev pub IsKeptTo : Phase1 → Session → Kept → Type 0
   IsKeptTo phase session (kept.Datagram octets None) = IsOwnSecond phase session octets
   IsKeptTo phase session (kept.Datagram octets (Some says)) = IsOwnFourth phase session octets says
@@ -127,7 +127,7 @@ module _ {D : Type 0} (kind : SignKind) (first : ℕ) (host : Host D) where
 
 -- by the batches that a server has now
 module _ {D : Type 0} (kind : SignKind) (host : Host D) where
-  -- that a message of the group is of the present epoch: a second one has the present policies, a fourth one tells by its names the keys of that epoch
+  -- that a message of the group is of the present epoch: a second one has the present policies, a fourth one names the keys of that epoch
   abbrev pub IsMessageNow : Phase1 → List ℕ → Option SymReply → Type 0
   IsMessageNow phase octets None = (nr : List ℕ) × IsSomeSecond phase nr (present_policy host.head.spi kind host.server.list) octets
   IsMessageNow phase octets (Some says) = says.keyed_epoch ≡ length host.server.list
@@ -166,14 +166,14 @@ module _ {D : Type 0} (kind : SignKind) (first : ℕ) (host : Host D) (entry : E
     pub now : reply.says.keyed_epoch ≡ length next.server.list
     pub keeps : KeepsSent next.sessions.sas reply.says.member reply.datagram (Some reply.says)
 
-  -- each datagram that was sent is such a message, and each reply tells a member its keys
+  -- each datagram that was sent is a message of the group, and each reply has the keys of a member
   pub record SendsMessages : Type 0 where
     pub answers : (m : Name) (datagram octets : List ℕ) (names : Option SymReply) → entry.asked ≡ Serve m datagram
         → entry.answer ≡ Datagram octets names → AnswersPeer datagram octets names
     pub replies : (output : Output) → entry.answer ≡ Batched output → All RepliesToPeer output.replies
     pub tells : (reply : SymReply) → Contains (replies_in entry.answer) reply → IsReplyOf next.server.depth first (batches_made next.server.list) reply
 
--- A sound server that keeps messages of its group goes on so, and sends such messages alone. Once it was opened again, it keeps none.
+-- A sound server that keeps messages of its group goes on so, and sends no others. Once it was opened again, it keeps none.
 abbrev pub MessagesAreOfTheGroup : {D G : Type 0} → DiskGhosts D → SignerGhosts G → G → (ℕ → List ℕ) → Type 0
 MessagesAreOfTheGroup {D} d g signer block =
     (first : ℕ) (host : Host D) (entry : Entry) (next : Host D) → IsSound host → first ≤ length host.server.list

@@ -18,7 +18,8 @@ use Rattle.server_steps.specs.Views.{View}
 
 module _ {D G R : Type 0} (d : DiskGhosts D) (draws : DrawGhosts R) (step : Host D → Answer → Outside → Host D → Type 0) (request : Asked) (start : Host D)
     (parts : Parts D G R) where
-  -- The group is open, by such a step: this is the server of the host after it, with the signer and the blocks of the parts; and this pair, if there is one, was sent again.
+  -- The group is open, by a step of this kind: this is the server of the host after it, with the signer and the blocks of the parts. This pair, if there is
+  -- one, was sent again.
   pub record Opens (view : View D G R) (resent : Option PushPair) : Type 0 where
     pub next : Host D
     pub stepped : IsHostStep d step start (noted request (answer_opened next.server resent) (draws.place_of parts.draws)) next
@@ -26,7 +27,7 @@ module _ {D G R : Type 0} (d : DiskGhosts D) (draws : DrawGhosts R) (step : Host
     pub signer : view.core.signer ≡ parts.signer
     pub blocks : (k : ℕ) → draws.block_at view.core.draws k ≡ draws.block_at parts.draws k
 
-  -- That was refused, by such a step, and these parts come back: the disk and the place of the draws are those of the host after it.
+  -- That was refused, by a step of this kind, and these parts come back: the disk and the place of the draws are those of the host after it.
   pub record FailsToOpen (why : Refusal) (back : Parts D G R) : Type 0 where
     pub next : Host D
     pub stepped : IsHostStep d step start (noted request (Refused why) (draws.place_of parts.draws)) next

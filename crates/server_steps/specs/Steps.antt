@@ -15,7 +15,7 @@ use Rattle.server_steps.specs.Hosts.{Host}
 use Rattle.server_steps.specs.Openings.{IsOpeningAgain}
 use Rattle.server_steps.specs.Pulls.{IsAnswering, IsIntroducing}
 
--- One entry is such a step. The disk stays as honest as it is, and a fault of it was counted exactly where the entry notes one.
+-- One entry is a step of this kind. The disk stays as honest as it is, and a fault of it was counted exactly where the entry notes one.
 pub record IsHostStep {D : Type 0} (d : DiskGhosts D) (step : Host D → Answer → Outside → Host D → Type 0) (host : Host D) (entry : Entry) (next : Host D)
     : Type 0 where
   pub answered : step host entry.answer entry.outside next
@@ -37,11 +37,11 @@ module _ {D G : Type 0} (d : DiskGhosts D) (g : SignerGhosts G) (signer : G) (bl
   IsServed DeliverAll = IsNoDelivery
   IsServed asked = λ host answer outside next. ⊥
 
-  -- one entry is such a step
+  -- one entry is the answer to its request
   abbrev pub IsServerStep : Host D → Entry → Host D → Type 0
   IsServerStep host entry next = IsHostStep d (IsServed entry.asked) host entry next
 
-  -- each entry is, from the host that those before it left
+  -- each entry is, from the host that the ones before it left
   abbrev pub AreServed : Host D → List Entry → Host D → Type 0
   AreServed host [] after = after ≡ host
   AreServed host (entry ∷ entries) after = (next : Host D) × IsServerStep host entry next × AreServed next entries after

@@ -24,7 +24,7 @@ pub fn a_reopening_is_served<D: Disk, G: Signer, R: Draws>()
     ensures { ReopeningsAreServed D.Disk G.Signer R.Draws }
 {}
 
-/// Of a sound server whose sessions keep messages of its group: it goes on so, and what it sends are such messages.
+/// Of a sound server whose sessions keep messages of its group: it goes on so, and what it sends are messages of its group.
 pub fn messages_are_of_the_group<D: Disk, G: Signer>()
     ensures { (signer : G) (block : ℕ → List ℕ) → MessagesAreOfTheGroup D.Disk G.Signer signer block }
 {

@@ -1,5 +1,4 @@
-//! The steps of a key server on its disk: the definitions of what it answers to each request and what it is after it, and the calls on a core by which it
-//! does so.
+//! The steps of a key server on its disk: what each request answers and leaves, by definition, and the calls on a core that do so.
 #![tactic(auto)]
 
 pub use batching::close_batch;

@@ -22,7 +22,7 @@ pub(crate) struct Replies {
     pub(crate) kept: List<(MemberName, Kept)>,
 }
 
-/// The replies to those who come in with a batch, in their order. Whose session awaits the batch gets its fourth message.
+/// The replies to the members who come in with a batch, in their order. Whose session awaits the batch gets its fourth message.
 pub(crate) fn make_replies(
     alloc: Global,
     told: &[(MemberName, Keyed)],
@@ -113,7 +113,7 @@ pub fn reply_says(alloc: Global, member: &MemberName, keyed: &Keyed) -> Result<S
     names_told(alloc, member, keyed)
 }
 
-/// What a member is told with these keys, by their names.
+/// What a reply with these keys says of them, by their names.
 fn names_told(alloc: Global, member: &MemberName, keyed: &Keyed) -> Result<SymReply, NoMemory>
     ensures { IfOk result (λ reply. reply ≡ says_told (member.now, keyed.now)) }
 {

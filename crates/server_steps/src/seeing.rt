@@ -61,7 +61,7 @@ pub fn refuse_deliveries<D: Disk, G: Signer, R: Draws>(core: &Core<D, G, R>) -> 
     Answer::Refused { why }
 }
 
-/// Room for the members of a group whose tree has so many leaves.
+/// Room for the members of a group whose tree has this many leaves.
 fn room(alloc: Global, leaves: u16) -> Result<Log<Standing>, NoMemory>
     ensures items { IfOk result (λ room. room.items ≡ []) }
     ensures spare { IfOk result (λ room. leaves ≤ room.spare) }

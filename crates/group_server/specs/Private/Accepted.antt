@@ -29,7 +29,7 @@ use Rattle.server_steps.specs.Serves.{GoesOn}
 use Rattle.server_steps.specs.Views.{View}
 
 module _ {D G R : Type 0} (d : DiskGhosts D) (g : SignerGhosts G) (draws : DrawGhosts R) where
-  -- Whatever host the server was on, the answer is such a step of it that leaves its disk, and it is the server of the host after that.
+  -- Whatever host the server was on, the answer is a step of it of this kind, which leaves its disk, and it is the server of the host after that.
   pub record StepsBy (step : Host D → Answer → Outside → Host D → Type 0) (answer : Answer) (old new : View D G R) : Type 0 where
     pub goes_on : GoesOn draws old new
     pub each : (host : Host D) → IsServerOf d draws old host → (next : Host D)

@@ -1,4 +1,4 @@
--- What is told to those who come in with a batch, by key names; and what their sessions keep of it.
+-- What each member who comes in with a batch is told, by key names; and what their sessions keep of it.
 use Rattle.std.specs.Prelude.{◌≡◌, ℕ, true, false, List, [], ◌∷◌, ◌++◌, map, Option, Some, option_map, if◌then◌else◌}
 use Rattle.group_terms.specs.Names.{Name}
 use Rattle.group_terms.specs.declared.keys.KeyName.{KeyName}
@@ -32,12 +32,12 @@ pub record IsDatagramTo (sas : List Sa) (told : Name × Keyed) (datagram : List 
       → IsFourthOf sa.phase session session.iv told.1 datagram
   pub none : is_queued_of sas told.0 ≡ false → datagram ≡ []
 
--- such a reply
+-- a reply to somebody who is told these keys
 pub record IsReplyTo (sas : List Sa) (told : Name × Keyed) (reply : SentReply) : Type 0 where
   pub says : reply.says ≡ says_told told
   pub sends : IsDatagramTo sas told reply.datagram
 
--- replies to those who are told something, in their order
+-- the replies to all who are told something, in their order
 abbrev pub AreRepliesTo : List Sa → List (Name × Keyed) → List SentReply → Type 0
 AreRepliesTo sas [] replies = replies ≡ []
 AreRepliesTo sas (told ∷ more) replies =

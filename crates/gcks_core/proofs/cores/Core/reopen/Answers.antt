@@ -1,4 +1,4 @@
-use Rattle.std.proofs.Common.{◌∙◌, false, refl, ap}
+use Rattle.std.proofs.Common.{◌∙◌, ap}
 use Rattle.gd_disk.specs.Moments.{shown}
 use Rattle.gcks_core.specs.Views.{View}
 use Rattle.gcks_core.proofs.OpenLemmas.{said_none}
@@ -7,45 +7,18 @@ use Rattle.gcks_core.proofs.cores.Core.reopen.Goals as goal
 
 pub returns-in-Ok-clause-found : goal.returns-in-Ok-clause-found
 returns-in-Ok-clause-found g c =
-    let V = View g.row.D.Denot g.row.G.Denot g.row.R.Denot in
-    let inside = c.self.inside in
     let read = c.in-Ok.ensures in
     let found = c.in-Ok.found in
-    let new : V = record {
-      disk = c.read_again.new.store.disk;
-      signer = inside.signer;
-      draws = inside.draws;
-      head = found.head;
-      tree = found.tree;
-      kept = found.kept;
-      queue = c.new-self-inside.result;
-      need = false;
-    } in
-    let shows = read.same ∙ ap (λ (core : V). shown g.D.Disk core.disk) c.self.view_is in
-    found_again g.D.Disk g.G.Signer g.R.Draws c.args.self.now new (ap (λ (core : V). core.signer) c.self.view_is)
-    (ap (λ (core : V). core.draws) c.self.view_is) shows
-    refl c.new-self-inside.ensures read.found.0 read.found.1 read.found.2.file found.resent read.found.3 c.a_file_has_one_group.ensures.one
+    found_again g.D.Disk g.G.Signer g.R.Draws c.self.view_is c.read_again.new.store.disk read.same found.head found.tree found.kept
+    c.new-self-inside.result c.new-self-inside.ensures read.found.0 read.found.1 read.found.2.file found.resent read.found.3
+    c.a_file_has_one_group.ensures.one
 
 pub returns-in-Ok-clause-read : goal.returns-in-Ok-clause-read
 returns-in-Ok-clause-read g c =
-    let V = View g.row.D.Denot g.row.G.Denot g.row.R.Denot in
-    let inside = c.self.inside in
     let read = c.in-Ok.ensures in
     let found = c.in-Ok.found in
-    let new : V = record {
-      disk = c.read_again.new.store.disk;
-      signer = inside.signer;
-      draws = inside.draws;
-      head = found.head;
-      tree = found.tree;
-      kept = found.kept;
-      queue = c.new-self-inside.result;
-      need = false;
-    } in
-    let shows = read.same ∙ ap (λ (core : V). shown g.D.Disk core.disk) c.self.view_is in
-    read_anew g.D.Disk g.G.Signer g.R.Draws c.args.self.now new (ap (λ (core : V). core.signer) c.self.view_is)
-    (ap (λ (core : V). core.draws) c.self.view_is) shows
-    refl c.new-self-inside.ensures read.found.0 read.found.1 read.found.2.file found.resent read.found.3
+    read_anew g.D.Disk g.G.Signer g.R.Draws c.self.view_is c.read_again.new.store.disk read.same found.head found.tree found.kept
+    c.new-self-inside.result c.new-self-inside.ensures read.found.0 read.found.1 read.found.2.file found.resent read.found.3
 
 pub returns-in-Err-clause-broken : goal.returns-in-Err-clause-broken
 returns-in-Err-clause-broken g c file is at said =
