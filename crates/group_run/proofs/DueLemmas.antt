@@ -281,7 +281,7 @@ module _ (holders : Holders) (peers : List Peer) (notes : List Note) where
     none_later : (last : Delivery) → NoneIsFrom holders peers notes last.place last.number → NoneIsDue holders peers entries (Some last)
     none_later last none other due after = none other (from_due other due) after
 
-    -- ---- the same of what was found
+    -- ---- what was found
 
     pub next_of_all : (result : Option Delivery) → MatchOption result (NoneIsFrom holders peers notes 0 0) (IsFirstFrom holders peers notes 0 0)
         → MatchOption result (NoneIsDue holders peers entries None) (IsFirstDue holders peers entries None)

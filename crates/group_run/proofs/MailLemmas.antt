@@ -128,7 +128,7 @@ nothing_unread_at entries looked same = ap (λ looked. mail_since entries (lengt
 
 -- ---- the cursor
 
--- it stands at an entry
+-- it is at an entry
 module _ (entries : List Entry) (unread : Unread) (entry : Entry) (within : IsWithin entries unread) (is_there : slice_get entries unread.place ≡ Some entry) where
   here : flat_map mail_in (drop unread.place entries) ≡ mail_in entry ++ flat_map mail_in (drop (suc unread.place) entries)
   here = ap (flat_map mail_in) (drop_at unread.place entries entry is_there)
@@ -154,7 +154,7 @@ module _ (entries : List Entry) (unread : Unread) (entry : Entry) (within : IsWi
           ));
     }
 
--- it stands at the end
+-- it is at the end
 pub none_here : (entries : List Entry) (unread : Unread) → length entries ≤ unread.place → first_of (mail_since entries unread.place unread.taken) ≡ None
 none_here entries unread le =
     ap (λ left. first_of (drop unread.taken (flat_map mail_in left))) (drop_all unread.place entries le)

@@ -172,7 +172,7 @@ no_owner (first ∷ peers) m is = by_name (same_name m first.phase.member) (no_o
     by_name true rest is = absurd (none-some first.phase (sym is))
     by_name false rest is = rest is
 
--- ---- those who ignore
+-- ---- members that ignore
 
 -- all but what is on its way stays
 pub record IsSameButMail (old new : Members) : Type 0 where
@@ -196,7 +196,7 @@ ignore_more (suc n) old mid new ignores more = (ignores.0, ignores.1, ignore_mor
 pub ignores_more : {old mid new : Members} → Ignores old mid → IsIgnoring mid new → Ignores old new
 ignores_more {old} {mid} {new} ignores more = (suc ignores.0, ignore_more ignores.0 old mid new ignores.1 more)
 
--- ---- those who agree
+-- ---- members that agree
 
 -- the member sent the third message
 pub record HasAgreed (m : Name) (third : List ℕ) (old new : Members) : Type 0 where
@@ -217,7 +217,7 @@ has_agreed {m} {third} {old} {new} agrees =
           ∙ ap (λ (peer : Peer). peer.sent) agrees.agrees.now;
     }
 
--- ---- those who begin a pull
+-- ---- members that begin a pull
 
 pub record HasBegun (m : Name) (old new : Members) : Type 0 where
   pub same : AreSame old.all new.all
@@ -240,7 +240,7 @@ has_begun {block} {group} {m} {old} {new} begins =
           ∙ ap (λ (peer : Peer). peer.sent) made.begun.now;
     }
 
--- ---- those who keep
+-- ---- members that keep
 
 has_got : (m : Name) (keyed : Keyed) (members : Members) (answer : Answer) (next : Members) → Gets m keyed members answer next
     → IsPlain answer × AreSame members.all next.all × (next.mail ≡ members.mail) × (next.place ≡ members.place)
@@ -383,7 +383,7 @@ pub plain_key : (store : Option Store) → IsPlain (key_of store)
 plain_key None = record { no_fault = refl; not_opened = refl; no_push = refl }
 plain_key (Some store) = record { no_fault = refl; not_opened = refl; no_push = refl }
 
--- ---- those who are used, and introduced
+-- ---- members that are used, and introduced
 
 one_more : (peers : List Peer) (phase : Phase1) (name : Name) → is_peer peers name ≡ true → is_peer (with_peer peers phase) name ≡ true
 one_more [] phase name is = absurd (true≢false (sym is))

@@ -68,7 +68,7 @@ module _ {D G R : Type 0} (d : DiskGhosts D) (draws : DrawGhosts R) (step : Host
         reflects = record { server = is.server; members = (0, refl) };
       })
 
-  -- what the group stands on goes on
+  -- what the group is built on goes on
   pub stands_on : (server : ServerView D G R) (pair : Option PushPair) → ServerOpens d draws step request start parts server pair
       → (held : View D G R) → held.server ≡ server
       → (held.server.core.signer ≡ parts.signer) × ((k : ℕ) → draws.block_at held.server.core.draws k ≡ draws.block_at parts.draws k)

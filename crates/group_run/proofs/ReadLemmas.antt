@@ -29,7 +29,7 @@ pub on_err : {A E : Type 0} (answer : Result A E) (P : Type 0) → P → OnErr a
 on_err (Ok done) P is = tt
 on_err (Err why) P is = is
 
--- those who ignored some are the same
+-- members that ignored some are the same
 pub same_names : (start now : Members) → Ignores start now → (all : List Peer) → AreSame now.all all → (name : Name)
     → is_peer all name ≡ is_peer start.all name
 same_names start now ignores all same name =

@@ -18,7 +18,7 @@ mail_of_answer asked answer = []
 abbrev pub mail_in : Entry → List Mail
 mail_in entry = mail_of_answer entry.asked entry.answer
 
--- what entries sent from a place on, but for so many datagrams that were taken
+-- what entries sent from a place on, but for the first datagrams, as many as were taken
 abbrev pub mail_since : List Entry → ℕ → ℕ → List Mail
 mail_since entries place taken = drop taken (flat_map mail_in (drop place entries))
 

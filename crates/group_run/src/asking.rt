@@ -29,7 +29,7 @@ impl<D: Disk, G: Signer, R: Draws> GroupRun<D, G, R> {
     }
 
     /// Asks whether names derive the traffic key of an epoch from what they were given and what was sent so far; they do not
-    /// where there is no such epoch.
+    /// where the group has no such epoch.
     pub fn derive(
         &mut self,
         alloc: Global,

@@ -80,7 +80,7 @@ impl<D: Disk, G: Signer, R: Draws> GroupRun<D, G, R> {
     }
 }
 
-/// The first push that is due at a place from this one on, where at this one only those count whose number is greater than this one.
+/// The first push that is due at a place from this one on; at this place itself only pushes with a greater number than this one count.
 fn first_due<D: Disk, G: Signer, R: Draws>(
     server: &GroupServer<D, G, R>,
     peers: &Peers,

@@ -58,7 +58,7 @@ impl<D: Disk, G: Signer, R: Draws> GroupRun<D, G, R> {
         self.server.needs_reopen()
     }
 
-    /// The history, and what the group stood on.
+    /// The history, and the disk, the signer and the draws of the group.
     pub fn into_parts(self) -> (List<Entry>, Parts<D, G, R>)
         ensures history { result.0 ≡ self.entries }
         ensures disk { result.1.disk ≡ self.server.core.disk }

@@ -7,12 +7,12 @@ ghost use Rattle.group_steps.specs.Gets.{mail_by, mail_of};
 
 use group_model::{Answer, Asked, Entry, MemberName, Octets, SentReply};
 
-/// Which datagrams are on their way: those that entries sent from a place on, but for the first ones, which were taken.
+/// Which datagrams are on their way: what entries sent from a place on, but for the first datagrams, which were taken.
 #[derive(Clone, Copy, PartialEq, Eq)]
 pub(crate) struct Unread {
     /// The place of an entry.
     pub(crate) place: usize,
-    /// How many datagrams of it, and of those after it, were taken.
+    /// How many datagrams of it, and of the entries after it, were taken.
     pub(crate) taken: usize,
 }
 
@@ -48,7 +48,7 @@ fn mail_count(entry: &Entry) -> usize
     }
 }
 
-/// The datagram at this place among those that an entry sent.
+/// The datagram at this place among all that an entry sent.
 fn mail_at(entry: &Entry, place: usize) -> Option<(MemberName, &Octets)>
     ensures { option_map (λ mail. (mail.0, mail.1.now)) result ≡ slice_get (mail_in entry.now) place }
 {

@@ -1,4 +1,4 @@
--- What the definition of a listing tells apart: the records that are closed are listed, and no octets after them.
+-- What the definition of a listing tells apart: the records that are committed are listed, and no octets after them.
 use Rattle.std.proofs.Common.{◌≡◌, ◌∙◌, ℕ, List, [], ◌∷◌, ◌++◌, map, Some, Result, Ok, Err, ap, sym, subst, refl}
 use Rattle.group_records.specs.declared.batches.Stored.{Stored}
 use Rattle.group_records.specs.declared.heads.Head.{Head}
@@ -8,7 +8,7 @@ use Rattle.journal_listing.specs.Listings.{IsListingOf, listed_as}
 use Rattle.tree_journal.specs.Records.{front_text, records}
 use Rattle.tree_store.specs.Groups.{AreBatches}
 
--- one record of one octet: what follows its closed gate is no record, whether it is an octet or looks like a record
+-- one record of one octet: what follows its clear commit mark is no record, whether it is an octet or looks like a record
 abbrev one_record : List (List ℕ)
 one_record = (7 ∷ []) ∷ []
 

@@ -19,8 +19,8 @@ EndsHeadless file Whole = ⊥
 EndsHeadless file (Begun at) = ⊥
 EndsHeadless file (NotAJournal at) = ((at ≡ 0) × (records file ≡ Err 0)) ⊎ ((at ≡ 9) × HasNoHead file)
 
--- A file ends so after these batches: they are all that its group has, and nothing follows the closed gate; or octets follow it; or there is
--- neither a closed gate nor a batch that is due.
+-- A file ends so after these batches: they are all that its group has, and nothing follows the clear commit mark; or octets follow it; or
+-- there is neither a clear commit mark nor a batch that is due.
 abbrev pub EndsAfter : List ℕ → Head → List Stored → JournalEnd → Type 0
 EndsAfter file head list Whole = (at : ℕ) × IsGroup file head list × IsGroupTo file head list at × (length file ≤ at + 1)
 EndsAfter file head list (Begun at) = IsGroup file head list × IsGroupTo file head list at × (at + 1 < length file)

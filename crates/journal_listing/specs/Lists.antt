@@ -21,7 +21,7 @@ due_after (NotAJournal at) = NotOpened
 abbrev pub TextEnds : Ending → Ending → Shown → Shown → List ℕ → Type 0
 TextEnds due ending was now text = ((due ≡ ending) × Puts was now text) ⊎ BreaksOff ending was now text
 
--- the text of a file was put, which tells all that is listed of it
+-- the text of a file was put, which has all that is listed of it
 abbrev pub ListsFile : List ℕ → Ending → Shown → Shown → Type 0
 ListsFile file ending was now = (listing : Listing) × IsListingOf file listing × TextEnds (due_after listing.end) ending was now (listing_text listing)
 

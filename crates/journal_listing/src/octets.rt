@@ -13,7 +13,7 @@ use std::alloc::Global;
 /// How many octets the source is asked for at a time.
 const PIECE: usize = 65_536;
 
-/// All octets that a source has; or the ending where it fails, or where there is no memory for them.
+/// All octets that a source has; or the ending where it fails, or where memory runs out.
 pub(crate) fn take_all<S: Source>(alloc: Global, source: &mut S) -> Result<Octets, Ending>
     ensures all { IfOk result (TakesAll (S.shows source.old) (S.shows source.new)) }
     ensures failed { IfErr result (λ ending.

@@ -19,7 +19,7 @@ pub(crate) enum Next {
     End { end: JournalEnd },
 }
 
-/// What the octets of a journal have. `NoMemory` where there is none for it, or for so many octets.
+/// What the octets of a journal have. `NoMemory` where it runs out, or where there are more octets than a disk can have.
 pub fn read_listing(alloc: Global, image: Octets) -> Result<Listing, NoMemory>
     ensures { IfOk result (IsListingOf image) }
 {
@@ -45,7 +45,7 @@ fn list_headless(alloc: Global, why: JournalRefusal) -> Result<Listing, NoMemory
     })
 }
 
-/// What is listed of a store that was just opened, on a disk of so many octets.
+/// What is listed of a store that was just opened, on a disk of this size.
 fn list_store(alloc: Global, mut store: TreeStore<MemDisk>, size: u64) -> Result<Listing, NoMemory>
     requires open { store.closed ≡ false }
     requires read { IsReadTo store [] }
@@ -84,7 +84,7 @@ fn list_batches(
     }
 }
 
-/// The next batch, or how the octets of the disk end, of which there are so many.
+/// The next batch, or how the octets of a disk of this size end.
 fn next_batch(alloc: Global, store: &mut TreeStore<MemDisk>, size: u64) -> Result<Next, NoMemory>
     requires open { store.old.closed ≡ false }
     requires size { size ≡ length store.old.disk.image }
@@ -105,7 +105,7 @@ fn next_batch(alloc: Global, store: &mut TreeStore<MemDisk>, size: u64) -> Resul
     }
 }
 
-/// How so many octets end that have a closed gate at this place.
+/// How octets of this size end that have a clear commit mark at this place.
 fn end_at(at: u64, size: u64) -> JournalEnd
     ensures { IsEndAt at size result }
 {

@@ -19,15 +19,15 @@ pub struct ListedBatch {
 /// How the octets of a journal end.
 #[derive(Clone, Copy, PartialEq, Eq)]
 pub enum JournalEnd {
-    /// With the closed gate after the last record.
+    /// With the clear commit mark after the last record.
     Whole,
-    /// At this place is the closed gate, and octets follow it, as of a record that was begun.
+    /// At this place is the clear commit mark, and octets follow it, as of a record that was begun.
     Begun { at: u64 },
-    /// At this place is neither a closed gate nor a record that is due.
+    /// At this place is neither a clear commit mark nor a record that is due.
     NotAJournal { at: u64 },
 }
 
-/// What a journal has: the head of its group, where it has one, the batches up to the first closed gate or the first fault, and how it ends.
+/// What a journal has: the head of its group, where it has one, the batches up to the first clear commit mark or the first fault, and how it ends.
 #[derive(Drop)]
 pub struct Listing {
     pub head: Option<Head>,
@@ -35,7 +35,7 @@ pub struct Listing {
     pub end: JournalEnd,
 }
 
-/// A batch as it is listed. The values of its keys are let go.
+/// A batch as it is listed. The values of its keys are dropped.
 pub(crate) fn listed(stored: Stored) -> ListedBatch
     ensures { result ≡ listed_as stored }
 {

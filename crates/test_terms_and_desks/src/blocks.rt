@@ -2,7 +2,7 @@
 use crate::octets::octets;
 use gd_cipher::{Key128, Key256};
 
-/// FIPS 197 as it stood in 2001, appendices B and C.1.
+/// FIPS 197 of 2001, appendices B and C.1.
 #[test]
 fn blocks_under_keys_of_128_bits(rt: HostRuntime) {
     let first = short_key_holds(
@@ -27,7 +27,7 @@ fn short_key_holds(key: &str, plain: &str, encrypted: &str) -> bool {
     there & (block == octets::<16>(plain))
 }
 
-/// FIPS 197 as it stood in 2001, appendix C.3, where nothing is added to the block; then SP 800-38A section F.2.5, where it is the IV or the
+/// FIPS 197 of 2001, appendix C.3, where nothing is added to the block; then SP 800-38A section F.2.5, where it is the IV or the
 /// sealed block before.
 #[test]
 fn blocks_under_keys_of_256_bits(rt: HostRuntime) {

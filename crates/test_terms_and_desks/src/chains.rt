@@ -50,7 +50,7 @@ fn come_back(seed: u64, there: Call, back: Call) -> bool {
     holds
 }
 
-/// Whether a text, so many of whose blocks are sealed or opened, is another one then, and comes back.
+/// Whether a text whose first blocks are sealed or opened is another one then, and comes back.
 fn comes_back(draws: &mut Draws, blocks: usize, there: Call, back: Call) -> bool {
     let key = Key128::new(draws.octets());
     let iv = draws.octets();
@@ -62,7 +62,7 @@ fn comes_back(draws: &mut Draws, blocks: usize, there: Call, back: Call) -> bool
     changed & (text == drawn)
 }
 
-/// Seals or opens so many first blocks of a text.
+/// Seals or opens the first blocks of a text.
 fn turn(key: &Key128, iv: &[u8; 16], text: &mut [u8; 128], blocks: usize, call: Call) {
     let (whole, _) = text.split_at_mut(16 * blocks.min(8));
     match call {

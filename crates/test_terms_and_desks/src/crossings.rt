@@ -37,7 +37,7 @@ fn boards_cross() -> bool {
     kept & sends::<BoardPass>() & shares::<Seen>() & sends::<Told>()
 }
 
-/// A desk at such a value, and all that its calls give.
+/// A desk at a value of this type, and all that its calls give.
 fn desks_cross<K: Kept + Send>() -> bool {
     let desk = shares::<Desk<K>>() & sends::<DeskMade<K>>();
     let passes = sends::<Pass<K>>() & sends::<List<Pass<K>>>();

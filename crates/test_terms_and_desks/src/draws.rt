@@ -11,14 +11,14 @@ fn draws_of_a_seed_are_words_of_its_key_stream(rt: HostRuntime) {
     assert!(rt; zeros & is_drawn(seed, 0, 8, 0xfb4dd572_4bc42ef1_df922636_327f1394));
 }
 
-/// Whether this is the block of a seed and a stream after so many others.
+/// Whether this is the block of a seed and a stream at this place.
 fn is_drawn(seed: u64, stream: u8, place: u64, want: u128) -> bool {
     let mut draws = ChaChaDraws::new(seed, stream);
     pass(&mut draws, place);
     (draws.place() == place) & (u128::from_be_bytes(draws.draw()) == want)
 }
 
-/// Draws so many blocks and drops them.
+/// Draws blocks and drops them.
 pub(crate) fn pass<D: Draws>(draws: &mut D, blocks: u64) {
     for _ in 0..blocks {
         draws.draw();

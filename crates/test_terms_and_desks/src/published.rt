@@ -73,7 +73,7 @@ pub struct OnBoard {
     pub board: EpochBoard,
 }
 
-/// Publishes each epoch that it is told, and waits in its turn for the flag.
+/// Publishes each epoch that it is given, and waits in its turn for the flag.
 #[derive(Drop)]
 pub(crate) struct Waiting<'a> {
     epochs: Log<u32>,

@@ -66,7 +66,7 @@ enum Trouble {
 }
 
 impl Trouble {
-    /// How many octets a call moves that has so many.
+    /// How many octets a call moves that may move `octets`.
     fn call(&mut self, octets: usize) -> io::Result<usize>
         ensures { IfOk result (λ count. count ≤ octets) }
     {

@@ -1,3 +1,4 @@
+//! A sum of its entries, for a desk.
 ghost use Rattle.std.specs.Prelude.{◌≡◌, [], length};
 
 use desk::Kept;

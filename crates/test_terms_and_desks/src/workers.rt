@@ -10,7 +10,7 @@ use std::alloc::Global;
 use std::sync::Wait;
 use std::thread::Threads;
 
-/// So many turns with each pass, in so many threads, by events that count up from 0; and the sum of them at a rate.
+/// How many turns are made with each pass, and in how many threads, by events that count up from 0; and their sum at a rate.
 #[derive(Clone, Copy)]
 struct Case {
     passes: u32,

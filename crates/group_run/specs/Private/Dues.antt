@@ -1,4 +1,4 @@
--- The pushes that are due, by the notes of those that were sent.
+-- The pushes that are due, by the notes of the pushes that were sent.
 use Rattle.std.specs.Prelude.{◌≡◌, ◌⊎◌, ℕ, ◌<◌, true, List, Some, slice_get}
 use Rattle.std.specs.List.{Contains}
 use Rattle.group_terms.specs.Names.{Name}

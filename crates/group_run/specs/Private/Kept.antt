@@ -44,7 +44,7 @@ pub record IsReadable (peers : List Peer) (entries : List Entry) (unread : Unrea
 abbrev pub IsOwn : List Peer → Sa → Type 0
 IsOwn peers sa = is_peer peers sa.phase.member ≡ true
 
--- The server is that of a host, whose SAs are those of peers, and what is on its way goes to peers. What was sent is known of a beginning of the history. Each push
+-- The server is that of a host, whose SAs are of peers, and what is on its way goes to peers. What was sent is known of a beginning of the history. Each push
 -- of it is noted, and no other.
 pub record IsKept {D G R : Type 0} (d : DiskGhosts D) (draws : DrawGhosts R) (server : ServerView D G R) (peers : List Peer) (unread : Unread) (sent : Known)
     (notes : List Note) (entries : List Entry) : Type 0 where

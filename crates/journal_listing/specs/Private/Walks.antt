@@ -26,7 +26,7 @@ abbrev pub IsFurther : View Medium → View Medium → Next → Type 0
 IsFurther was now (Batch batch) = (was.at < 2 ^ 62) × (was.at < now.at)
 IsFurther was now (End end) = ⊤
 
--- octets with a closed gate at this place end so, where there are so many
+-- octets of this size with a clear commit mark at this place end so
 abbrev pub IsEndAt : ℕ → ℕ → JournalEnd → Type 0
 IsEndAt at size Whole = size ≤ at + 1
 IsEndAt at size (Begun place) = (place ≡ at) × (at + 1 < size)
