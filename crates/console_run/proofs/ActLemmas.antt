@@ -203,8 +203,9 @@ module _ (block : ℕ → List ℕ) (group : Name) where
       | inr due ↦ can_ask members asked (requests.Deliver due.0.member due.0.number) acted members (stays members, tt) due.1
     ]
 
-    all_can : (members : Members) (asked : Asked) (acted : Members) (need : Bool)
-        → MatchBool need (Asks requests.DeliverAll members (Some (asked, acted))) (GivesWhatIsDue block group run before so_far members (Some (asked, acted)))
+    all_can : (members : Members) (asked : Asked) (acted : Members) (needs_reopen : Bool)
+        → MatchBool needs_reopen (Asks requests.DeliverAll members (Some (asked, acted)))
+        (GivesWhatIsDue block group run before so_far members (Some (asked, acted)))
         → CanAsk members asked acted
     all_can members asked acted true h = can_ask members asked requests.DeliverAll acted members (stays members, tt) h
     all_can members asked acted false h = due_can members asked acted h
@@ -222,7 +223,7 @@ module _ (block : ℕ → List ℕ) (group : Name) where
     first_can (Leave m) members asked acted h = can_ask members asked (requests.Leave m) acted members (stays members, tt) h
     first_can Batch members asked acted h = can_ask members asked requests.Batch acted members (stays members, tt) h
     first_can (Deliver m number) members asked acted h = can_ask members asked (requests.Deliver m number) acted members (stays members, tt) h
-    first_can DeliverAll members asked acted h = all_can members asked acted run.host.server.need h
+    first_can DeliverAll members asked acted h = all_can members asked acted run.host.server.needs_reopen h
     first_can (Key m) members asked acted h = can_ask members asked (requests.Key m) acted members (stays members, tt) h
     first_can (Derive epoch names) members asked acted h = can_ask members asked (requests.Derive epoch names) acted members (stays members, tt) h
     first_can Halt members asked acted h = can_ask members asked requests.Halt acted members (stays members, tt) h
@@ -235,8 +236,8 @@ module _ (block : ℕ → List ℕ) (group : Name) where
     after_join m (requests.Introduce phase) answer asked acted h = nothing_asked (asked, acted) h
     after_join m request answer asked acted h = mail_can run.members asked acted h
 
-    after_all : (need : Bool) (asked : Asked) (acted : Members)
-        → MatchBool need (IsNone (Some (asked, acted))) (GivesWhatIsDue block group run before so_far run.members (Some (asked, acted)))
+    after_all : (needs_reopen : Bool) (asked : Asked) (acted : Members)
+        → MatchBool needs_reopen (IsNone (Some (asked, acted))) (GivesWhatIsDue block group run before so_far run.members (Some (asked, acted)))
         → CanAsk run.members asked acted
     after_all true asked acted h = nothing_asked (asked, acted) h
     after_all false asked acted h = due_can run.members asked acted h
@@ -246,7 +247,7 @@ module _ (block : ℕ → List ℕ) (group : Name) where
     after_can (Join m) last asked acted h = after_join m last.asked last.answer asked acted h
     after_can (Again m) last asked acted h = mail_can run.members asked acted h
     after_can Batch last asked acted h = mail_can run.members asked acted h
-    after_can DeliverAll last asked acted h = after_all run.host.server.need asked acted h
+    after_can DeliverAll last asked acted h = after_all run.host.server.needs_reopen asked acted h
     after_can line last asked acted h = nothing_asked (asked, acted) h
 
     next_can : (line : Line) (last : Option Entry) (asked : Asked) (acted : Members) → AsksBy block group run before so_far line last (Some (asked, acted))

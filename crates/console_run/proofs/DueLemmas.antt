@@ -124,7 +124,7 @@ module _ {D G V R : Type 0} (on : Devices D G V) (draws : DrawGhosts R) (peers :
 
   -- the server does not have to be opened again, and this was given last
   abbrev pub goes_on : Option Delivery → List Entry → Run D → Type 0
-  goes_on last more run = (run.host.server.need ≡ false) × WasGivenLast run.members.all more last × IsStill last run
+  goes_on last more run = (run.host.server.needs_reopen ≡ false) × WasGivenLast run.members.all more last × IsStill last run
 
   -- pushes were given so far, and reported
   pub record IsGiving (last : Option Delivery) (old now : View D G R) (was seen : Shown) : Type 0 where
@@ -135,10 +135,11 @@ module _ {D G V R : Type 0} (on : Devices D G V) (draws : DrawGhosts R) (peers :
     pub stays : RulesStay old now
 
   -- nothing was given yet
-  pub giving_begins : (old : View D G R) (was : Shown) → old.members.mail ≡ [] → old.server.core.need ≡ false → IsGiving None old old was was
-  giving_begins old was rest need = record {
+  pub giving_begins : (old : View D G R) (was : Shown) → old.members.mail ≡ [] → old.server.core.needs_reopen ≡ false → IsGiving None old old was was
+  giving_begins old was rest needs_reopen = record {
     more = [];
-    going = Going-none on draws peers lines.DeliverAll (goes_on None) old was (λ run reflects. (sym reflects.server.stands.need ∙ need, refl, tt));
+    going = Going-none on draws peers lines.DeliverAll (goes_on None) old was
+        (λ run reflects. (sym reflects.server.stands.needs_reopen ∙ needs_reopen, refl, tt));
     small = tt;
     rest = rest;
     stays = record { rules = refl; place = refl };
@@ -166,7 +167,7 @@ module _ {D G V R : Type 0} (on : Devices D G V) (draws : DrawGhosts R) (peers :
         subst (λ so_far. AsksNext peers.block console_name run old.entries so_far lines.DeliverAll next) (sym kept.1) (
           middle.members,
           (reflects.members, giving.rest),
-          subst (λ need. MatchBool need (Asks requests.DeliverAll middle.members next)
+          subst (λ needs_reopen. MatchBool needs_reopen (Asks requests.DeliverAll middle.members next)
               (GivesWhatIsDue peers.block console_name run old.entries [] middle.members next)) (sym kept.0)
               (subst (λ so_far. GivesWhatIsDue peers.block console_name run old.entries so_far middle.members next) kept.1 due),
         )
@@ -177,7 +178,7 @@ module _ {D G V R : Type 0} (on : Devices D G V) (draws : DrawGhosts R) (peers :
         let same : middle.members ≡ run.members = ignores_none reflects.members.0 run.members middle.members reflects.members.1 kept.2 in
         subst (λ so_far. AsksNext peers.block console_name run old.entries so_far lines.DeliverAll next) (sym is)
         (asks_later lines.DeliverAll peers.block console_name run old.entries front entry next
-        (subst (λ need. MatchBool need (IsNone next)
+        (subst (λ needs_reopen. MatchBool needs_reopen (IsNone next)
         (GivesWhatIsDue peers.block console_name run old.entries (front ++ entry ∷ []) run.members next)) (sym kept.0)
         (subst (λ so_far. GivesWhatIsDue peers.block console_name run old.entries so_far run.members next) is
         (subst (λ members. GivesWhatIsDue peers.block console_name run old.entries more members next) same due))))
@@ -226,7 +227,7 @@ module _ {D G V R : Type 0} (on : Devices D G V) (draws : DrawGhosts R) (peers :
           (push_sent middle.entries delivery.number) acts.acted in
           let due = first.due in
           let there = keeps.0 delivery.place due.peer due.is_there in (
-            ap (λ (host : Host D). host.server.need) acts.stays ∙ kept.0,
+            ap (λ (host : Host D). host.server.needs_reopen) acts.stays ∙ kept.0,
             (more, answers.entry, refl, answers.asked, there.0, there.1, due.named ∙ sym there.2),
             keeps.1 ∙ giving.rest,
           )
@@ -250,32 +251,32 @@ module _ {D G V R : Type 0} (on : Devices D G V) (draws : DrawGhosts R) (peers :
           (stopped middle.entries answers.entry answers.added)
 
   -- the server has to be opened again
-  module _ (old new : View D G R) (was now : Shown) (rest : old.members.mail ≡ []) (need : old.server.core.need ≡ true) where
+  module _ (old new : View D G R) (was now : Shown) (rest : old.members.mail ≡ []) (needs_reopen : old.server.core.needs_reopen ≡ true) where
     abbrev stopped : List Entry → Run D → Type 0
-    stopped _ run = run.host.server.need ≡ true
+    stopped _ run = run.host.server.needs_reopen ≡ true
 
     none : Going on draws peers lines.DeliverAll stopped [] old old was was
-    none = Going-none on draws peers lines.DeliverAll stopped old was (λ run reflects. sym reflects.server.stands.need ∙ need)
+    none = Going-none on draws peers lines.DeliverAll stopped old was (λ run reflects. sym reflects.server.stands.needs_reopen ∙ needs_reopen)
 
-    asks_all : (run : Run D) → Reflects on.disks draws old run → run.host.server.need ≡ true
+    asks_all : (run : Run D) → Reflects on.disks draws old run → run.host.server.needs_reopen ≡ true
         → AsksNext peers.block console_name run old.entries [] lines.DeliverAll (Some (requests.DeliverAll, old.members))
-    asks_all run reflects need = (
+    asks_all run reflects needs_reopen = (
       old.members,
       (reflects.members, rest),
-      subst (λ need. MatchBool need (Asks requests.DeliverAll old.members (Some (requests.DeliverAll, old.members)))
-          (GivesWhatIsDue peers.block console_name run old.entries [] old.members (Some (requests.DeliverAll, old.members)))) (sym need) refl,
+      subst (λ needs_reopen. MatchBool needs_reopen (Asks requests.DeliverAll old.members (Some (requests.DeliverAll, old.members)))
+          (GivesWhatIsDue peers.block console_name run old.entries [] old.members (Some (requests.DeliverAll, old.members)))) (sym needs_reopen) refl,
     )
 
     module _ (moves : MovesBy on draws peers old new old.members requests.DeliverAll) where
       answers_all : Answers on draws peers old.members requests.DeliverAll old new
       answers_all = Answers-by on draws peers old new old.members requests.DeliverAll moves
 
-      asks_no_more : (run : Run D) → run.host.server.need ≡ true
+      asks_no_more : (run : Run D) → run.host.server.needs_reopen ≡ true
           → AsksNext peers.block console_name run old.entries (answers_all.entry ∷ []) lines.DeliverAll None
-      asks_no_more run need =
+      asks_no_more run needs_reopen =
           asks_later lines.DeliverAll peers.block console_name run old.entries [] answers_all.entry None
-          (subst (λ need. MatchBool need (IsNone None)
-          (GivesWhatIsDue peers.block console_name run old.entries (answers_all.entry ∷ []) run.members None)) (sym need) refl)
+          (subst (λ needs_reopen. MatchBool needs_reopen (IsNone None)
+          (GivesWhatIsDue peers.block console_name run old.entries (answers_all.entry ∷ []) run.members None)) (sym needs_reopen) refl)
 
       Runs-refused : IsReported on draws peers old new was now → Runs on.disks draws peers (by_line on lines.DeliverAll) old new was now
       Runs-refused reported =
@@ -286,7 +287,7 @@ module _ {D G V R : Type 0} (on : Devices D G V) (draws : DrawGhosts R) (peers :
           let answered = subst
           (λ asked. IsAnswered on by old.entries asked (with_members run old.members) answers_all.entry.answer answers_all.entry.outside next)
           answers_all.asked step.answered in
-          ap (λ (host : Host D). host.server.need) answered.served.says.stays ∙ kept)
+          ap (λ (host : Host D). host.server.needs_reopen) answered.served.says.stays ∙ kept)
           told.0 told.1)
           (λ run reflects kept. asks_no_more run kept)
 

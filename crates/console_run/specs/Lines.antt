@@ -98,7 +98,7 @@ module _ (block : ℕ → List ℕ) (group : Name) {D : Type 0} (run : Run D) (b
   AsksFirst (Leave m) members next = Asks (requests.Leave m) members next
   AsksFirst Batch members next = Asks requests.Batch members next
   AsksFirst (Deliver m number) members next = Asks (requests.Deliver m number) members next
-  AsksFirst DeliverAll members next = MatchBool run.host.server.need (Asks requests.DeliverAll members next) (GivesWhatIsDue members next)
+  AsksFirst DeliverAll members next = MatchBool run.host.server.needs_reopen (Asks requests.DeliverAll members next) (GivesWhatIsDue members next)
   AsksFirst (Key m) members next = Asks (requests.Key m) members next
   AsksFirst (Derive epoch members) present next = Asks (requests.Derive epoch members) present next
   AsksFirst Halt members next = Asks requests.Halt members next
@@ -110,7 +110,7 @@ module _ (block : ℕ → List ℕ) (group : Name) {D : Type 0} (run : Run D) (b
   AsksAfter (Join m) last next = JoinsAfter m last.asked last.answer next
   AsksAfter (Again m) last next = ReadsMail run.members next
   AsksAfter Batch last next = ReadsMail run.members next
-  AsksAfter DeliverAll last next = MatchBool run.host.server.need (next ≡ None) (GivesWhatIsDue run.members next)
+  AsksAfter DeliverAll last next = MatchBool run.host.server.needs_reopen (next ≡ None) (GivesWhatIsDue run.members next)
   AsksAfter line last next = next ≡ None
 
   -- by the last entry that the line gave so far

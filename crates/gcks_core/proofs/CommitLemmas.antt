@@ -65,7 +65,7 @@ module _ {D G R : Type 0} (draws : DrawGhosts R) (core : View D G R) (server : S
     due = stands.due;
     fit = stands.fit;
     queue = more ∙ ap (λ before. before ++ change ∷ []) stands.queue;
-    need = stands.need;
+    needs_reopen = stands.needs_reopen;
     sure = stands.sure;
     place = stands.place;
   }
@@ -82,7 +82,7 @@ module _ {D G R : Type 0} (draws : DrawGhosts R) (core : View D G R) (server : S
     due = stands.due;
     fit = stands.fit;
     queue = same ∙ stands.queue;
-    need = stands.need;
+    needs_reopen = stands.needs_reopen;
     sure = stands.sure;
     place = stands.place;
   }
@@ -102,18 +102,18 @@ module _ {D G R : Type 0} (draws : DrawGhosts R) (core : View D G R) (server : S
         (subst (λ depth. AreDue depth core.head.limit (server.list ++ made ∷ [])) stands.depth group.due);
     fit = group.fit;
     queue = none;
-    need = stands.need;
+    needs_reopen = stands.needs_reopen;
     sure = stands.sure;
     place = stands.place;
   }
 
   -- ---- what is in the journal
 
-  module _ (goes : core.need ≡ false) where
+  module _ (goes : core.needs_reopen ≡ false) where
     -- of a core that is open no batch is in doubt
     has_list : (list : List Made) → MayHave server list → list ≡ server.list
     has_list list (inl same) = same
-    has_list list (inr (made, doubt, more)) = absurd (cc (doubt, stands.sure (sym stands.need ∙ goes)))
+    has_list list (inr (made, doubt, more)) = absurd (cc (doubt, stands.sure (sym stands.needs_reopen ∙ goes)))
 
     -- and so its journal has the batches of its server
     pub has_batches : (file : List ℕ) → IsFileOf core.head server file → IsGroup file core.head (stored_list core.head.depth server.list)
@@ -160,7 +160,7 @@ module _ {D G R : Type 0} {draws : DrawGhosts R} {core view : View D G R} (same 
   )
 
   pub join_step : (m : Name) (result : Result (Unit {0}) Refusal) (queue : List Change)
-      → GivesRefusal (why_no_join core.need core.tree.depth core.tree.holders core.queue m) result
+      → GivesRefusal (why_no_join core.needs_reopen core.tree.depth core.tree.holders core.queue m) result
       → OnOk result (queue ≡ core.queue ++ In m ∷ []) → OnErr result (queue ≡ core.queue)
       → (next : Server) × IsJoin server m result next × Stands draws (record core { queue = queue }) next
   join_step m (Ok done) queue gives more unchanged =
@@ -169,7 +169,7 @@ module _ {D G R : Type 0} {draws : DrawGhosts R} {core view : View D G R} (same 
       refused why queue (same_no_join draws core server (stands_there same server stands) m) gives unchanged
 
   pub leave_step : (m : Name) (result : Result (Unit {0}) Refusal) (queue : List Change)
-      → GivesRefusal (why_no_leave core.need core.tree.depth core.tree.holders core.queue m) result
+      → GivesRefusal (why_no_leave core.needs_reopen core.tree.depth core.tree.holders core.queue m) result
       → OnOk result (queue ≡ core.queue ++ Out m ∷ []) → OnErr result (queue ≡ core.queue)
       → (next : Server) × IsLeave server m result next × Stands draws (record core { queue = queue }) next
   leave_step m (Ok done) queue gives more unchanged =
@@ -215,7 +215,7 @@ module _ {D G R : Type 0} {draws : DrawGhosts R} {g : SignerGhosts G} {core view
         subst (IsCoreOutputOf g view.signer view.head.depth view.head.spi (server.list ++ coming_batch server ready.values ∷ [])) (sym is)
         (puts_out_now draws view server stands g ready (all_ready server stands))
 
-    module _ (disks : Ghosts D) (goes : view.need ≡ false) where
+    module _ (disks : Ghosts D) (goes : view.needs_reopen ≡ false) where
       -- the journal before it
       pub knows_there : IsOnDisk disks view.disk view.head server
           → Knows (shown disks core.disk) (λ file. IsGroup file core.head (stored_list core.head.depth server.list))

@@ -39,8 +39,9 @@ module _ {D : Type 0} (g : Ghosts D) where
 
 -- the server that was just opened
 pub stands_opened : {D G R : Type 0} (draws : DrawGhosts R) (core : View D G R) (list : List Made) → IsGroupOf core.head core.tree core.kept list
-    → core.need ≡ false → core.queue ≡ [] → (place : ℕ) → draws.place_of core.draws ≡ place
+    → core.needs_reopen ≡ false → core.queue ≡ [] → (place : ℕ) → draws.place_of core.draws ≡ place
     → Stands draws core (opened_server core.head.depth core.head.limit list place)
-stands_opened draws core list group need queue place there =
+stands_opened draws core list group needs_reopen queue place there =
     subst (Stands draws core)
-    (λ i. record (opened_server core.head.depth core.head.limit list (there i)) { need = need i; queue = queue i }) (stands_as draws core list group)
+    (λ i. record (opened_server core.head.depth core.head.limit list (there i)) { needs_reopen = needs_reopen i; queue = queue i })
+    (stands_as draws core list group)

@@ -112,12 +112,12 @@ module _ {D G R : Type 0} (draws : DrawGhosts R) (core : View D G R) (server : S
     due = stands.due;
     fit = stands.fit;
     queue = stands.queue;
-    need = stands.need;
+    needs_reopen = stands.needs_reopen;
     sure = stands.sure;
     place = there;
   }
 
-  module _ (going : core.need ≡ false) (changes : List Change) (same : changes ≡ core.queue) where
+  module _ (going : core.needs_reopen ≡ false) (changes : List Change) (same : changes ≡ core.queue) where
     abbrev batches : List (List Change)
     batches = batches_made server.list
 
@@ -135,8 +135,8 @@ module _ {D G R : Type 0} (draws : DrawGhosts R) (core : View D G R) (server : S
     queued : changes ≡ server.queue
     queued = same ∙ stands.queue
 
-    needs : false ≡ server.need
-    needs = sym going ∙ stands.need
+    needs : false ≡ server.needs_reopen
+    needs = sym going ∙ stands.needs_reopen
 
     same_refusal : why_not ≡ refusal_to_batch server
     same_refusal i =

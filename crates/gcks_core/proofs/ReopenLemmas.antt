@@ -51,15 +51,15 @@ one_list one file head other list others is has =
 module _ {D G R : Type 0} (draws : DrawGhosts R) (old : View D G R) (server : Server) (stands : Stands draws old server) where
   -- the journal was opened again, and had these
   pub stands_again : (new : View D G R) (found list : List Made) → IsGroupOf new.head new.tree new.kept found → new.head ≡ old.head → found ≡ list
-      → new.need ≡ false → new.queue ≡ [] → new.draws ≡ old.draws → Stands draws new (reopened server list)
-  stands_again new found list group same_head same need queue same_draws =
+      → new.needs_reopen ≡ false → new.queue ≡ [] → new.draws ≡ old.draws → Stands draws new (reopened server list)
+  stands_again new found list group same_head same needs_reopen queue same_draws =
       subst (Stands draws new)
       (λ i. record {
         depth = (ap (λ (h : Head). h.depth) same_head ∙ stands.depth) i;
         limit = (ap (λ (h : Head). h.limit) same_head ∙ stands.limit) i;
         list = same i;
         doubt = None;
-        need = need i;
+        needs_reopen = needs_reopen i;
         queue = queue i;
         place = (ap draws.place_of same_draws ∙ stands.place) i;
       })
@@ -72,7 +72,7 @@ module _ {D G R : Type 0} (disk : Ghosts D) (signing : SignerGhosts G) (draws : 
     (resent : Option PushPair) (pair : IsPairIfStayed signing inside.signer head.depth head.spi list resent) where
   -- the core that is open then
   abbrev new : View D G R
-  new = record { disk = now; signer = inside.signer; draws = inside.draws; head = head; tree = tree; kept = kept; queue = queue; need = false }
+  new = record { disk = now; signer = inside.signer; draws = inside.draws; head = head; tree = tree; kept = kept; queue = queue; needs_reopen = false }
 
   was_shown : shown disk now ≡ shown disk old.disk
   was_shown = shows ∙ ap (λ (core : View D G R). shown disk core.disk) same

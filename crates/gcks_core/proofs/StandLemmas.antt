@@ -20,7 +20,7 @@ module _ {D G R : Type 0} (draws : DrawGhosts R) (core : View D G R) where
     limit = core.head.limit;
     list = list;
     doubt = None;
-    need = core.need;
+    needs_reopen = core.needs_reopen;
     queue = core.queue;
     place = draws.place_of core.draws;
   }
@@ -36,7 +36,7 @@ module _ {D G R : Type 0} (draws : DrawGhosts R) (core : View D G R) where
     due = group.due;
     fit = group.fit;
     queue = refl;
-    need = refl;
+    needs_reopen = refl;
     sure = λ _. refl;
     place = refl;
   }
@@ -59,8 +59,8 @@ module _ {D G R : Type 0} (draws : DrawGhosts R) (core : View D G R) where
     pub same_holders : core.tree.holders ≡ members_now server
     same_holders = stands.tree.holders ∙ ap (λ depth. holders_of depth (batches_made server.list)) stands.tree_depth
 
-    pub same_no_join : (m : Name) → why_no_join core.need core.tree.depth core.tree.holders core.queue m ≡ refusal_to_join server m
-    same_no_join m i = why_no_join (stands.need i) (stands.tree_depth i) (same_holders i) (stands.queue i) m
+    pub same_no_join : (m : Name) → why_no_join core.needs_reopen core.tree.depth core.tree.holders core.queue m ≡ refusal_to_join server m
+    same_no_join m i = why_no_join (stands.needs_reopen i) (stands.tree_depth i) (same_holders i) (stands.queue i) m
 
-    pub same_no_leave : (m : Name) → why_no_leave core.need core.tree.depth core.tree.holders core.queue m ≡ refusal_to_leave server m
-    same_no_leave m i = why_no_leave (stands.need i) (stands.tree_depth i) (same_holders i) (stands.queue i) m
+    pub same_no_leave : (m : Name) → why_no_leave core.needs_reopen core.tree.depth core.tree.holders core.queue m ≡ refusal_to_leave server m
+    same_no_leave m i = why_no_leave (stands.needs_reopen i) (stands.tree_depth i) (same_holders i) (stands.queue i) m

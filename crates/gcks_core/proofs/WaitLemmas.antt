@@ -38,11 +38,11 @@ none_holds false false false true w x y z none = record { not_first = refl; not_
 none_holds false false false false w x y z none = absurd (cc)
 
 -- a join that no reason keeps out is added to what waits
-pub is_added : (need : Bool) (depth : ℕ) (holders : Holders) (queue : List Change) (m : Name) → why_no_join need depth holders queue m ≡ None
+pub is_added : (needs_reopen : Bool) (depth : ℕ) (holders : Holders) (queue : List Change) (m : Name) → why_no_join needs_reopen depth holders queue m ≡ None
     → answer_to_change queue (In m) ≡ Ok tt
-is_added need depth holders queue m none =
+is_added needs_reopen depth holders queue m none =
     let leaves = leaves_taken depth holders queue in
-    let holds = none_holds need (is_pending queue m) (leaves == 2 ^ depth) (nat_lt (length queue) 32) NeedsReopen AlreadyPending (TreeFull leaves)
+    let holds = none_holds needs_reopen (is_pending queue m) (leaves == 2 ^ depth) (nat_lt (length queue) 32) NeedsReopen AlreadyPending (TreeFull leaves)
     (BatchFull (length queue)) none in
     let free = holds.not_second in
     let room = holds.is_fourth in

@@ -22,6 +22,6 @@ pub record Stands {D G R : Type 0} (draws : DrawGhosts R) (core : View D G R) (s
   pub due : AreDue server.depth server.limit server.list
   pub fit : All MadeFits server.list
   pub queue : core.queue ≡ server.queue
-  pub need : core.need ≡ server.need
-  pub sure : server.need ≡ false → server.doubt ≡ None
+  pub needs_reopen : core.needs_reopen ≡ server.needs_reopen
+  pub sure : server.needs_reopen ≡ false → server.doubt ≡ None
   pub place : draws.place_of core.draws ≡ server.place

@@ -15,4 +15,4 @@ pub record View (D G R : Type 0) : Type 0 where
   pub tree : Present
   pub kept : Kept
   pub queue : List Change
-  pub need : Bool
+  pub needs_reopen : Bool

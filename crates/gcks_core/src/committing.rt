@@ -15,7 +15,7 @@ ghost use Rattle.gcks_core.specs.Stored.{stored_after, stored_list};
 use crate::{CoreOutput, Prepared, Refusal};
 use gd_disk::Disk;
 use group_model::PresentTree;
-use group_pushes::values_fit;
+use group_pushes::prove_values_fit;
 use group_values::KeptValues;
 use tree_store::{TreeStore, a_file_has_one_group};
 
@@ -54,7 +54,7 @@ pub(crate) fn store_batch<D: Disk>(
         output,
         step,
     } = ready;
-    values_fit(&values);
+    prove_values_fit(&values);
     match store.commit(&text) {
         Ok(()) => {
             tree.advance(step);

@@ -38,7 +38,7 @@ pub struct Core<D: Disk, G: Signer, R: Draws> {
     pub(crate) kept: KeptValues,
     pub(crate) queue: Queue,
     /// Whether it has to be opened again.
-    pub(crate) stopped: bool,
+    pub(crate) needs_reopen: bool,
 }
 
 impl<D: Disk, G: Signer, R: Draws> Model for Core<D, G, R> {
@@ -47,7 +47,7 @@ impl<D: Disk, G: Signer, R: Draws> Model for Core<D, G, R> {
 
     ghost Value = { View D G R };
 
-    ghost invariant = { λ core. IsCore D.Disk core.store core.head core.tree core.kept core.queue core.stopped };
+    ghost invariant = { λ core. IsCore D.Disk core.store core.head core.tree core.kept core.queue core.needs_reopen };
 
     ghost view = { λ core. record {
       disk = core.store.disk;
@@ -57,7 +57,7 @@ impl<D: Disk, G: Signer, R: Draws> Model for Core<D, G, R> {
       tree = core.tree;
       kept = core.kept;
       queue = core.queue;
-      need = core.stopped;
+      needs_reopen = core.needs_reopen;
     } };
 }
 
@@ -73,7 +73,7 @@ impl<D: Disk, G: Signer, R: Draws> Core<D, G, R> {
         ensures rest { self.new ≡ record self.old { queue = self.new.queue } }
         ensures err { OnErr result (self.new ≡ self.old) }
     {
-        queue_join(self.stopped, &self.tree, &mut self.queue, member)
+        queue_join(self.needs_reopen, &self.tree, &mut self.queue, member)
     }
 
     /// A change waits for the next batch: a member goes out. It takes no memory.
@@ -86,7 +86,7 @@ impl<D: Disk, G: Signer, R: Draws> Core<D, G, R> {
         ensures rest { self.new ≡ record self.old { queue = self.new.queue } }
         ensures err { OnErr result (self.new ≡ self.old) }
     {
-        queue_leave(self.stopped, &self.tree, &mut self.queue, member)
+        queue_leave(self.needs_reopen, &self.tree, &mut self.queue, member)
     }
 
     /// Makes all that the changes that wait make as a batch: the values of its keys, which are drawn now, its record, and what it puts out, with the keys for
@@ -99,12 +99,12 @@ impl<D: Disk, G: Signer, R: Draws> Core<D, G, R> {
         ensures ready { (server : Server) → Stands R.Draws self.new server →
             IfOk result (IsReadyFor G.Signer self.new.signer self.new.head self.new.tree self.new.queue server.list) }
         ensures fit { IfOk result (λ prepared. ValuesFit prepared.values) }
-        ensures open { OnOk result (self.new.need ≡ false) }
+        ensures open { OnOk result (self.new.needs_reopen ≡ false) }
         ensures blocks { (k : ℕ) → R.block_at self.new.draws k ≡ R.block_at self.old.draws k }
         ensures rest { self.new ≡ record self.old { draws = self.new.draws } }
         ensures refused { IfErr result (λ why. (why ≡ NoMemory → ⊥) → self.new ≡ self.old) }
     {
-        if self.stopped {
+        if self.needs_reopen {
             return Err(Refusal::NeedsReopen);
         }
         prepare_batch::<D, G, R>(
@@ -124,7 +124,7 @@ impl<D: Disk, G: Signer, R: Draws> Core<D, G, R> {
     pub fn commit(&mut self, prepared: Prepared) -> Result<CoreOutput, Refusal>
         requires ready { (server : Server) → Stands R.Draws self.old server →
             IsReadyFor G.Signer self.old.signer self.old.head self.old.tree self.old.queue server.list prepared }
-        requires open { self.old.need ≡ false }
+        requires open { self.old.needs_reopen ≡ false }
         ensures step { (server : Server) → Stands R.Draws self.old server →
             (next : Server) × IsStoring server prepared.values result next × Stands R.Draws self.new next }
         ensures output { IfOk result (λ output. output ≡ prepared.output) }
@@ -139,7 +139,7 @@ impl<D: Disk, G: Signer, R: Draws> Core<D, G, R> {
             OnErr result (IsOnDisk D.Disk self.new.disk self.new.head (in_doubt server (coming_batch server prepared.values))) }
         ensures any_moment { (server : Server) → Stands R.Draws self.old server → Knows (shown D.Disk self.old.disk) (λ file. IsFileOf self.old.head server file →
             LeavesOnly D.Disk self.old.disk self.new.disk (IsFileOf self.old.head (in_doubt server (coming_batch server prepared.values)))) }
-        ensures rest { OnErr result (self.new ≡ record self.old { disk = self.new.disk; need = true }) }
+        ensures rest { OnErr result (self.new ≡ record self.old { disk = self.new.disk; needs_reopen = true }) }
         ensures cause { IfErr result (λ why. (why ≡ DiskFault) × Rose (D.faults self.old.disk) (D.faults self.new.disk)) }
         ensures stands { OnOk result (D.faults self.new.disk ≡ D.faults self.old.disk) }
         ensures same { (self.new.signer ≡ self.old.signer) × (self.new.draws ≡ self.old.draws) × (self.new.head ≡ self.old.head) }
@@ -152,7 +152,7 @@ impl<D: Disk, G: Signer, R: Draws> Core<D, G, R> {
                 Ok(output)
             }
             Err(why) => {
-                self.stopped = true;
+                self.needs_reopen = true;
                 Err(why)
             }
         }
@@ -161,9 +161,9 @@ impl<D: Disk, G: Signer, R: Draws> Core<D, G, R> {
     /// From now on it answers `NeedsReopen`, until it is opened again. Nothing else changes.
     pub fn halt(&mut self)
         ensures step { (server : Server) → Stands R.Draws self.old server → Stands R.Draws self.new (halted server) }
-        ensures rest { self.new ≡ record self.old { need = true } }
+        ensures rest { self.new ≡ record self.old { needs_reopen = true } }
     {
-        self.stopped = true;
+        self.needs_reopen = true;
     }
 
     /// Opens the journal again: its batches are those that were there, or with the one that was in doubt; no change waits. The pair of its last batch is
@@ -182,7 +182,7 @@ impl<D: Disk, G: Signer, R: Draws> Core<D, G, R> {
         ensures refused { (server : Server) → Stands R.Draws self.old server → OnErr result (Stands R.Draws self.new (halted server)) }
         ensures durable { (result ≡ Err DiskFault → ⊥) → Knows (shown D.Disk self.new.disk) (λ file. Only file (D.may_leave self.new.disk)) }
         ensures any_moment { Knows (shown D.Disk self.old.disk) (λ _. LeavesOnly D.Disk self.old.disk self.new.disk (D.may_leave self.old.disk)) }
-        ensures err { OnErr result (self.new ≡ record self.old { disk = self.new.disk; need = true }) }
+        ensures err { OnErr result (self.new ≡ record self.old { disk = self.new.disk; needs_reopen = true }) }
         ensures no_other { IfErr result (λ why. (why ≡ DiskFault) ⊎ ((why ≡ NoMemory) ⊎ ((at : ℕ) × (why ≡ NotAJournal at)))) }
         ensures cause { result ≡ Err DiskFault → Rose (D.faults self.old.disk) (D.faults self.new.disk) }
         ensures stands { (result ≡ Err DiskFault → ⊥) → D.faults self.new.disk ≡ D.faults self.old.disk }
@@ -198,11 +198,11 @@ impl<D: Disk, G: Signer, R: Draws> Core<D, G, R> {
                 self.tree = found.tree;
                 self.kept = found.kept;
                 self.queue = Queue::new();
-                self.stopped = false;
+                self.needs_reopen = false;
                 Ok(found.resent)
             }
             Err(why) => {
-                self.stopped = true;
+                self.needs_reopen = true;
                 Err(refusal_of(why))
             }
         }

@@ -26,13 +26,14 @@ use kd_wire::spi_fits;
 impl<D: Disk, G: Signer, R: Draws> Core<D, G, R> {
     /// Says what is so between two calls: some server is this core, and where it does not have to be opened again, its journal has the batches of that server, and
     /// a crash leaves them.
-    pub fn rests(&self)
-        ensures some { (server : Server) × Stands R.Draws self.now server × (self.now.need ≡ false → IsOnDisk D.Disk self.now.disk self.now.head server) }
-        ensures durable { self.now.need ≡ false → Knows (shown D.Disk self.now.disk) (λ file. Only file (D.may_leave self.now.disk)) }
-        ensures still { self.now.need ≡ false →
+    pub fn prove_at_rest(&self)
+        ensures some { (server : Server) × Stands R.Draws self.now server
+            × (self.now.needs_reopen ≡ false → IsOnDisk D.Disk self.now.disk self.now.head server) }
+        ensures durable { self.now.needs_reopen ≡ false → Knows (shown D.Disk self.now.disk) (λ file. Only file (D.may_leave self.now.disk)) }
+        ensures still { self.now.needs_reopen ≡ false →
             Knows (shown D.Disk self.now.disk) (λ file. LeavesOnly D.Disk self.now.disk self.now.disk (λ c. c ≡ file)) }
     {
-        self.store.rests();
+        self.store.prove_at_rest();
     }
 
     /// Its head is one that a journal can have, as its type says.
@@ -122,10 +123,10 @@ impl<D: Disk, G: Signer, R: Draws> Core<D, G, R> {
         requires { is_member self.now.tree.holders member.now ≡ true }
         ensures ok { (server : Server) → Stands R.Draws self.now server →
             IfOk result (IsKeyedOf server.depth self.now.head.spi server.list member.now) }
-        ensures open { self.now.need ≡ false → OnErr result ⊥ }
-        ensures stopped { self.now.need ≡ true → result ≡ Err NeedsReopen }
+        ensures open { self.now.needs_reopen ≡ false → OnErr result ⊥ }
+        ensures needs_reopen { self.now.needs_reopen ≡ true → result ≡ Err NeedsReopen }
     {
-        if self.stopped {
+        if self.needs_reopen {
             return Err(Refusal::NeedsReopen);
         }
         Ok(keyed(&self.tree, &self.kept, &self.head.spi, member).unwrap())
@@ -134,9 +135,9 @@ impl<D: Disk, G: Signer, R: Draws> Core<D, G, R> {
     /// Why the join of somebody may not wait for the next batch, if there is a reason: `NeedsReopen`, `AlreadyPending`, `TreeFull`, `BatchFull`, the first of
     /// these that holds.
     pub fn refusal_to_join(&self, member: &MemberName) -> Option<Refusal>
-        ensures { result ≡ why_no_join self.now.need self.now.tree.depth self.now.tree.holders self.now.queue member.now }
+        ensures { result ≡ why_no_join self.now.needs_reopen self.now.tree.depth self.now.tree.holders self.now.queue member.now }
     {
-        why_no_join(self.stopped, &self.tree, &self.queue, member)
+        why_no_join(self.needs_reopen, &self.tree, &self.queue, member)
     }
 
     /// Whether a change of this member waits.
@@ -179,9 +180,9 @@ impl<D: Disk, G: Signer, R: Draws> Core<D, G, R> {
 
     /// Whether it has to be opened again.
     pub fn needs_reopen(&self) -> bool
-        ensures { result ≡ self.now.need }
+        ensures { result ≡ self.now.needs_reopen }
     {
-        self.stopped
+        self.needs_reopen
     }
 
     /// Returns disk, signer and draws.

@@ -84,7 +84,7 @@ impl<D: Disk, G: Signer, R: Draws> Core<D, G, R> {
                 tree,
                 kept,
                 queue: Queue::new(),
-                stopped: false,
+                needs_reopen: false,
             }),
             Err(FormatRefusal { why, disk }) => Err(Opening {
                 refusal: refusal_of(why),
@@ -158,7 +158,7 @@ impl<D: Disk, G: Signer, R: Draws> Core<D, G, R> {
                     tree,
                     kept,
                     queue: Queue::new(),
-                    stopped: false,
+                    needs_reopen: false,
                 },
                 resent,
             }),

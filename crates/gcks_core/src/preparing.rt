@@ -28,7 +28,7 @@ use gd_disk::Disk;
 use gd_edges::{Draws, Signer};
 use group_keys::keyed_after;
 use group_model::{Counter, PresentTree, PushPair, TreeStep, each_leaf_has_its_place};
-use group_pushes::{values_fit, write_pair};
+use group_pushes::{prove_values_fit, write_pair};
 use group_terms::{Batch, BatchValues, Change, List, NoMemory, Octets, Wrap};
 use group_values::{KeptValues, draw_values};
 use std::alloc::Global;
@@ -69,7 +69,7 @@ pub(crate) fn prepare_batch<D: Disk, G: Signer, R: Draws>(
 {
     let step = next_step(alloc, tree, batch, head.limit)?;
     let values = draw_values(alloc, draws, step.drawn())?;
-    values_fit(&values);
+    prove_values_fit(&values);
     let ready = make_ready::<D, G>(alloc, tree, kept, batch, head, signer, &step, &values)?;
     Ok(ready.of(step, values))
 }

@@ -20,7 +20,7 @@ use crate::{PushPair, Refusal};
 use gd_disk::Disk;
 use gd_edges::Signer;
 use group_model::{PresentTree, TreeStep};
-use group_pushes::{values_fit, write_pair};
+use group_pushes::{prove_values_fit, write_pair};
 use group_terms::NoMemory;
 use group_values::KeptValues;
 use std::alloc::Global;
@@ -63,13 +63,13 @@ pub(crate) fn read_all<D: Disk, G: Signer>(
     ensures stands { (result ≡ Err DiskFault → ⊥) → D.faults store.new.disk ≡ D.faults store.old.disk }
     ensures keeps { Keeps D.Disk store.old.disk store.new.disk }
 {
-    store.rests();
+    store.prove_at_rest();
     let head = store.head();
     let mut walk = begin(alloc, &head)?;
     while let Some(stored) = store.next_batch(alloc)? {
         walk.go_on(alloc, &head, stored)?;
     }
-    store.rests();
+    store.prove_at_rest();
     Ok(walk.finish(alloc, &head, signer)?)
 }
 
@@ -180,7 +180,7 @@ fn pair_of<G: Signer>(
         IfOk result (IsPairIfStayed G.Signer signer.now head.now.depth head.now.spi (before ++ made_of stored.now ∷ [])) }
 {
     let step = due_step(alloc, tree, stored, head.limit)?;
-    values_fit(&stored.values);
+    prove_values_fit(&stored.values);
     renews_few(tree, &stored.batch);
     let pair = write_pair(alloc, tree, &step, kept, &stored.values, &head.spi, signer)?;
     tree.advance(step);
@@ -218,7 +218,7 @@ fn take_in(
         OnOk result (IsGroupOf head.now tree.new kept.new (before ++ made_of stored.now ∷ [])) }
 {
     let step = due_step(alloc, tree, stored, head.limit)?;
-    values_fit(&stored.values);
+    prove_values_fit(&stored.values);
     tree.advance(step);
     kept.take(&stored.values);
     Ok(())

@@ -12,19 +12,19 @@ use group_terms::{Change, MOST_CHANGES};
 
 /// Lets a name in with the next batch, which is no member.
 pub(crate) fn queue_join(
-    stopped: bool,
+    needs_reopen: bool,
     tree: &PresentTree,
     queue: &mut Queue,
     member: &MemberName,
 ) -> Result<(), Refusal>
     requires fits { Fits tree.now.holders queue.old }
     requires stranger { is_member tree.now.holders member.now ≡ false }
-    ensures answer { GivesRefusal (why_no_join stopped tree.now.depth tree.now.holders queue.old member.now) result }
+    ensures answer { GivesRefusal (why_no_join needs_reopen tree.now.depth tree.now.holders queue.old member.now) result }
     ensures ok { OnOk result (queue.new ≡ queue.old ++ In member.now ∷ []) }
     ensures err { OnErr result (queue.new ≡ queue.old) }
     ensures fits { Fits tree.now.holders queue.new }
 {
-    if let Some(why) = why_no_join(stopped, tree, queue, member) {
+    if let Some(why) = why_no_join(needs_reopen, tree, queue, member) {
         return Err(why);
     }
     queue.add(Change::In { member: *member }).unwrap();
@@ -33,17 +33,17 @@ pub(crate) fn queue_join(
 
 /// Why a join may not wait, if there is a reason: the first that holds. Where there is none, the join of somebody who is no member fits with what waits.
 pub(crate) fn why_no_join(
-    stopped: bool,
+    needs_reopen: bool,
     tree: &PresentTree,
     queue: &Queue,
     member: &MemberName,
 ) -> Option<Refusal>
     requires fits { Fits tree.now.holders queue.now }
-    ensures why { result ≡ why_no_join stopped tree.now.depth tree.now.holders queue.now member.now }
+    ensures why { result ≡ why_no_join needs_reopen tree.now.depth tree.now.holders queue.now member.now }
     ensures fits { result ≡ None → is_member tree.now.holders member.now ≡ false → Fits tree.now.holders (queue.now ++ In member.now ∷ []) }
 {
     granted_changes_fit();
-    if stopped {
+    if needs_reopen {
         return Some(Refusal::NeedsReopen);
     }
     if queue.has(member) {
@@ -64,19 +64,19 @@ pub(crate) fn why_no_join(
 
 /// Takes a member out with the next batch.
 pub(crate) fn queue_leave(
-    stopped: bool,
+    needs_reopen: bool,
     tree: &PresentTree,
     queue: &mut Queue,
     member: &MemberName,
 ) -> Result<(), Refusal>
     requires fits { Fits tree.now.holders queue.old }
-    ensures answer { GivesRefusal (why_no_leave stopped tree.now.depth tree.now.holders queue.old member.now) result }
+    ensures answer { GivesRefusal (why_no_leave needs_reopen tree.now.depth tree.now.holders queue.old member.now) result }
     ensures ok { OnOk result (queue.new ≡ queue.old ++ Out member.now ∷ []) }
     ensures err { OnErr result (queue.new ≡ queue.old) }
     ensures fits { Fits tree.now.holders queue.new }
 {
     granted_changes_fit();
-    if stopped {
+    if needs_reopen {
         return Err(Refusal::NeedsReopen);
     }
     if !tree.is_member(member) {

@@ -25,10 +25,10 @@ unless_refused None answer = answer
 unless_refused (Some why) answer = Refused why
 
 -- whether the group has to be opened again, how deep its tree is, who has which leaf, and the changes that wait
-module _ (need : Bool) (depth : ℕ) (holders : Holders) (queue : List Change) where
+module _ (needs_reopen : Bool) (depth : ℕ) (holders : Holders) (queue : List Change) where
   -- a leave is granted, unless there is a reason against it; the member goes out with the next batch
   abbrev pub answer_to_leave : Name → Answer
-  answer_to_leave m = unless_refused (why_no_leave need depth holders queue m) Done
+  answer_to_leave m = unless_refused (why_no_leave needs_reopen depth holders queue m) Done
 
 -- What the last batch of a list puts out: its epoch, the number of the last push, how many members there are, its encryptions, and what its replies say.
 pub record IsOutputOf (depth : ℕ) (batches : List (List Change)) (batch : List Change) (output : Output) : Type 0 where

@@ -13,11 +13,11 @@ abbrev pub leaves_taken : ℕ → Holders → List Change → ℕ
 leaves_taken depth holders queue = member_count holders - length (leavers queue) + length (joiners queue)
 
 -- Of a group that has to be opened again or not, with a tree of this depth, these holders of leaves and these changes that wait: the first reason that holds.
-module _ (need : Bool) (depth : ℕ) (holders : Holders) (queue : List Change) where
+module _ (needs_reopen : Bool) (depth : ℕ) (holders : Holders) (queue : List Change) where
   -- who comes in is no member
   abbrev pub why_no_join : Name → Option Refusal
   why_no_join m =
-      if need then Some NeedsReopen
+      if needs_reopen then Some NeedsReopen
       else (if is_pending queue m then Some AlreadyPending
       else (if leaves_taken depth holders queue == 2 ^ depth then Some (TreeFull (leaves_taken depth holders queue))
       else (if nat_lt (length queue) 32 then None else Some (BatchFull (length queue)))))
@@ -25,7 +25,7 @@ module _ (need : Bool) (depth : ℕ) (holders : Holders) (queue : List Change) w
   -- who goes out has to be a member of whom no change waits yet
   abbrev pub why_no_leave : Name → Option Refusal
   why_no_leave m =
-      if need then Some NeedsReopen
+      if needs_reopen then Some NeedsReopen
       else (if is_member holders m
       then (if is_pending queue m then Some AlreadyPending
       else (if nat_lt (length queue) 32 then None else Some (BatchFull (length queue))))
@@ -33,8 +33,8 @@ module _ (need : Bool) (depth : ℕ) (holders : Holders) (queue : List Change) w
 
 -- why no batch is made: the epoch is looked at before the number that the last push would have
 abbrev pub why_no_batch : Bool → ℕ → ℕ → ℕ → ℕ → Option Refusal
-why_no_batch need limit epoch sequence coming =
-    if need then Some NeedsReopen
+why_no_batch needs_reopen limit epoch sequence coming =
+    if needs_reopen then Some NeedsReopen
     else (if nat_lt epoch limit
     then (if nat_le coming limit then None else Some (Spent Sequence sequence))
     else Some (Spent Epoch epoch))

@@ -20,7 +20,7 @@ pub record Server : Type 0 where
   pub limit : ℕ
   pub list : List Made
   pub doubt : Option Made
-  pub need : Bool
+  pub needs_reopen : Bool
   pub queue : List Change
   pub place : ℕ
 
@@ -31,7 +31,7 @@ drawn_unless (Some why) n = 0
 
 -- one that was just opened, with these batches
 abbrev pub opened_server : ℕ → ℕ → List Made → ℕ → Server
-opened_server depth limit list place = record { depth = depth; limit = limit; list = list; doubt = None; need = false; queue = []; place = place }
+opened_server depth limit list place = record { depth = depth; limit = limit; list = list; doubt = None; needs_reopen = false; queue = []; place = place }
 
 module _ (server : Server) where
   -- the changes of the batches that made its epochs
@@ -68,15 +68,15 @@ module _ (server : Server) where
 
   -- why the join of a name may not wait for the next batch, if there is a reason
   abbrev pub refusal_to_join : Name → Option Refusal
-  refusal_to_join m = why_no_join server.need server.depth members_now server.queue m
+  refusal_to_join m = why_no_join server.needs_reopen server.depth members_now server.queue m
 
   -- why the leave of a name may not wait for the next batch, if there is a reason
   abbrev pub refusal_to_leave : Name → Option Refusal
-  refusal_to_leave m = why_no_leave server.need server.depth members_now server.queue m
+  refusal_to_leave m = why_no_leave server.needs_reopen server.depth members_now server.queue m
 
   -- why no batch is made of the changes that wait, if there is a reason
   abbrev pub refusal_to_batch : Option Refusal
-  refusal_to_batch = why_no_batch server.need server.limit present_epoch present_sequence coming_sequence
+  refusal_to_batch = why_no_batch server.needs_reopen server.limit present_epoch present_sequence coming_sequence
 
   -- how many blocks are drawn for it
   abbrev pub blocks_to_draw : ℕ
@@ -104,11 +104,11 @@ module _ (server : Server) where
 
   -- the disk failed while the batch was stored
   abbrev pub in_doubt : Made → Server
-  in_doubt made = record server { doubt = Some made; need = true }
+  in_doubt made = record server { doubt = Some made; needs_reopen = true }
 
   -- it has to be opened again
   abbrev pub halted : Server
-  halted = record server { need = true }
+  halted = record server { needs_reopen = true }
 
   -- the batches that its journal may have
   abbrev pub MayHave : List Made → Type 0
@@ -116,7 +116,7 @@ module _ (server : Server) where
 
   -- it was opened again, and its journal had these
   abbrev pub reopened : List Made → Server
-  reopened list = record server { list = list; doubt = None; need = false; queue = [] }
+  reopened list = record server { list = list; doubt = None; needs_reopen = false; queue = [] }
 
 -- a request is answered by its refusal, if it has one
 abbrev pub GivesRefusal : Option Refusal → Result (Unit {0}) Refusal → Type 0

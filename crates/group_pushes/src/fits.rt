@@ -10,7 +10,7 @@ use group_terms::{BatchValues, Drawn};
 use kd_wire::traffic_fits;
 
 /// The values of a batch fit.
-pub fn values_fit(values: &BatchValues)
+pub fn prove_values_fit(values: &BatchValues)
     ensures { ValuesFit values.now }
 {
     nodes_fit(values.nodes.as_slice());

@@ -86,13 +86,13 @@ fn keks(kept: &KeptValues, values: &BatchValues) -> (NodeValue, NodeValue)
 {
     let root = root_id();
     let (old, new) = (kept.node(root), kept.node_after(values, root));
-    iv_fits(&old);
-    iv_fits(&new);
+    prove_iv_fits(&old);
+    prove_iv_fits(&new);
     (old, new)
 }
 
 /// The IV of a key is a whole block.
-fn iv_fits(value: &NodeValue)
+fn prove_iv_fits(value: &NodeValue)
     ensures { length value.now.iv ≡ iv_octets }
 {
     let _ = value.iv.as_slice();

@@ -163,7 +163,7 @@ module _ {D G : Type 0} (d : DiskGhosts D) (g : SignerGhosts G) (signer : G) (bl
     (next : Host D) where
   answers_stay : (datagram : List ℕ) → IsAnswering g signer block host datagram answer outside next → Stays host next
   answers_stay datagram answering =
-      elim host.server.need as (λ b. MatchBool b (Says (Refused NeedsReopen) host answer outside next)
+      elim host.server.needs_reopen as (λ b. MatchBool b (Says (Refused NeedsReopen) host answer outside next)
       ((looked : Result Looked SessionRefusal) × IsLook host.sessions.sas datagram looked × AnswersLook g signer block host datagram looked answer outside next)
       → Stays host next) [
         | true ↦ λ says. says_so host says
@@ -280,7 +280,7 @@ shown_silent server false = refl
 
 module _ {D : Type 0} {host next : Host D} {answer : Answer} {outside : Outside} where
   pub silent_show : Says (shown_group host.server) host answer outside next → pair_by answer ≡ None
-  silent_show says = ap pair_by says.answers ∙ shown_silent host.server host.server.need
+  silent_show says = ap pair_by says.answers ∙ shown_silent host.server host.server.needs_reopen
 
   pub silent_refused : IsNoDelivery host answer outside next → pair_by answer ≡ None
   silent_refused refused = ap pair_by refused.says.answers

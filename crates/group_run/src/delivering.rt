@@ -66,7 +66,7 @@ impl<D: Disk, G: Signer, R: Draws> GroupRun<D, G, R> {
 
     /// Notes that no push is given to anybody, since the server has to be opened again.
     pub fn refuse_deliveries(&mut self) -> Result<(), NoMemory>
-        requires { self.old.server.core.need ≡ true }
+        requires { self.old.server.core.needs_reopen ≡ true }
         ensures ok { OnOk result (Serves D.Disk G.Signer R.Draws self.old.members requests.DeliverAll self.old self.new) }
         ensures stays { OnOk result (MailStays self.old self.new) }
         ensures err { OnErr result (self.new ≡ self.old) }

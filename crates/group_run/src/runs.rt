@@ -53,7 +53,7 @@ impl<D: Disk, G: Signer, R: Draws> GroupRun<D, G, R> {
 
     /// Whether the server has to be opened again.
     pub fn needs_reopen(&self) -> bool
-        ensures { result ≡ self.now.server.core.need }
+        ensures { result ≡ self.now.server.core.needs_reopen }
     {
         self.server.needs_reopen()
     }

@@ -56,7 +56,7 @@ module _ {D G R : Type 0} (draws : DrawGhosts R) where
         due = stands.due;
         fit = stands.fit;
         queue = stands.queue;
-        need = stands.need;
+        needs_reopen = stands.needs_reopen;
         sure = stands.sure;
         place = drawn.place ∙ ap next_place stands.place;
       })

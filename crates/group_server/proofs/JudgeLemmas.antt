@@ -38,8 +38,8 @@ module _ {D G R : Type 0} {draws : DrawGhosts R} {core : View D G R} {server : S
   pub same_pending : (m : Name) → is_pending core.queue m ≡ is_pending server.queue m
   same_pending m = ap (λ queue. is_pending queue m) stands.queue
 
-  pub same_no_join : (m : Name) → why_no_join core.need core.tree.depth core.tree.holders core.queue m ≡ refusal_to_join server m
-  same_no_join m = λ i. why_no_join (stands.need i) (stands.tree_depth i) (same_holders i) (stands.queue i) m
+  pub same_no_join : (m : Name) → why_no_join core.needs_reopen core.tree.depth core.tree.holders core.queue m ≡ refusal_to_join server m
+  same_no_join m = λ i. why_no_join (stands.needs_reopen i) (stands.tree_depth i) (same_holders i) (stands.queue i) m
 
   -- there is no reason against a first message
   pub idle_of : (group : Name) (rules : List Rule) (m : Name) (first : First) → refusal_to_first group rules server m first ≡ None → is_pending core.queue m ≡ false
@@ -51,7 +51,7 @@ module _ {D G R : Type 0} {draws : DrawGhosts R} {core : View D G R} {server : S
 
   -- and none against the third one of somebody who is no member
   pub granted_of : (rules : List Rule) (m : Name) → refusal_to_third rules server m ≡ None → is_member core.tree.holders m ≡ false
-      → why_no_join core.need core.tree.depth core.tree.holders core.queue m ≡ None
+      → why_no_join core.needs_reopen core.tree.depth core.tree.holders core.queue m ≡ None
   granted_of rules m none stranger =
       same_no_join m
       ∙ (ap (λ b. if b then why_pending server m else refusal_to_join server m) (sym (sym (same_member m) ∙ stranger))

@@ -82,13 +82,13 @@ module _ {D G : Type 0} (d : DiskGhosts D) (g : SignerGhosts G) (signer : G) (bl
     look : IsLook host.sessions.sas datagram looked
     answers : AnswersLook g signer block host datagram looked entry.answer entry.outside next
 
-  has_looked : (host : Host D) (asker : Name) (datagram : List ℕ) (entry : Entry) (next : Host D) → host.server.need ≡ false
+  has_looked : (host : Host D) (asker : Name) (datagram : List ℕ) (entry : Entry) (next : Host D) → host.server.needs_reopen ≡ false
       → entry.asked ≡ Serve asker datagram → IsServerStep d g signer block host entry next → HasLooked host datagram entry next
   has_looked host asker datagram entry next goes asked step =
       let answering : IsAnswering g signer block host datagram entry.answer entry.outside next = served host (Serve asker datagram) entry next asked step in
       let found : (looked : Result Looked SessionRefusal) × IsLook host.sessions.sas datagram looked
       × AnswersLook g signer block host datagram looked entry.answer entry.outside next =
-      subst (λ need. MatchBool need (Says (Refused NeedsReopen) host entry.answer entry.outside next)
+      subst (λ needs_reopen. MatchBool needs_reopen (Says (Refused NeedsReopen) host entry.answer entry.outside next)
       ((looked : Result Looked SessionRefusal) × IsLook host.sessions.sas datagram looked
       × AnswersLook g signer block host datagram looked entry.answer entry.outside next)) goes answering in
       record { looked = found.0; look = found.1; answers = found.2 }

@@ -95,9 +95,10 @@ plain_unless (Denied rule) later plain = record { no_fault = refl; not_opened = 
 plain_pending : (server : Server) (m : Name) → PlainIf (why_pending server m)
 plain_pending server m = plain_if (is_pending server.queue m) (Some AlreadyPending) None (record { no_fault = refl; not_opened = refl }) tt
 
-plain_no_join : (need : Bool) (depth : ℕ) (holders : Holders) (queue : List Change) (m : Name) → PlainIf (why_no_join need depth holders queue m)
-plain_no_join need depth holders queue m =
-    plain_if need _ _ (record { no_fault = refl; not_opened = refl })
+plain_no_join : (needs_reopen : Bool) (depth : ℕ) (holders : Holders) (queue : List Change) (m : Name)
+    → PlainIf (why_no_join needs_reopen depth holders queue m)
+plain_no_join needs_reopen depth holders queue m =
+    plain_if needs_reopen _ _ (record { no_fault = refl; not_opened = refl })
     (plain_if (is_pending queue m) _ _ (record { no_fault = refl; not_opened = refl })
     (plain_if (leaves_taken depth holders queue == 2 ^ depth) _ _ (record { no_fault = refl; not_opened = refl })
     (plain_if (nat_lt (length queue) 32) _ _ tt (record { no_fault = refl; not_opened = refl }))))
@@ -111,7 +112,7 @@ plain_third : (rules : List Rule) (server : Server) (m : Name) → PlainIf (refu
 plain_third rules server m =
     plain_unless (judgement rules m) (if is_member (members_now server) m then why_pending server m else refusal_to_join server m)
     (plain_if (is_member (members_now server) m) (why_pending server m) (refusal_to_join server m) (plain_pending server m)
-    (plain_no_join server.need server.depth (members_now server) server.queue m))
+    (plain_no_join server.needs_reopen server.depth (members_now server) server.queue m))
 
 -- ---- looks
 
@@ -174,7 +175,7 @@ module _ {D G R : Type 0} (d : DiskGhosts D) (g : SignerGhosts G) (draws : DrawG
 
   module _ (asker : Name) (datagram : List ℕ) where
     -- where it has to be opened again, that is the answer
-    pub stopped : (old : View D G R) → old.core.need ≡ true → Serves d g draws (Serve asker datagram) (Refused NeedsReopen) old old
+    pub stopped : (old : View D G R) → old.core.needs_reopen ≡ true → Serves d g draws (Serve asker datagram) (Refused NeedsReopen) old old
     stopped old stops = quietly (Serve asker datagram) (Refused NeedsReopen) old old (goes_on_still d draws old) (λ host server.
         let plain : IsPlain (Refused NeedsReopen) = record { no_fault = refl; not_opened = refl } in
         let outside : Outside = beside (Refused NeedsReopen) (draws.place_of old.core.draws) in
@@ -182,10 +183,10 @@ module _ {D G R : Type 0} (d : DiskGhosts D) (g : SignerGhosts G) (draws : DrawG
           plain = plain;
           next = host;
           answered =
-              subst (λ need. MatchBool need (Says (Refused NeedsReopen) host (Refused NeedsReopen) outside host)
+              subst (λ needs_reopen. MatchBool needs_reopen (Says (Refused NeedsReopen) host (Refused NeedsReopen) outside host)
               ((looked : Result Looked SessionRefusal) × IsLook host.sessions.sas datagram looked
               × AnswersLook g old.core.signer (draws.block_at old.core.draws) host datagram looked (Refused NeedsReopen) outside host))
-              (sym (sym server.stands.need ∙ stops)) (says d draws (Refused NeedsReopen) (Refused NeedsReopen) old host server plain refl);
+              (sym (sym server.stands.needs_reopen ∙ stops)) (says d draws (Refused NeedsReopen) (Refused NeedsReopen) old host server plain refl);
           disk = refl;
           server = server;
         })
@@ -198,7 +199,7 @@ module _ {D G R : Type 0} (d : DiskGhosts D) (g : SignerGhosts G) (draws : DrawG
       pub disk : next.disk ≡ host.disk
       pub server : IsServerOf d draws new next
 
-    looked_at : (looked : Result Looked SessionRefusal) (answer : Answer) (old new : View D G R) → old.core.need ≡ false
+    looked_at : (looked : Result Looked SessionRefusal) (answer : Answer) (old new : View D G R) → old.core.needs_reopen ≡ false
         → IsLook old.sessions.sas datagram looked → GoesOn draws old new
         → ((host : Host D) → IsServerOf d draws old host → Finds looked answer old new host) → Serves d g draws (Serve asker datagram) answer old new
     looked_at looked answer old new goes look on does = quietly (Serve asker datagram) answer old new on (λ host server.
@@ -208,17 +209,17 @@ module _ {D G R : Type 0} (d : DiskGhosts D) (g : SignerGhosts G) (draws : DrawG
           plain = did.plain;
           next = did.next;
           answered =
-              subst (λ need. MatchBool need (Says (Refused NeedsReopen) host answer outside did.next)
+              subst (λ needs_reopen. MatchBool needs_reopen (Says (Refused NeedsReopen) host answer outside did.next)
               ((looked : Result Looked SessionRefusal) × IsLook host.sessions.sas datagram looked
               × AnswersLook g old.core.signer (draws.block_at old.core.draws) host datagram looked answer outside did.next))
-              (sym (sym server.stands.need ∙ goes))
+              (sym (sym server.stands.needs_reopen ∙ goes))
               (looked, subst (λ (sessions : Sessions). IsLook sessions.sas datagram looked) (sym server.sessions) look, did.answered);
           disk = did.disk;
           server = did.server;
         })
 
     -- nothing is found that is accepted
-    pub refused_look : (old : View D G R) (why : SessionRefusal) → old.core.need ≡ false → IsLook old.sessions.sas datagram (Err why)
+    pub refused_look : (old : View D G R) (why : SessionRefusal) → old.core.needs_reopen ≡ false → IsLook old.sessions.sas datagram (Err why)
         → Serves d g draws (Serve asker datagram) (Refused (refusal_of why)) old old
     refused_look old why goes look = looked_at (Err why) (Refused (refusal_of why)) old old goes look (goes_on_still d draws old) (λ host server. record {
       plain = plain_refusal why;
@@ -229,7 +230,7 @@ module _ {D G R : Type 0} (d : DiskGhosts D) (g : SignerGhosts G) (draws : DrawG
     })
 
     -- what was answered before
-    pub again : (old : View D G R) (m : Name) (answer : Kept) → old.core.need ≡ false
+    pub again : (old : View D G R) (m : Name) (answer : Kept) → old.core.needs_reopen ≡ false
         → IsLook old.sessions.sas datagram (Ok (record { member = m; what = Repeat answer }))
         → Serves d g draws (Serve asker datagram) (answer_kept answer) old old
     again old m answer goes look =
@@ -241,7 +242,7 @@ module _ {D G R : Type 0} (d : DiskGhosts D) (g : SignerGhosts G) (draws : DrawG
           server = server;
         })
 
-    module _ (old : View D G R) (m : Name) (goes : old.core.need ≡ false) where
+    module _ (old : View D G R) (m : Name) (goes : old.core.needs_reopen ≡ false) where
       -- ---- first messages
 
       module _ (first : First) (look : IsLook old.sessions.sas datagram (Ok (record { member = m; what = NewFirst first })))

@@ -114,7 +114,7 @@ module _ {D G R : Type 0} {draws : DrawGhosts R} {core : CoreView D G R} {server
 
   -- one against which there is no reason is not refused
   pub not_refused : (new : CoreView D G R) (m : Name) (why : Refusal)
-      → why_no_join core.need core.tree.depth core.tree.holders core.queue m ≡ None
+      → why_no_join core.needs_reopen core.tree.depth core.tree.holders core.queue m ≡ None
       → (next : Server) × IsJoin server m (Err why) next × Stands draws new next → ⊥
   not_refused new m why granted refused = clash (sym granted ∙ (same_no_join stands m ∙ refused.1.0))
     where

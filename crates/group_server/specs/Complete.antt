@@ -48,7 +48,7 @@ pub record ComesFrom {D : Type 0} (host : Host D) (m : Name) (sa : Sa) (head : H
 
 -- The rules allow a member, no change of it waits, and the group does not have to be opened again.
 pub record IsWelcome {D : Type 0} (host : Host D) (m : Name) : Type 0 where
-  pub open_now : host.server.need ≡ false
+  pub open_now : host.server.needs_reopen ≡ false
   pub rule : ℕ
   pub allowed : judgement host.rules m ≡ Allowed rule
   pub idle : is_pending host.server.queue m ≡ false
@@ -89,14 +89,14 @@ pub record HasRoom {D : Type 0} (host : Host D) : Type 0 where
 
 -- The group does not have to be opened again, this is a member, no change of it waits, and the next batch has room for one more change.
 pub record IsDueLeave {D : Type 0} (host : Host D) (m : Name) : Type 0 where
-  pub open_now : host.server.need ≡ false
+  pub open_now : host.server.needs_reopen ≡ false
   pub member : is_member (members_now host.server) m ≡ true
   pub idle : is_pending host.server.queue m ≡ false
   pub change : length host.server.queue < 32
 
 -- The group does not have to be opened again, and after the next batch neither the epoch nor the number of the last push passes the limit.
 pub record IsDueBatch {D : Type 0} (host : Host D) : Type 0 where
-  pub open_now : host.server.need ≡ false
+  pub open_now : host.server.needs_reopen ≡ false
   pub epoch : present_epoch host.server < host.server.limit
   pub number : coming_sequence host.server ≤ host.server.limit
 

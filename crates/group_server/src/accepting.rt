@@ -100,13 +100,13 @@ pub(crate) fn reply_now<D: Disk, G: Signer, R: Draws>(
 ) -> Result<Reply, Refusal>
     requires third { IsThirdFrom sessions.old.sas member.now datagram.now third }
     requires member { is_member core.now.tree.holders member.now ≡ true }
-    requires open { core.now.need ≡ false }
+    requires open { core.now.needs_reopen ≡ false }
     ensures accepts { (rules : List Rule) → AcceptsMember D.Disk G.Signer R.Draws member.now third datagram.now (answer_served result)
         (server_of core.now rules sessions.old) (server_of core.now rules sessions.new) }
     ensures waits { (n : Name) → is_queued_of sessions.new.sas n ≡ is_queued_of sessions.old.sas n }
 {
     let last = Octets::copy_of(alloc, datagram)?;
-    core.rests();
+    core.prove_at_rest();
     let keyed = core.reply(member)?;
     let fourth = fourth_message(alloc, sessions, member, &third, &keyed)?;
     let names = reply_says(alloc, member, &keyed)?;
@@ -150,13 +150,13 @@ pub(crate) fn queue_join<D: Disk, G: Signer, R: Draws>(
 ) -> Result<Reply, Refusal>
     requires third { IsThirdFrom sessions.old.sas member.now datagram.now third }
     requires stranger { is_member core.old.tree.holders member.now ≡ false }
-    requires granted { why_no_join core.old.need core.old.tree.depth core.old.tree.holders core.old.queue member.now ≡ None }
+    requires granted { why_no_join core.old.needs_reopen core.old.tree.depth core.old.tree.holders core.old.queue member.now ≡ None }
     ensures accepts { (rules : List Rule) → AcceptsJoin D.Disk G.Signer R.Draws member.now third datagram.now (answer_served result)
         (server_of core.old rules sessions.old) (server_of core.new rules sessions.new) }
     ensures sound { JoinsHaveSessions core.old.queue sessions.old.sas → JoinsHaveSessions core.new.queue sessions.new.sas }
 {
     let last = Octets::copy_of(alloc, datagram)?;
-    core.rests();
+    core.prove_at_rest();
     core.join(member)?;
     sessions.hold_third(member, third, last, Kept::Queued);
     Ok(Reply::Queued)

@@ -53,7 +53,7 @@ fn answer<D: Disk, G: Signer, R: Draws>(
     ensures sound { JoinsHaveSessions core.old.queue sessions.old.sas → JoinsHaveSessions core.new.queue sessions.new.sas }
 {
     what_is_found_can_be_held();
-    core.rests();
+    core.prove_at_rest();
     sessions.prove_sound();
     if core.needs_reopen() {
         return Err(Refusal::NeedsReopen);

@@ -82,7 +82,7 @@ impl<D: Disk, G: Signer, R: Draws> GroupServer<D, G, R> {
 
     /// Whether it has to be opened again.
     pub fn needs_reopen(&self) -> bool
-        ensures { result ≡ self.now.core.need }
+        ensures { result ≡ self.now.core.needs_reopen }
     {
         self.core.needs_reopen()
     }
@@ -103,7 +103,7 @@ impl<D: Disk, G: Signer, R: Draws> GroupServer<D, G, R> {
 
     /// That no push is given to any member, since the server has to be opened again.
     pub fn refuse_deliveries(&self) -> Answer
-        requires { self.now.core.need ≡ true }
+        requires { self.now.core.needs_reopen ≡ true }
         ensures { Serves D.Disk G.Signer R.Draws requests.DeliverAll result self.now self.now }
     {
         server_steps::refuse_deliveries(&self.core)

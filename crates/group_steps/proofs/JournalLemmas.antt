@@ -68,26 +68,26 @@ module _ {D G : Type 0} (d : DiskGhosts D) (g : SignerGhosts G) (signer : G) (bl
 
   module _ (had : HasJournal d host) (only_now : (c : List ℕ) → d.left_since host.disk (d.moment host.disk) c → d.may_leave host.disk c) where
     -- a request that touches no more than this
-    touches_beside : (asked : Asked) (need : Bool) (queue : List Change) (place : ℕ) (rules : List Rule) (sessions : Sessions) (next : Host D)
-        → next ≡ record host { server = record host.server { need = need; queue = queue; place = place }; rules = rules; sessions = sessions }
+    touches_beside : (asked : Asked) (needs_reopen : Bool) (queue : List Change) (place : ℕ) (rules : List Rule) (sessions : Sessions) (next : Host D)
+        → next ≡ record host { server = record host.server { needs_reopen = needs_reopen; queue = queue; place = place }; rules = rules; sessions = sessions }
         → StepLeaves asked next
-    touches_beside asked need queue place rules sessions next is = subst (StepLeaves asked) (sym is) (record {
+    touches_beside asked needs_reopen queue place rules sessions next is = subst (StepLeaves asked) (sym is) (record {
       journal = record { file = had.file; crash = had.crash };
       head = λ file shows. refl;
       moments = λ file shows. started d host.disk (IsMeanwhile asked) only_now (λ c now. inl (had.crash file shows c now));
       list = λ file shows. ([], sym (append-nil host.server.list));
     })
 
-    untouched : (asked : Asked) (need : Bool) (queue : List Change) (place : ℕ) (next : Host D)
-        → next ≡ record host { server = record host.server { need = need; queue = queue; place = place } } → StepLeaves asked next
-    untouched asked need queue place next is = touches_beside asked need queue place host.rules host.sessions next is
+    untouched : (asked : Asked) (needs_reopen : Bool) (queue : List Change) (place : ℕ) (next : Host D)
+        → next ≡ record host { server = record host.server { needs_reopen = needs_reopen; queue = queue; place = place } } → StepLeaves asked next
+    untouched asked needs_reopen queue place next is = touches_beside asked needs_reopen queue place host.rules host.sessions next is
 
     -- or nothing
     pub unchanged : (asked : Asked) (next : Host D) → next ≡ host → StepLeaves asked next
-    unchanged asked next is = untouched asked host.server.need host.server.queue host.server.place next is
+    unchanged asked next is = untouched asked host.server.needs_reopen host.server.queue host.server.place next is
 
     leaves_leave : (m : Name) (answer : Answer) (next : Host D) → next ≡ after_leave host m answer → StepLeaves (Leave m) next
-    leaves_leave m Done next is = untouched (Leave m) host.server.need (host.server.queue ++ Out m ∷ []) host.server.place next is
+    leaves_leave m Done next is = untouched (Leave m) host.server.needs_reopen (host.server.queue ++ Out m ∷ []) host.server.place next is
     leaves_leave m answer next is = unchanged (Leave m) next is
 
     -- ---- the requests that touch the disk
@@ -115,7 +115,7 @@ module _ {D G : Type 0} (d : DiskGhosts D) (g : SignerGhosts G) (signer : G) (bl
     leaves_batch answer outside next (inr (inl doubt)) = leaves_doubt answer outside next doubt
     leaves_batch answer outside next (inr (inr (inl refused))) = unchanged Batch next refused.says.stays
     leaves_batch answer outside next (inr (inr (inr short))) =
-        untouched Batch host.server.need host.server.queue (place_after short.n host.server.place) next short.now
+        untouched Batch host.server.needs_reopen host.server.queue (place_after short.n host.server.place) next short.now
 
     -- opened again, the group is the same
     leaves_again : (answer : Answer) (outside : Outside) (next : Host D) → Reopens d g signer host answer outside next
@@ -150,9 +150,9 @@ module _ {D G : Type 0} (d : DiskGhosts D) (g : SignerGhosts G) (signer : G) (bl
         → AnswersFirst g signer block host why m first datagram answer outside next → StepLeaves asked next
     leaves_first asked (Some why) m first datagram answer outside next says = unchanged asked next says.stays
     leaves_first asked None m first datagram answer outside next (inl begins) =
-        touches_beside asked host.server.need host.server.queue (place_after 1 host.server.place) host.rules _ next begins.becomes.now
+        touches_beside asked host.server.needs_reopen host.server.queue (place_after 1 host.server.place) host.rules _ next begins.becomes.now
     leaves_first asked None m first datagram answer outside next (inr short) =
-        untouched asked host.server.need host.server.queue (place_after short.n host.server.place) next short.becomes.now
+        untouched asked host.server.needs_reopen host.server.queue (place_after short.n host.server.place) next short.becomes.now
 
     leaves_third : (asked : Asked) (why : Option Refusal) (m : Name) (third : Third) (datagram : List ℕ) (answer : Answer) (outside : Outside) (next : Host D)
         → AnswersThird g signer block host why m third datagram answer outside next → StepLeaves asked next
@@ -164,9 +164,9 @@ module _ {D G : Type 0} (d : DiskGhosts D) (g : SignerGhosts G) (signer : G) (bl
             → MatchBool member (Replies g signer block host m third datagram answer outside next)
             (Queues g signer block host m third datagram answer outside next)
             → StepLeaves asked next
-        by_member true replies = touches_beside asked host.server.need host.server.queue host.server.place host.rules _ next replies.becomes.now
+        by_member true replies = touches_beside asked host.server.needs_reopen host.server.queue host.server.place host.rules _ next replies.becomes.now
         by_member false queues =
-            touches_beside asked host.server.need (host.server.queue ++ In m ∷ []) host.server.place host.rules _ next queues.becomes.now
+            touches_beside asked host.server.needs_reopen (host.server.queue ++ In m ∷ []) host.server.place host.rules _ next queues.becomes.now
 
     leaves_found : (asked : Asked) (what : LookedAt) (m : Name) (datagram : List ℕ) (answer : Answer) (outside : Outside) (next : Host D)
         → AnswersFound g signer block host what m datagram answer outside next → StepLeaves asked next
@@ -183,10 +183,10 @@ module _ {D G : Type 0} (d : DiskGhosts D) (g : SignerGhosts G) (signer : G) (bl
 
     leaves_answering : (asked : Asked) (datagram : List ℕ) (answer : Answer) (outside : Outside) (next : Host D)
         → IsAnswering g signer block host datagram answer outside next → StepLeaves asked next
-    leaves_answering asked datagram answer outside next = by_need host.server.need
+    leaves_answering asked datagram answer outside next = by_need host.server.needs_reopen
       where
-        by_need : (need : Bool)
-            → MatchBool need (Says (Refused NeedsReopen) host answer outside next)
+        by_need : (needs_reopen : Bool)
+            → MatchBool needs_reopen (Says (Refused NeedsReopen) host answer outside next)
             ((looked : Result Looked SessionRefusal) × IsLook host.sessions.sas datagram looked
             × AnswersLook g signer block host datagram looked answer outside next)
             → StepLeaves asked next
@@ -198,10 +198,10 @@ module _ {D G : Type 0} (d : DiskGhosts D) (g : SignerGhosts G) (signer : G) (bl
     pub leaves_served : (asked : Asked) (answer : Answer) (outside : Outside) (next : Host D) → IsServed d g signer block asked host answer outside next
         → StepLeaves asked next
     leaves_served (AddRule rule) answer outside next (inl more) =
-        touches_beside (AddRule rule) host.server.need host.server.queue host.server.place _ host.sessions next more.now
+        touches_beside (AddRule rule) host.server.needs_reopen host.server.queue host.server.place _ host.sessions next more.now
     leaves_served (AddRule rule) answer outside next (inr short) = unchanged (AddRule rule) next short.stays
     leaves_served (Introduce phase) answer outside next step =
-        touches_beside (Introduce phase) host.server.need host.server.queue host.server.place host.rules step.sessions next step.now
+        touches_beside (Introduce phase) host.server.needs_reopen host.server.queue host.server.place host.rules step.sessions next step.now
     leaves_served (Serve m datagram) answer outside next step = leaves_answering (Serve m datagram) datagram answer outside next step
     leaves_served (Leave m) answer outside next step = leaves_leave m answer next step.now
     leaves_served Batch answer outside next step = leaves_batch answer outside next step

@@ -131,10 +131,10 @@ module _ {D : Type 0} (host : Host D) where
 
     pub stays_answering : (datagram : List ℕ) (answer : Answer) (outside : Outside) (next : Host D)
         → IsAnswering g signer block host datagram answer outside next → StaysIntroduced next
-    stays_answering datagram answer outside next = by_need host.server.need
+    stays_answering datagram answer outside next = by_need host.server.needs_reopen
       where
-        by_need : (need : Bool)
-            → MatchBool need (Says (Refused NeedsReopen) host answer outside next)
+        by_need : (needs_reopen : Bool)
+            → MatchBool needs_reopen (Says (Refused NeedsReopen) host answer outside next)
             ((looked : Result Looked SessionRefusal) × IsLook host.sessions.sas datagram looked
             × AnswersLook g signer block host datagram looked answer outside next)
             → StaysIntroduced next

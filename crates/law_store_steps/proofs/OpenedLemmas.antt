@@ -70,8 +70,8 @@ within_due depth limit before (made ∷ list) within due =
     (within_due depth limit (before ++ made.changes ∷ []) list (within_more depth limit before made.changes due.0.early due.0.numbered) due.1)
 
 -- a batch that is not refused
-granted_if : (need early numbered : Bool) (again past over : Refusal)
-    → (if need then Some again else (if early then (if numbered then None else Some past) else Some over)) ≡ None
+granted_if : (needs_reopen early numbered : Bool) (again past over : Refusal)
+    → (if needs_reopen then Some again else (if early then (if numbered then None else Some past) else Some over)) ≡ None
     → (early ≡ true) × (numbered ≡ true)
 granted_if true early numbered again past over none = absurd (cc none)
 granted_if false true true again past over none = (refl, refl)
@@ -82,7 +82,7 @@ granted : (server : Server) → refusal_to_batch server ≡ None
     → (present_epoch server < server.limit) × (coming_sequence server ≤ server.limit)
 granted server none =
     let within =
-    granted_if server.need (ltb (present_epoch server) server.limit) (leb (coming_sequence server) server.limit) NeedsReopen
+    granted_if server.needs_reopen (ltb (present_epoch server) server.limit) (leb (coming_sequence server) server.limit) NeedsReopen
     (Spent Sequence (present_sequence server)) (Spent Epoch (present_epoch server)) none
     in (ltb-true (present_epoch server) server.limit within.0, leb-true (coming_sequence server) server.limit within.1)
 

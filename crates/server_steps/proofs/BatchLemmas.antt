@@ -58,15 +58,15 @@ abbrev is_fault : Option Refusal → Bool
 is_fault None = false
 is_fault (Some why) = is_disk_fault why
 
-no_reason_fails : (need below within : Bool) (epoch sequence : ℕ)
-    → is_fault (cond need (Some NeedsReopen) (cond below (cond within None (Some (Spent Sequence sequence))) (Some (Spent Epoch epoch)))) ≡ false
+no_reason_fails : (needs_reopen below within : Bool) (epoch sequence : ℕ)
+    → is_fault (cond needs_reopen (Some NeedsReopen) (cond below (cond within None (Some (Spent Sequence sequence))) (Some (Spent Epoch epoch)))) ≡ false
 no_reason_fails true below within epoch sequence = refl
 no_reason_fails false true true epoch sequence = refl
 no_reason_fails false true false epoch sequence = refl
 no_reason_fails false false within epoch sequence = refl
 
 no_fault : (server : Server) (why : Refusal) → refusal_to_batch server ≡ Some why → is_disk_fault why ≡ false
-no_fault server why reason = sym (ap is_fault reason) ∙ no_reason_fails server.need _ _ _ _
+no_fault server why reason = sym (ap is_fault reason) ∙ no_reason_fails server.needs_reopen _ _ _ _
 
 -- ---- the output of a batch, with its replies
 

@@ -34,10 +34,10 @@ plain_reason : (answer : Answer) (b : Bool) (x y : Option Refusal) → IsPlain (
 plain_reason answer true x y first second = first
 plain_reason answer false x y first second = second
 
-module _ (need : Bool) (depth : ℕ) (holders : Holders) (queue : List Change) (m : Name) where
-  plain_leave : IsPlain (answer_to_leave need depth holders queue m)
+module _ (needs_reopen : Bool) (depth : ℕ) (holders : Holders) (queue : List Change) (m : Name) where
+  plain_leave : IsPlain (answer_to_leave needs_reopen depth holders queue m)
   plain_leave =
-      plain_reason Done need _ _ (record { no_fault = refl; not_opened = refl })
+      plain_reason Done needs_reopen _ _ (record { no_fault = refl; not_opened = refl })
       (plain_reason Done (is_member holders m) _ _
       (plain_reason Done (is_pending queue m) _ _ (record { no_fault = refl; not_opened = refl })
       (plain_reason Done (nat_lt (length queue) 32) _ _ (record { no_fault = refl; not_opened = refl })
@@ -74,7 +74,7 @@ module _ {D G R : Type 0} (d : DiskGhosts D) (g : SignerGhosts G) (draws : DrawG
       subst (λ new. ServesBeside d g draws (Leave m) (Refused why) core new) (sym still)
       (serves_still d g draws (Leave m) core (Refused why) (λ host server.
       let is = ap (λ reason. unless_refused reason Done) (sym (step host.server server.stands).1.0) in
-      let plain = subst IsPlain (sym is) (plain_leave host.server.need host.server.depth (members_now host.server) host.server.queue m) in
+      let plain = subst IsPlain (sym is) (plain_leave host.server.needs_reopen host.server.depth (members_now host.server) host.server.queue m) in
       (plain, record { answers = is; beside = plain_beside d draws core host (Refused why) server plain; now = refl })))
 
   pub leave_done : (new : View D G R) → new ≡ record core { queue = new.queue }
@@ -90,7 +90,7 @@ module _ {D G R : Type 0} (d : DiskGhosts D) (g : SignerGhosts G) (draws : DrawG
           after_leave host m Done,
           plain_step d g draws (Leave m) core Done host (with_change host.server (Out m)) plain
               (record { answers = is; beside = plain_beside d draws core host Done on plain; now = refl }),
-          server_still d draws core new rules sessions host (host.server.queue ++ Out m ∷ []) host.server.need server
+          server_still d draws core new rules sessions host (host.server.queue ++ Out m ∷ []) host.server.needs_reopen server
               (ap (λ (v : View D G R). v.disk) rest) (ap (λ (v : View D G R). v.head) rest)
               (subst (Stands draws new) taken.1.1 taken.2),
         );
@@ -113,7 +113,7 @@ module _ {D G R : Type 0} (d : DiskGhosts D) (g : SignerGhosts G) (draws : DrawG
 -- ---- stops
 
 module _ {D G R : Type 0} (d : DiskGhosts D) (g : SignerGhosts G) (draws : DrawGhosts R) where
-  pub halts : (core new : View D G R) → new ≡ record core { need = true }
+  pub halts : (core new : View D G R) → new ≡ record core { needs_reopen = true }
       → ((server : Server) → Stands draws core server → Stands draws new (halted server)) → ServesBeside d g draws Halt Done core new
   halts core new rest step rules sessions = record {
     goes_on = record {

@@ -359,7 +359,7 @@ module _ {D G : Type 0} (needs : Needs) (g : SignerGhosts G) (signer : G) (block
           (record {
             deep = good.sound.deep;
             valid = good.sound.valid;
-            fits = fits_joined needs.laws host.server.need host.server.depth (members_now host.server) host.server.queue good.sound.fits m
+            fits = fits_joined needs.laws host.server.needs_reopen host.server.depth (members_now host.server) host.server.queue good.sound.fits m
                 (needs.laws.each_leaf host.server.depth (present_batches host.server)) stranger free;
             apart = still_apart (put_session m (Some session)) (put_phase m (Some session)) sas good.sound.apart;
             written = put_keeps IsWritten sas m (Some session) step.sa good.sound.apart step.has.is_there (λ is. sizes) good.sound.written;
@@ -396,9 +396,9 @@ module _ {D G : Type 0} (needs : Needs) (g : SignerGhosts G) (signer : G) (block
     by_look next outside (Ok looked) look answers = by_what next outside looked.member looked.what look answers
 
     pub answering : (next : Host D) (outside : Outside) → IsAnswering g signer block host datagram entry.answer outside next → GoesTo next
-    answering next outside step = by host.server.need step
+    answering next outside step = by host.server.needs_reopen step
       where
-        by : (need : Bool) → MatchBool need (Says (Refused NeedsReopen) host entry.answer outside next)
+        by : (needs_reopen : Bool) → MatchBool needs_reopen (Says (Refused NeedsReopen) host entry.answer outside next)
             ((looked : Result Looked SessionRefusal) × IsLook sas datagram looked × AnswersLook g signer block host datagram looked entry.answer outside next)
             → GoesTo next
         by true says = refused entry good next outside NeedsReopen says

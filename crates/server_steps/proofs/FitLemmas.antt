@@ -31,10 +31,11 @@ valid_from depth limit before (made ∷ list) due = (
       (valid_from depth limit (before ++ made.changes ∷ []) list due.1),
 )
 
-module _ (laws : Laws) (need : Bool) (depth : ℕ) (holders : Holders) (queue : List Change) (fits : Fits holders queue) (m : Name) where
-  pub fits_joined : length holders ≡ 2 ^ depth → is_member holders m ≡ false → why_no_join need depth holders queue m ≡ None → Fits holders (queue ++ In m ∷ [])
+module _ (laws : Laws) (needs_reopen : Bool) (depth : ℕ) (holders : Holders) (queue : List Change) (fits : Fits holders queue) (m : Name) where
+  pub fits_joined : length holders ≡ 2 ^ depth → is_member holders m ≡ false → why_no_join needs_reopen depth holders queue m ≡ None
+      → Fits holders (queue ++ In m ∷ [])
   fits_joined each stranger =
-      cond_both need (Some NeedsReopen) _ fits_at (λ _ some. absurd (cc some))
+      cond_both needs_reopen (Some NeedsReopen) _ fits_at (λ _ some. absurd (cc some))
       (λ _. cond_both (is_pending queue m) (Some AlreadyPending) _ fits_at (λ _ some. absurd (cc some))
       (λ free. cond_both (eqb (leaves_taken depth holders queue) (2 ^ depth)) (Some (TreeFull (leaves_taken depth holders queue))) _ fits_at
       (λ _ some. absurd (cc some))
@@ -43,9 +44,9 @@ module _ (laws : Laws) (need : Bool) (depth : ℕ) (holders : Holders) (queue : 
       fits_at : Option Refusal → Type 0
       fits_at refusal = refusal ≡ None → Fits holders (queue ++ In m ∷ [])
 
-  pub fits_left : why_no_leave need depth holders queue m ≡ None → Fits holders (queue ++ Out m ∷ [])
+  pub fits_left : why_no_leave needs_reopen depth holders queue m ≡ None → Fits holders (queue ++ Out m ∷ [])
   fits_left =
-      cond_both need (Some NeedsReopen) _ fits_at (λ _ some. absurd (cc some))
+      cond_both needs_reopen (Some NeedsReopen) _ fits_at (λ _ some. absurd (cc some))
       (λ _. cond_both (is_member holders m) _ (Some NotMember) fits_at
       (λ member. cond_both (is_pending queue m) (Some AlreadyPending) _ fits_at (λ _ some. absurd (cc some))
       (λ free none. laws.leaves_fit holders queue m fits member free))

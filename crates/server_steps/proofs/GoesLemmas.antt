@@ -159,16 +159,17 @@ module _ {D : Type 0} {kind : SignKind} {first : ℕ} {host : Host D} (entry : E
           still next (Refused (refusal_of why)) (step.now ∙ ap (with_sessions host) is.1) answers (silent_refused (refusal_of why)) refl
 
   pub leaving : Laws → (m : Name) (next : Host D) (outside : Outside) → IsLeaving m host entry.answer outside next → GoesTo next
-  leaving laws m next outside step = by (why_no_leave host.server.need host.server.depth (members_now host.server) host.server.queue m) refl
+  leaving laws m next outside step = by (why_no_leave host.server.needs_reopen host.server.depth (members_now host.server) host.server.queue m) refl
     where
-      by : (reason : Option Refusal) → why_no_leave host.server.need host.server.depth (members_now host.server) host.server.queue m ≡ reason → GoesTo next
+      by : (reason : Option Refusal) → why_no_leave host.server.needs_reopen host.server.depth (members_now host.server) host.server.queue m ≡ reason
+          → GoesTo next
       by None is =
           let same : entry.answer ≡ Done = step.answers ∙ ap (λ reason. unless_refused reason Done) is in
           quiet next (with_server host (with_change host.server (Out m))) Done (step.now ∙ ap (after_leave host m) same) same silent_done refl
           (record {
             deep = good.sound.deep;
             valid = good.sound.valid;
-            fits = fits_left laws host.server.need host.server.depth (members_now host.server) host.server.queue good.sound.fits m is;
+            fits = fits_left laws host.server.needs_reopen host.server.depth (members_now host.server) host.server.queue good.sound.fits m is;
             apart = good.sound.apart;
             written = good.sound.written;
           })
@@ -183,9 +184,10 @@ module _ {D : Type 0} {kind : SignKind} {first : ℕ} {host : Host D} (entry : E
       (same_sound (with_server host (halted host.server)) refl refl refl refl) good.keeps
 
   pub showing : (next : Host D) (outside : Outside) → IsShowing host entry.answer outside next → GoesTo next
-  showing next outside says = by host.server.need says.answers
+  showing next outside says = by host.server.needs_reopen says.answers
     where
-      by : (need : Bool) → entry.answer ≡ (if need then Refused NeedsReopen else Shown (seen_group host.server.depth (present_batches host.server)))
+      by : (needs_reopen : Bool)
+          → entry.answer ≡ (if needs_reopen then Refused NeedsReopen else Shown (seen_group host.server.depth (present_batches host.server)))
           → GoesTo next
       by true same = still next (Refused NeedsReopen) says.stays same (silent_refused NeedsReopen) refl
       by false same = still next (Shown _) says.stays same (silent_shown _) refl

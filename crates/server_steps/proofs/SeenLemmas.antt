@@ -83,10 +83,10 @@ standings_there depth leaves count holders items all each is =
 
 -- ---- the answer
 
-pub shown_stopped : (server : Server) → server.need ≡ true → Refused NeedsReopen ≡ shown_group server
+pub shown_stopped : (server : Server) → server.needs_reopen ≡ true → Refused NeedsReopen ≡ shown_group server
 shown_stopped server stops = rw stops refl
 
-pub shown_open : (server : Server) (seen : GroupSeen) → server.need ≡ false → seen ≡ seen_group server.depth (present_batches server)
+pub shown_open : (server : Server) (seen : GroupSeen) → server.needs_reopen ≡ false → seen ≡ seen_group server.depth (present_batches server)
     → Shown seen ≡ shown_group server
 shown_open server seen goes is = rw goes (ap Shown is)
 

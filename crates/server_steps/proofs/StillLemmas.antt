@@ -52,11 +52,11 @@ module _ {D G R : Type 0} (d : DiskGhosts D) (draws : DrawGhosts R) where
   }
 
   -- a server with other changes that wait, or that has to be opened again
-  pub server_still : (core new : View D G R) (rules : List Rule) (sessions : Sessions) (host : Host D) (queue : List Change) (need : Bool)
+  pub server_still : (core new : View D G R) (rules : List Rule) (sessions : Sessions) (host : Host D) (queue : List Change) (needs_reopen : Bool)
       → IsServerOf d draws (server_of core rules sessions) host → new.disk ≡ core.disk → new.head ≡ core.head
-      → Stands draws new (record host.server { queue = queue; need = need })
-      → IsServerOf d draws (server_of new rules sessions) (with_server host (record host.server { queue = queue; need = need }))
-  server_still core new rules sessions host queue need was same_disk same_head stands = record {
+      → Stands draws new (record host.server { queue = queue; needs_reopen = needs_reopen })
+      → IsServerOf d draws (server_of new rules sessions) (with_server host (record host.server { queue = queue; needs_reopen = needs_reopen }))
+  server_still core new rules sessions host queue needs_reopen was same_disk same_head stands = record {
     disk = was.disk ∙ sym same_disk;
     head = was.head ∙ sym same_head;
     stands = stands;

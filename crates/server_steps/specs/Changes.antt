@@ -15,7 +15,7 @@ use Rattle.server_steps.specs.Outsides.{Becomes, Says, quiet}
 
 -- who has which leaf, unless it has to be opened again
 abbrev pub shown_group : Server → Answer
-shown_group server = if server.need then Refused NeedsReopen else Shown (seen_group server.depth (present_batches server))
+shown_group server = if server.needs_reopen then Refused NeedsReopen else Shown (seen_group server.depth (present_batches server))
 
 module _ {D : Type 0} where
   -- One more rule comes after all others, and its number is the answer, unless memory runs out; also where the group has to be opened again.
@@ -31,7 +31,7 @@ module _ {D : Type 0} where
 
   -- a leave is answered, and where it is granted, the member waits to go out
   pub record IsLeaving (m : Name) (host : Host D) (answer : Answer) (outside : Outside) (next : Host D) : Type 0 where
-    pub answers : answer ≡ answer_to_leave host.server.need host.server.depth (members_now host.server) host.server.queue m
+    pub answers : answer ≡ answer_to_leave host.server.needs_reopen host.server.depth (members_now host.server) host.server.queue m
     pub beside : outside ≡ quiet host
     pub now : next ≡ after_leave host m answer
 
@@ -47,5 +47,5 @@ module _ {D : Type 0} where
 
   -- no push is given to any member, since it has to be opened again
   pub record IsNoDelivery (host : Host D) (answer : Answer) (outside : Outside) (next : Host D) : Type 0 where
-    pub stopped : host.server.need ≡ true
+    pub stopped : host.server.needs_reopen ≡ true
     pub says : Says (Refused NeedsReopen) host answer outside next

@@ -160,5 +160,5 @@ module _ {D G : Type 0} (g : SignerGhosts G) (signer : G) (block : ℕ → List 
   -- A datagram is given to the server, whoever sent it. Where the group has to be opened again, that is the answer.
   abbrev pub IsAnswering : List ℕ → Answer → Outside → Host D → Type 0
   IsAnswering datagram answer outside next =
-      MatchBool host.server.need (Says (Refused NeedsReopen) host answer outside next)
+      MatchBool host.server.needs_reopen (Says (Refused NeedsReopen) host answer outside next)
       ((looked : Result Looked SessionRefusal) × IsLook host.sessions.sas datagram looked × AnswersLook datagram looked answer outside next)

@@ -27,7 +27,7 @@ pub fn close_batch<D: Disk, G: Signer, R: Draws>(
     ensures sound { JoinsHaveSessions core.new.queue sessions.new.sas }
     ensures fits { IfOk result (λ output. IfSome output.pushes (λ pair. pair.first + 1 < 2 ^ 32)) }
 {
-    core.rests();
+    core.prove_at_rest();
     let prepared = core.prepare(alloc)?;
     let replies = match make_replies(alloc, prepared.told(), sessions) {
         Ok(replies) => replies,

@@ -18,7 +18,7 @@ pub fn leave<D: Disk, G: Signer, R: Draws>(
     ensures serves { ServesBeside D.Disk G.Signer R.Draws (requests.Leave member.now) (answer_done result) core.old core.new }
     ensures waits { core.new.queue ≡ queue_after_leave core.old.queue member.now (answer_done result) }
 {
-    core.rests();
+    core.prove_at_rest();
     core.leave(member)
 }
 

@@ -52,7 +52,7 @@ pub fn show<D: Disk, G: Signer, R: Draws>(
 
 /// That no push is given to any member, since the server has to be opened again.
 pub fn refuse_deliveries<D: Disk, G: Signer, R: Draws>(core: &Core<D, G, R>) -> Answer
-    requires { core.now.need ≡ true }
+    requires { core.now.needs_reopen ≡ true }
     ensures serves { ServesBeside D.Disk G.Signer R.Draws requests.DeliverAll result core.now core.now }
     ensures silent { pair_by result ≡ None }
 {

@@ -68,7 +68,7 @@ use Rattle.console_run.specs.Lines.{AsksToIntroduce, AsksToJoin, AsksToPull, Joi
 granted_leave_waits_as_one : {D : Type 0} (host : Host D) (m : Name) → (after_leave host m Done).server ≡ with_change host.server (Out m)
 granted_leave_waits_as_one host m = refl
 
-stopped_server_is_not_shown : (server : Server) → shown_group (record server { need = true }) ≡ Refused NeedsReopen
+stopped_server_is_not_shown : (server : Server) → shown_group (record server { needs_reopen = true }) ≡ Refused NeedsReopen
 stopped_server_is_not_shown server = refl
 
 first_rule_has_number_1 : {D : Type 0} (rule : Rule) (host : Host D) (answer : Answer) (outside : Outside) (next : Host D)

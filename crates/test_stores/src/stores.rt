@@ -64,7 +64,7 @@ pub(crate) fn look(
 }
 
 fn has_head(store: &Store, head: &Head) -> bool {
-    store.rests();
+    store.prove_at_rest();
     store.head() == *head
 }
 

@@ -83,7 +83,7 @@ impl<D: Disk> Journal<D> {
 
     /// Says what is known between two calls of a journal that is not closed: a crash leaves what a read gives and nothing else, the file begins as a
     /// journal, its records are those from the first commit mark on, and once the clear commit mark was found it is a journal.
-    pub fn rests(&self)
+    pub fn prove_at_rest(&self)
         ensures durable { self.now.closed ≡ false → Knows (shown D.Disk self.now.disk) (λ file. Only file (D.may_leave self.now.disk)) }
         ensures still { self.now.closed ≡ false → Knows (shown D.Disk self.now.disk)
             (λ file. LeavesOnly D.Disk self.now.disk self.now.disk (λ c. c ≡ file)) }

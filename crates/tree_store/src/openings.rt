@@ -201,7 +201,7 @@ fn read_first<D: Disk>(
     ensures stands { (result ≡ Err DiskFault → ⊥) → D.faults journal.new.disk ≡ D.faults journal.old.disk }
     ensures keeps { Keeps D.Disk journal.old.disk journal.new.disk }
 {
-    journal.rests();
+    journal.prove_at_rest();
     let at = journal.place();
     if !journal.read_next(alloc, body)? {
         return Err(JournalRefusal::NotAJournal { at });

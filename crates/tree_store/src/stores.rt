@@ -70,12 +70,12 @@ impl<D: Disk> TreeStore<D> {
     }
 
     /// Says what is known between two calls of a store that is not closed: a crash leaves what a read gives and nothing else.
-    pub fn rests(&self)
+    pub fn prove_at_rest(&self)
         ensures durable { self.now.closed ≡ false → Knows (shown D.Disk self.now.disk) (λ file. Only file (D.may_leave self.now.disk)) }
         ensures still { self.now.closed ≡ false → Knows (shown D.Disk self.now.disk)
             (λ file. LeavesOnly D.Disk self.now.disk self.now.disk (λ c. c ≡ file)) }
     {
-        self.journal.rests();
+        self.journal.prove_at_rest();
     }
 
     /// The disk, as it is.

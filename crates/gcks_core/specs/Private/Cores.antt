@@ -30,9 +30,10 @@ pub record IsAtEnd {D : Type 0} (g : Ghosts D) (store : View D) (head : Head) (l
   pub file : Knows (shown g store.disk) (λ file. IsGroup file head (stored_list head.depth list))
 
 -- Some batches made the tree of a core. What waits fits, and unless it has to be opened again its journal has these batches.
-pub record IsCore {D : Type 0} (g : Ghosts D) (store : View D) (head : Head) (present : Present) (kept : Kept) (queue : List Change) (stopped : Bool) : Type 0 where
+pub record IsCore {D : Type 0} (g : Ghosts D) (store : View D) (head : Head) (present : Present) (kept : Kept) (queue : List Change)
+    (needs_reopen : Bool) : Type 0 where
   pub list : List Made
   pub group : IsGroupOf head present kept list
   pub limited : 1 ≤ head.limit
   pub fits : Fits present.holders queue
-  pub at_end : stopped ≡ false → IsAtEnd g store head list
+  pub at_end : needs_reopen ≡ false → IsAtEnd g store head list

@@ -36,7 +36,7 @@ returns-in-Ok-clause-group g c head list changes group storable =
     subst P c.ready.view_is
     (subst (λ (tree : Present). IsGroupOf head tree c.take.new.self (list ++ made ∷ [])) (sym c.advance.ensures)
     (taken_in head c.args.tree.now c.args.kept.now list group made there.due head.limit c.ready.inside.step there.step_is c.take.new.self
-    c.take.ensures.room (c.take.ensures.last list changes group.keeps) c.values_fit.ensures))
+    c.take.ensures.room (c.take.ensures.last list changes group.keeps) c.prove_values_fit.ensures))
 
 pub returns-in-Ok-clause-at_end : goal.returns-in-Ok-clause-at_end
 returns-in-Ok-clause-at_end g c head list changes at_end storable =

@@ -12,7 +12,7 @@ make_ready-requires-clause-drawn g c =
 pub make_ready-requires-clause-high : goal.make_ready-requires-clause-high
 make_ready-requires-clause-high g c =
     high_there (g.R.Draws.block_at c.args.draws.now) (g.R.Draws.place_of c.args.draws.now) c.in_ok-values.values c.drawn.result.now c.in_ok-step.step.drawn
-    c.in_ok-values.ensures.values c.drawn.ensures c.values_fit.ensures.traffic.spi
+    c.in_ok-values.ensures.values c.drawn.ensures c.prove_values_fit.ensures.traffic.spi
 
 pub returns-in_err-values-clause-moved : goal.returns-in_err-values-clause-moved
 returns-in_err-values-clause-moved g c list group =

@@ -62,4 +62,4 @@ returns-clause-found g c =
     )
 
 pub returns-clause-durable : goal.returns-clause-durable
-returns-clause-durable g c = c.rests-2.ensures.durable c.in_ok-stored.ensures.is_open
+returns-clause-durable g c = c.prove_at_rest-2.ensures.durable c.in_ok-stored.ensures.is_open

@@ -14,4 +14,4 @@ returns c before group due =
     let stored = c.args.stored.now in
     subst (λ (tree : Present). IsGroupOf c.args.head.now tree c.take.new.self (before ++ made_of stored ∷ [])) (sym c.advance.ensures)
     (taken_in_stored c.args.head.now c.args.tree.now c.args.kept.now before group stored due c.args.head.now.limit c.in_ok-step.step c.in_ok-step.ensures c.take.new.self
-    c.take.ensures.room (c.take.ensures.last before stored.batch group.keeps) c.values_fit.ensures)
+    c.take.ensures.room (c.take.ensures.last before stored.batch group.keeps) c.prove_values_fit.ensures)

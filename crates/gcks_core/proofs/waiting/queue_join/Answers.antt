@@ -8,7 +8,7 @@ pub unwrap-requires : goal.unwrap-requires
 unwrap-requires c =
     let tree = c.args.tree.now in
     let none = sym c.why_no_join.ensures.why ∙ c.in_default.is in
-    let added = is_added c.args.stopped tree.depth tree.holders c.args.queue.now c.args.member.now none in
+    let added = is_added c.args.needs_reopen tree.depth tree.holders c.args.queue.now c.args.member.now none in
     subst IsOk (sym (c.add.ensures.answer ∙ added)) refl
 
 pub returns-clause-fits : goal.returns-clause-fits

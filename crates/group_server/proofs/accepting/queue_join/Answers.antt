@@ -16,12 +16,12 @@ returns-in_err-last-clause-accepts g c rules =
 
 pub returns-in_err-join-clause-accepts : goal.returns-in_err-join-clause-accepts
 returns-in_err-join-clause-accepts g c rules =
-    let some = c.rests.ensures.some in
+    let some = c.prove_at_rest.ensures.some in
     absurd (not_refused some.1 c.join.new.self c.args.member.now c.in_err-join.field-0.0 c.requires.granted (c.in_err-join.ensures.step some.0 some.1))
 
 pub returns-in_err-join-clause-sound : goal.returns-in_err-join-clause-sound
 returns-in_err-join-clause-sound g c sound =
-    let some = c.rests.ensures.some in
+    let some = c.prove_at_rest.ensures.some in
     absurd (not_refused some.1 c.join.new.self c.args.member.now c.in_err-join.field-0.0 c.requires.granted (c.in_err-join.ensures.step some.0 some.1))
 
 pub returns-clause-accepts : goal.returns-clause-accepts
@@ -34,7 +34,7 @@ returns-clause-accepts g c rules =
 
 pub returns-clause-sound : goal.returns-clause-sound
 returns-clause-sound g c sound =
-    let some = c.rests.ensures.some in
+    let some = c.prove_at_rest.ensures.some in
     let third = c.requires.third in
     joined_sound c.args.member.now c.args.sessions.now c.hold_third.new.self c.args.core.now.queue c.join.new.self.queue third.sa third.session c.args.third
     c.in_ok-last.last third.has (queue_more some.1 c.join.new.self c.args.member.now (c.in_ok-join.ensures.step some.0 some.1))

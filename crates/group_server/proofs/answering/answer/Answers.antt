@@ -74,7 +74,7 @@ returns-in-None-clause-serves g c asker =
 pub returns-in-None-clause-sound : goal.returns-in-None-clause-sound
 returns-in-None-clause-sound g c =
     let core = c.args.core.now in
-    let some = c.rests.ensures.some in
+    let some = c.prove_at_rest.ensures.some in
     c.begin_session.ensures.sound
     (idle_of some.1 core.head.name c.args.rules.now c.in-Ok.looked.member c.in-NewFirst.first (sym (c.in-None.ensures some.0 some.1)))
 
@@ -123,7 +123,7 @@ queue_join-requires g c =
     let looked = c.in-Ok.looked in
     let third = c.in-NextThird.third in
     let look = found view.sessions.sas c.args.datagram.now looked (NextThird third) c.in-NextThird.is c.in-Ok.ensures in
-    let some = c.rests.ensures.some in
+    let some = c.prove_at_rest.ensures.some in
     let stranger = sym c.is_member.ensures ∙ c.if-is_member.false in
     record {
       third = c.what_is_found_can_be_held.ensures.third view.sessions.sas looked.member c.args.datagram.now third c.prove_sound.ensures.apart look;

@@ -88,7 +88,7 @@ returns-clause-sound g c =
     let old : V = c.args.core.now in
     let sessions : Sessions = c.args.sessions.now in
     let replies = c.in-Ok.replies.sent in
-    let some = c.rests.ensures.some in
+    let some = c.prove_at_rest.ensures.some in
     let prepared = c.in_ok-prepared.ensures in
     let drawn = prepared.step some.0 some.1 in
     let stored = c.in_ok-output.ensures.step drawn.0 drawn.2 in
@@ -102,7 +102,7 @@ pub returns-clause-fits : goal.returns-clause-fits
 returns-clause-fits g c =
     let mid = c.prepare.new.self in
     let output = c.in_ok-output.output in
-    let some = c.rests.ensures.some in
+    let some = c.prove_at_rest.ensures.some in
     let drawn = c.in_ok-prepared.ensures.step some.0 some.1 in
     let puts_out = c.in_ok-output.ensures.puts_out drawn.0 drawn.2 in
     let small : output.sequence < 2 ^ 32 = search rules in

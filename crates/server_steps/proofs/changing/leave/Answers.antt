@@ -8,6 +8,6 @@ returns-clause-serves g c =
 
 pub returns-clause-waits : goal.returns-clause-waits
 returns-clause-waits g c =
-    let some = c.rests.ensures.some in
+    let some = c.prove_at_rest.ensures.some in
     leave_waits g.D.Disk g.G.Signer g.R.Draws c.args.core.now c.args.member.now c.leave.new.self c.leave.result c.leave.ensures.err some.0 some.1
     (c.leave.ensures.step some.0 some.1)

@@ -11,7 +11,7 @@ returns-clause-serves g c =
     serves_still g.D.Disk g.G.Signer g.R.Draws DeliverAll c.args.core.now (Refused NeedsReopen) (λ host server. (
       plain,
       record {
-        stopped = sym server.stands.need ∙ c.requires;
+        stopped = sym server.stands.needs_reopen ∙ c.requires;
         says = says_due g.D.Disk g.G.Signer g.R.Draws (λ host. Refused NeedsReopen) c.args.core.now (Refused NeedsReopen) host server plain refl;
       },
     ))

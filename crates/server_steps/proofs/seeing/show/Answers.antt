@@ -14,7 +14,7 @@ returns-then-needs_reopen-clause-serves g c =
     serves_still g.D.Disk g.G.Signer g.R.Draws Show c.args.core.now (Refused NeedsReopen) (λ host server. (
       plain,
       says_due g.D.Disk g.G.Signer g.R.Draws (λ host. shown_group host.server) c.args.core.now (Refused NeedsReopen) host server plain
-          (shown_stopped host.server (sym server.stands.need ∙ stops)),
+          (shown_stopped host.server (sym server.stands.needs_reopen ∙ stops)),
     ))
 
 pub returns-clause-serves : goal.returns-clause-serves
@@ -24,5 +24,5 @@ returns-clause-serves g c =
     serves_still g.D.Disk g.G.Signer g.R.Draws Show c.args.core.now (Shown c.seen.result) (λ host server. (
       plain,
       says_due g.D.Disk g.G.Signer g.R.Draws (λ host. shown_group host.server) c.args.core.now (Shown c.seen.result) host server plain
-          (shown_open host.server c.seen.result (sym server.stands.need ∙ goes) (c.seen.ensures host.server server.stands)),
+          (shown_open host.server c.seen.result (sym server.stands.needs_reopen ∙ goes) (c.seen.ensures host.server server.stands)),
     ))

@@ -13,7 +13,7 @@ returns-in-Some-clause-read g c file is =
     (subst (λ (b : List ℕ). IsRecordAt file c.args.journal.now.at b) (sym c.as_slice.ensures) (read.whole (λ i. Ok (c.if-not-branch.false i)) file is)) in
     let moved : c.read_next.new.self.at ≡ 14 + length body =
     read.moved (λ i. Ok (c.if-not-branch.false i)) ∙ (λ i. nine i + 5 + length (sym c.as_slice.ensures i)) in
-    (body, [], c.rests.ensures.begins goes file is, (there, sym moved), c.in-Some.ensures.read, cc)
+    (body, [], c.prove_at_rest.ensures.begins goes file is, (there, sym moved), c.in-Some.ensures.read, cc)
 
 pub returns-in-None-clause-broken : goal.returns-in-None-clause-broken
 returns-in-None-clause-broken g c place said =
@@ -25,4 +25,4 @@ returns-in-None-clause-broken g c place said =
     (subst (λ (b : List ℕ). IsRecordAt file c.args.journal.now.at b) (sym c.as_slice.ensures)
     (c.in_ok-read_next.ensures.whole (λ i. Ok (c.if-not-branch.false i)) file is)) in
     let here : place ≡ 9 = cc (said, c.place-at.ensures, nine) in
-    (here, λ file is. inr (inr (body, c.rests.ensures.named goes file is, there file is, c.in-None.ensures.none)))
+    (here, λ file is. inr (inr (body, c.prove_at_rest.ensures.named goes file is, there file is, c.in-None.ensures.none)))

@@ -11,7 +11,7 @@ pub store_batch-requires : goal.store_batch-requires
 store_batch-requires g c =
     let core = c.self.inside in
     let known = c.self.invariant in
-    let goes = ap (λ (view : View g.row.D.Denot g.row.G.Denot g.row.R.Denot). view.need) c.self.view_is ∙ c.requires.«open» in
+    let goes = ap (λ (view : View g.row.D.Denot g.row.G.Denot g.row.R.Denot). view.needs_reopen) c.self.view_is ∙ c.requires.«open» in
     let storable = storable_now_there c.self.view_is c.requires.ready known.list known.group in
     record { group = (core.head, known.list, core.queue, known.group, known.at_end goes, storable) }
 
@@ -19,7 +19,7 @@ pub invariant_of-self : goal.invariant_of-self
 invariant_of-self g c =
     let core = c.self.inside in
     let known = c.self.invariant in
-    let goes = ap (λ (view : View g.row.D.Denot g.row.G.Denot g.row.R.Denot). view.need) c.self.view_is ∙ c.requires.«open» in
+    let goes = ap (λ (view : View g.row.D.Denot g.row.G.Denot g.row.R.Denot). view.needs_reopen) c.self.view_is ∙ c.requires.«open» in
     let storable = storable_now_there c.self.view_is c.requires.ready known.list known.group in
     let holders = c.store_batch.new.tree.holders in
     record {
@@ -41,7 +41,7 @@ returns-in-Ok-clause-puts_out g c server stands =
 
 pub returns-in-Ok-clause-stored : goal.returns-in-Ok-clause-stored
 returns-in-Ok-clause-stored g c server stands on_disk file is =
-    let goes = ap (λ (view : View g.row.D.Denot g.row.G.Denot g.row.R.Denot). view.need) c.self.view_is ∙ c.requires.«open» in
+    let goes = ap (λ (view : View g.row.D.Denot g.row.G.Denot g.row.R.Denot). view.needs_reopen) c.self.view_is ∙ c.requires.«open» in
     let at_end = c.self.invariant.at_end goes in
     let storable = storable_there c.self.view_is c.requires.ready server stands in
     let before = knows_there c.self.view_is c.requires.ready server stands g.D.Disk c.requires.«open» on_disk in

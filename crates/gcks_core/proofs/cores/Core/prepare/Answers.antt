@@ -17,7 +17,7 @@ returns-clause-step g c server stands =
       tree = c.self.inside.tree;
       kept = c.self.inside.kept;
       queue = c.self.inside.queue;
-      need = c.self.inside.stopped;
+      needs_reopen = c.self.inside.needs_reopen;
     } in
     let there = subst (λ (core : View g.row.D.Denot g.row.G.Denot g.row.R.Denot). Stands g.R.Draws core server) (sym c.self.view_is) stands in
     let group = group_of g.R.Draws inside server there in

@@ -10,7 +10,7 @@ use Rattle.group_run.proofs.runs.GroupRun.refuse_deliveries.Goals as goal
 
 pub refuse_deliveries-answer-requires : goal.refuse_deliveries-answer-requires
 refuse_deliveries-answer-requires g c =
-    ap (λ (at : View g.row.D.Denot g.row.G.Denot g.row.R.Denot). at.server.core.need) c.self.view_is ∙ c.requires
+    ap (λ (at : View g.row.D.Denot g.row.G.Denot g.row.R.Denot). at.server.core.needs_reopen) c.self.view_is ∙ c.requires
 
 pub invariant_of-self-2 : goal.invariant_of-self-2
 invariant_of-self-2 g c =

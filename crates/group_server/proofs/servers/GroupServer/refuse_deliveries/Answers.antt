@@ -6,7 +6,7 @@ use Rattle.group_server.proofs.servers.GroupServer.refuse_deliveries.Goals as go
 
 pub refuse_deliveries-requires : goal.refuse_deliveries-requires
 refuse_deliveries-requires g c =
-    subst (λ (view : View g.row.D.Denot g.row.G.Denot g.row.R.Denot). view.core.need ≡ true) (sym c.self.view_is) c.requires
+    subst (λ (view : View g.row.D.Denot g.row.G.Denot g.row.R.Denot). view.core.needs_reopen ≡ true) (sym c.self.view_is) c.requires
 
 pub returns : goal.returns
 returns g c =

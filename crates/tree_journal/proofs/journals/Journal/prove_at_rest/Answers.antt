@@ -3,7 +3,7 @@ use Rattle.gd_disk.specs.MomentLaws.{started}
 use Rattle.tree_journal.specs.Private.Fronts.{Stands}
 use Rattle.tree_journal.specs.Views.{View}
 use Rattle.tree_journal.proofs.FrontLemmas.{end_opens, reached_begins, reached_named_file}
-use Rattle.tree_journal.proofs.journals.Journal.rests.Goals as goal
+use Rattle.tree_journal.proofs.journals.Journal.prove_at_rest.Goals as goal
 
 pub returns-clause-durable : goal.returns-clause-durable
 returns-clause-durable g c goes =
