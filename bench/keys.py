@@ -1,5 +1,5 @@
 #!/usr/bin/env python3
-"""keys.py PEM: an RSA key that `openssl genrsa` made, as a line that `case_signatures` reads: modulus, public and private exponent in hexadecimal."""
+"""keys.py PEM: an RSA key that `openssl genrsa` made, as the text that `RsaKey` reads: modulus, public and private exponent in hexadecimal, a line each."""
 import subprocess
 import sys
 
@@ -34,6 +34,11 @@ def hexadecimal(number):
     return number.to_bytes((number.bit_length() + 7) // 8, "big").hex()
 
 
+def text(pem):
+    """The text of a key in PEM."""
+    return "".join(hexadecimal(number) + "\n" for number in numbers(pem))
+
+
 if __name__ == "__main__":
     with open(sys.argv[1], "rb") as file:
-        print("key", *(hexadecimal(number) for number in numbers(file.read())))
+        print(text(file.read()), end="")

@@ -6,7 +6,7 @@
     python3 bench/rsa.py times         signatures and checks in a second, beside openssl's
 
 It runs crates/case_signatures/out/case_signatures, built by `rt run`. The times of openssl are of its library, called from Python: with the primes of the
-key, and without them as `rsa_sign` has it. All are times of the processor, taken in turn in one run.
+key, and without them as `rsa_sign` has it. All are times of the processor, taken in turn in one run; what it takes to read and answer the lines is left out.
 """
 import ctypes
 import ctypes.util
@@ -242,10 +242,14 @@ def times():
         good = key.sign(text)
         whole, bare = library.key(key, True), library.key(key, False)
         assert library.sign(whole, text, 1) == library.sign(bare, text, 1) == good
-        base = processor(lambda: answers([key.line()]))
+        # the same lines with a number that is refused before any product
+        refused = f"check {text.hex()} {'ff' * key.size}"
         for work, line, count in (("sign", f"sign {text.hex()}", 100), ("check", f"check {text.hex()} {good.hex()}", 2000)):
             theirs = library.sign if work == "sign" else lambda k, t, n: library.check(k, t, good, n)
-            ours = min(processor(lambda: answers([key.line()] + [line] * count)) - base for _ in range(3)) / count
+            base, all_time = (
+                min(processor(lambda: answers([key.line()] + [given] * count)) for _ in range(5)) for given in (refused, line)
+            )
+            ours = (all_time - base) / count
             fast = min(processor(lambda: theirs(whole, text, count)) for _ in range(3)) / count
             slow = min(processor(lambda: theirs(bare, text, count)) for _ in range(3)) / count
             print(f"{bits}  {work:5}  {ours * 1e3:7.3f}  {fast * 1e3:10.3f}  {slow * 1e3:17.3f}  {ours / fast:5.2f}  {ours / slow:5.2f}")

@@ -1,3 +1,4 @@
+pub mod KeyTexts
 pub mod Keys
 pub mod Messages
 pub mod Signatures

@@ -71,6 +71,13 @@ impl RsaVerifier {
         self.bits
     }
 
+    /// That its numbers are those of a public key.
+    pub(crate) fn prove_public_key(&self)
+        ensures { IsPublicKey self.now }
+    {
+        let _ = &self.bits;
+    }
+
     /// The modulus.
     pub(crate) fn modulus(&self) -> &Modulus
         ensures { result.now ≡ self.now.modulus }
