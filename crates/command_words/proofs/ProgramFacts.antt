@@ -18,7 +18,7 @@ flag name = record (flag_rule name) {
   missing = codes "true" ∷ [];
 }
 
--- an argument that takes one
+-- an argument that takes a text
 abbrev pub number : List ℕ → Rule
 number name = record (number_rule name) { parser = Some parsers.String; range = Some (record { start_inclusive = 1; end_inclusive = 1 }) }
 
@@ -74,48 +74,16 @@ pub record IsNumber (name : List ℕ) : Type 0 where
 
 pub new_is : IsNumber (codes "new")
 unfolding rules
-new_is = record {
-  long = refl;
-  by_id = refl;
-  alone = refl;
-  joined = λ text. refl;
-  alone_goes_on = refl;
-  joined_goes_on = λ text. refl;
-  same = refl;
-}
+new_is = record { long = refl; by_id = refl; alone = refl; joined = λ text. refl; alone_goes_on = refl; joined_goes_on = λ text. refl; same = refl }
 
 pub limit_is : IsNumber (codes "limit")
 unfolding rules
-limit_is = record {
-  long = refl;
-  by_id = refl;
-  alone = refl;
-  joined = λ text. refl;
-  alone_goes_on = refl;
-  joined_goes_on = λ text. refl;
-  same = refl;
-}
+limit_is = record { long = refl; by_id = refl; alone = refl; joined = λ text. refl; alone_goes_on = refl; joined_goes_on = λ text. refl; same = refl }
 
 pub seed_is : IsNumber (codes "seed")
 unfolding rules
-seed_is = record {
-  long = refl;
-  by_id = refl;
-  alone = refl;
-  joined = λ text. refl;
-  alone_goes_on = refl;
-  joined_goes_on = λ text. refl;
-  same = refl;
-}
+seed_is = record { long = refl; by_id = refl; alone = refl; joined = λ text. refl; alone_goes_on = refl; joined_goes_on = λ text. refl; same = refl }
 
 pub workers_is : IsNumber (codes "workers")
 unfolding rules
-workers_is = record {
-  long = refl;
-  by_id = refl;
-  alone = refl;
-  joined = λ text. refl;
-  alone_goes_on = refl;
-  joined_goes_on = λ text. refl;
-  same = refl;
-}
+workers_is = record { long = refl; by_id = refl; alone = refl; joined = λ text. refl; alone_goes_on = refl; joined_goes_on = λ text. refl; same = refl }

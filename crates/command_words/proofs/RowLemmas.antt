@@ -147,8 +147,12 @@ module _ {X : Type 0} where
   one_alone first [] item h = (refl, same_Some first item h)
   one_alone first (second ∷ items) item h = absurd (none-some item h)
 
+  -- an argument of this name is of this kind
+  abbrev HasKind : List ℕ → (Argument → Option X) → Type 0
+  HasKind name kind = (row : Row) (argument : Argument) → IsRowOf row argument → bytes_eq (name_of argument) name ≡ true → is_some (kind argument) ≡ true
+
   -- rows of a name are no more than the arguments of their kind
-  named_at_most : (name : List ℕ) (kind : Argument → Option X) → ((argument : Argument) → bytes_eq (name_of argument) name ≡ true → is_some (kind argument) ≡ true)
+  named_at_most : (name : List ℕ) (kind : Argument → Option X) → HasKind name kind
       → (rows : List Row) (arguments : List Argument) → AreRowsOf rows arguments → rows_named name rows ≤ length (filter_map kind arguments)
   named_at_most name kind links [] arguments are = omega arith
   named_at_most name kind links (row ∷ rows) [] are = absurd are
@@ -157,42 +161,21 @@ module _ {X : Type 0} where
       let id = row_id row argument are.0 in
       elim (cases_Bool (bytes_eq row.id name)) [
         | inl hit ↦ rw hit (suc-le_cons (kind argument) (filter_map kind arguments) (rows_named name rows)
-            (links argument (subst (λ id. bytes_eq id name ≡ true) id hit)) rest)
+            (links row argument are.0 (subst (λ id. bytes_eq id name ≡ true) id hit)) rest)
         | inr miss ↦ rw miss (omega (arith, rest, le_cons (kind argument) (filter_map kind arguments)))
       ]
 
-new_opens : (argument : Argument) → bytes_eq (name_of argument) (codes "new") ≡ true → is_some (opening_in argument) ≡ true
-new_opens (Opens opening) h = refl
-new_opens (Limit limit) h = h
-new_opens (Seed seed) h = h
-new_opens (Workers workers) h = h
+new_opens : HasKind (codes "new") opening_in
+new_opens row (Opens opening) is h = refl
+new_opens row (Limit limit) is h = h
+new_opens row (Seed seed) is h = h
+new_opens row (Workers workers) is h = h
 
-open_opens : (argument : Argument) → bytes_eq (name_of argument) (codes "open") ≡ true → is_some (opening_in argument) ≡ true
-open_opens (Opens opening) h = refl
-open_opens (Limit limit) h = h
-open_opens (Seed seed) h = h
-open_opens (Workers workers) h = h
-
-limit_limits : (argument : Argument) → bytes_eq (name_of argument) (codes "limit") ≡ true → is_some (limit_in argument) ≡ true
-limit_limits (Opens (New depth)) h = h
-limit_limits (Opens Open) h = h
-limit_limits (Limit limit) h = refl
-limit_limits (Seed seed) h = h
-limit_limits (Workers workers) h = h
-
-seed_seeds : (argument : Argument) → bytes_eq (name_of argument) (codes "seed") ≡ true → is_some (seed_in argument) ≡ true
-seed_seeds (Opens (New depth)) h = h
-seed_seeds (Opens Open) h = h
-seed_seeds (Limit limit) h = h
-seed_seeds (Seed seed) h = refl
-seed_seeds (Workers workers) h = h
-
-workers_work : (argument : Argument) → bytes_eq (name_of argument) (codes "workers") ≡ true → is_some (workers_in argument) ≡ true
-workers_work (Opens (New depth)) h = h
-workers_work (Opens Open) h = h
-workers_work (Limit limit) h = h
-workers_work (Seed seed) h = h
-workers_work (Workers workers) h = refl
+open_opens : HasKind (codes "open") opening_in
+open_opens row (Opens opening) is h = refl
+open_opens row (Limit limit) is h = h
+open_opens row (Seed seed) is h = h
+open_opens row (Workers workers) is h = h
 
 -- ---- texts by their names
 
@@ -202,51 +185,55 @@ skipped name row rows miss = rw miss refl
 taken : (name text : List ℕ) (rows : List Row) → bytes_eq name name ≡ true → first_of name (row_for name text ∷ rows) ≡ Some text
 taken name text rows same = rw same refl
 
--- the number of an argument that takes one
-module _ (name : List ℕ) (least greatest : ℕ) (kind : Argument → Option ℕ) (same : bytes_eq name name ≡ true)
-    (splits : (row : Row) (argument : Argument) → IsRowOf row argument
+-- an argument of the kind has the name and a number, and any other has another name
+abbrev Splits : List ℕ → ℕ → ℕ → (Argument → Option ℕ) → Type 0
+Splits name least greatest kind = (row : Row) (argument : Argument) → IsRowOf row argument
     → ((number : ℕ) × (kind argument ≡ Some number) × HasNumber name least greatest number row)
-    ⊎ ((kind argument ≡ None) × (bytes_eq (name_of argument) name ≡ false))) where
-  number_found : (rows : List Row) (arguments : List Argument) → AreRowsOf rows arguments → (absent number : ℕ)
-      → one_or absent (filter_map kind arguments) ≡ Some number → number_given least greatest absent (first_of name rows) ≡ Some number
-  number_found [] [] are absent number h = h
-  number_found [] (argument ∷ arguments) are absent number h = absurd are
-  number_found (row ∷ rows) [] are absent number h = absurd are
-  number_found (row ∷ rows) (argument ∷ arguments) are absent number h = elim (splits row argument are.0) [
-    | inl has ↦
-        let only : one (has.0 ∷ filter_map kind arguments) ≡ Some number =
-        subst (λ item. one_or absent (cons_option item (filter_map kind arguments)) ≡ Some number) has.1 h in
-        ap (λ row. number_given least greatest absent (first_of name (row ∷ rows))) has.2.is
-        ∙ ap (number_given least greatest absent) (taken name has.2.text rows same) ∙ has.2.reads
-        ∙ ap Some (one_alone has.0 (filter_map kind arguments) number only).1
-    | inr other ↦
-        let rest : one_or absent (filter_map kind arguments) ≡ Some number =
-        subst (λ item. one_or absent (cons_option item (filter_map kind arguments)) ≡ Some number) other.0 h in
-        let miss : bytes_eq row.id name ≡ false = subst (λ id. bytes_eq id name ≡ false) (sym (row_id row argument are.0)) other.1 in
-        ap (number_given least greatest absent) (skipped name row rows miss) ∙ number_found rows arguments are.1 absent number rest
-  ]
+    ⊎ ((kind argument ≡ None) × (bytes_eq (name_of argument) name ≡ false))
 
-limit_splits : (row : Row) (argument : Argument) → IsRowOf row argument
-    → ((number : ℕ) × (limit_in argument ≡ Some number) × HasNumber (codes "limit") 1 (2 ^ 32 - 1) number row)
-    ⊎ ((limit_in argument ≡ None) × (bytes_eq (name_of argument) (codes "limit") ≡ false))
+kind_by_name : (name : List ℕ) (least greatest : ℕ) (kind : Argument → Option ℕ) → Splits name least greatest kind → HasKind name kind
+kind_by_name name least greatest kind splits row argument is same = elim (splits row argument is) [
+  | inl has ↦ ap is_some has.1
+  | inr other ↦ absurd (true≢false (sym same ∙ other.1))
+]
+
+-- the number of an argument that takes one
+module _ (name : List ℕ) (least greatest : ℕ) (kind : Argument → Option ℕ) (same : bytes_eq name name ≡ true) (splits : Splits name least greatest kind)
+  where
+    number_found : (rows : List Row) (arguments : List Argument) → AreRowsOf rows arguments → (absent number : ℕ)
+        → one_or absent (filter_map kind arguments) ≡ Some number → number_given least greatest absent (first_of name rows) ≡ Some number
+    number_found [] [] are absent number h = h
+    number_found [] (argument ∷ arguments) are absent number h = absurd are
+    number_found (row ∷ rows) [] are absent number h = absurd are
+    number_found (row ∷ rows) (argument ∷ arguments) are absent number h = elim (splits row argument are.0) [
+      | inl has ↦
+          let only : one (has.0 ∷ filter_map kind arguments) ≡ Some number =
+          subst (λ item. one_or absent (cons_option item (filter_map kind arguments)) ≡ Some number) has.1 h in
+          ap (λ row. number_given least greatest absent (first_of name (row ∷ rows))) has.2.is
+          ∙ ap (number_given least greatest absent) (taken name has.2.text rows same) ∙ has.2.reads
+          ∙ ap Some (one_alone has.0 (filter_map kind arguments) number only).1
+      | inr other ↦
+          let rest : one_or absent (filter_map kind arguments) ≡ Some number =
+          subst (λ item. one_or absent (cons_option item (filter_map kind arguments)) ≡ Some number) other.0 h in
+          let miss : bytes_eq row.id name ≡ false = subst (λ id. bytes_eq id name ≡ false) (sym (row_id row argument are.0)) other.1 in
+          ap (number_given least greatest absent) (skipped name row rows miss) ∙ number_found rows arguments are.1 absent number rest
+    ]
+
+limit_splits : Splits (codes "limit") 1 (2 ^ 32 - 1) limit_in
 limit_splits row (Opens (New depth)) h = inr (refl, refl)
 limit_splits row (Opens Open) h = inr (refl, refl)
 limit_splits row (Limit limit) h = inl (limit, refl, h)
 limit_splits row (Seed seed) h = inr (refl, refl)
 limit_splits row (Workers workers) h = inr (refl, refl)
 
-seed_splits : (row : Row) (argument : Argument) → IsRowOf row argument
-    → ((number : ℕ) × (seed_in argument ≡ Some number) × HasNumber (codes "seed") 0 (2 ^ 64 - 1) number row)
-    ⊎ ((seed_in argument ≡ None) × (bytes_eq (name_of argument) (codes "seed") ≡ false))
+seed_splits : Splits (codes "seed") 0 (2 ^ 64 - 1) seed_in
 seed_splits row (Opens (New depth)) h = inr (refl, refl)
 seed_splits row (Opens Open) h = inr (refl, refl)
 seed_splits row (Limit limit) h = inr (refl, refl)
 seed_splits row (Seed seed) h = inl (seed, refl, h)
 seed_splits row (Workers workers) h = inr (refl, refl)
 
-workers_splits : (row : Row) (argument : Argument) → IsRowOf row argument
-    → ((number : ℕ) × (workers_in argument ≡ Some number) × HasNumber (codes "workers") 1 16 number row)
-    ⊎ ((workers_in argument ≡ None) × (bytes_eq (name_of argument) (codes "workers") ≡ false))
+workers_splits : Splits (codes "workers") 1 16 workers_in
 workers_splits row (Opens (New depth)) h = inr (refl, refl)
 workers_splits row (Opens Open) h = inr (refl, refl)
 workers_splits row (Limit limit) h = inr (refl, refl)
@@ -336,21 +323,16 @@ rows_say rows arguments command are h =
     let few = one_at_most openings parts.first parts.opens in
     let news = named_at_most (codes "new") opening_in new_opens rows arguments are in
     let opens = named_at_most (codes "open") opening_in open_opens rows arguments are in
+    let limits_few = named_at_most (codes "limit") limit_in (kind_by_name (codes "limit") 1 (2 ^ 32 - 1) limit_in limit_splits) rows arguments are in
+    let seeds_few = named_at_most (codes "seed") seed_in (kind_by_name (codes "seed") 0 (2 ^ 64 - 1) seed_in seed_splits) rows arguments are in
+    let workers_few = named_at_most (codes "workers") workers_in (kind_by_name (codes "workers") 1 16 workers_in workers_splits) rows arguments are in
     record {
       fits = fits [] rows arguments are (record {
         new = omega (arith, few, news);
         open_group = omega (arith, few, opens);
-        limit = omega (
-          arith,
-          one_or_at_most (2 ^ 32 - 1) limits parts.second parts.limits,
-          named_at_most (codes "limit") limit_in limit_limits rows arguments are,
-        );
-        seed = omega (arith, one_or_at_most 0 seeds parts.third parts.seeds, named_at_most (codes "seed") seed_in seed_seeds rows arguments are);
-        workers = omega (
-          arith,
-          one_or_at_most 1 workers parts.fourth parts.works,
-          named_at_most (codes "workers") workers_in workers_work rows arguments are,
-        );
+        limit = omega (arith, one_or_at_most (2 ^ 32 - 1) limits parts.second parts.limits, limits_few);
+        seed = omega (arith, one_or_at_most 0 seeds parts.third parts.seeds, seeds_few);
+        workers = omega (arith, one_or_at_most 1 workers parts.fourth parts.works, workers_few);
       });
       says = rw (
         opening_found rows arguments are parts.first parts.opens,

@@ -10,7 +10,7 @@ use Rattle.clap.specs.declared.parser.matches.ValueSource.TheVariants.{CommandLi
 use Rattle.command_words.proofs.ProgramFacts.{IsNumber, flag, number, open_is, rules, shape}
 use Rattle.command_words.proofs.RowLemmas.{FitsAfter, at_row-missing, row_for}
 
--- an argument whose texts are being read, with those that there are
+-- an argument whose texts are being read, with the texts so far
 abbrev pub Pending : Type 0
 Pending = Option (Text × List Text)
 

@@ -39,7 +39,7 @@ abbrev pub argument_in : List ℕ → Option Argument
 argument_in word =
     option_map_or (λ at. argument_with (take at word) (drop (at + 1) word)) (position is_equals_sign word) (lone_argument word)
 
--- an argument, and those after it
+-- an argument, and further ones after it
 abbrev pub followed_by : Option Argument → Option (List Argument) → Option (List Argument)
 followed_by first others = do
   argument ← first

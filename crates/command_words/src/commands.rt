@@ -1,3 +1,4 @@
+//! What the words of the command line ask for.
 ghost use Rattle.std.specs.Prelude.{◌≡◌, map, string_bytes, IfSome};
 ghost use Rattle.command_words.specs.Commands.{command_of, IsWithin};
 

@@ -1,5 +1,5 @@
-ghost use Rattle.std.specs.Prelude.{◌≡◌, [], map, string_bytes, IfSome, MatchOption, if◌then◌else◌};
-ghost use Rattle.std.specs.Option.{is_some};
+//! The arguments that words have.
+ghost use Rattle.std.specs.Prelude.{◌≡◌, [], map, string_bytes, IfSome, MatchOption};
 ghost use Rattle.command_words.specs.Commands.{command_of, IsWithin};
 ghost use Rattle.command_words.specs.Private.Found.{command_with, IsAdded, IsAllowed, IsRefused, AreAllowed};
 
@@ -16,7 +16,7 @@ pub(crate) struct Found {
 }
 
 impl Found {
-    /// The arguments that the words are; `None` where they are none, or two of them are of one kind.
+    /// Reads the arguments in the words; `None` where a word is no argument, or two are of one kind.
     #[tactic(auto, unfolding(crate::specs::Commands::command_of))]
     pub(crate) fn read(words: &[String]) -> Option<Found>
         ensures command { MatchOption result (command_of (map string_bytes words.now) ≡ None)
@@ -44,7 +44,7 @@ impl Found {
         }
     }
 
-    /// This and one more argument; `None` where one of its kind was found.
+    /// With one more argument; `None` where one of its kind was found.
     fn with(self, argument: Argument) -> Option<Found>
         requires found { AreAllowed self }
         requires argument { IsAllowed argument }
@@ -52,62 +52,23 @@ impl Found {
         ensures allowed { IfSome result AreAllowed }
     {
         match argument {
-            Argument::Opens(opening) => self.with_opening(opening),
-            Argument::Limit(limit) => self.with_limit(limit),
-            Argument::Seed(seed) => self.with_seed(seed),
-            Argument::Workers(workers) => self.with_workers(workers),
-        }
-    }
-
-    fn with_opening(self, opening: Opening) -> Option<Found>
-        ensures { result ≡ (if is_some self.opening then None else Some (record self { opening = Some opening })) }
-    {
-        if self.opening.is_some() {
-            None
-        } else {
-            Some(Found {
+            Argument::Opens(opening) if self.opening.is_none() => Some(Found {
                 opening: Some(opening),
                 ..self
-            })
-        }
-    }
-
-    fn with_limit(self, limit: u32) -> Option<Found>
-        ensures { result ≡ (if is_some self.limit then None else Some (record self { limit = Some limit })) }
-    {
-        if self.limit.is_some() {
-            None
-        } else {
-            Some(Found {
+            }),
+            Argument::Limit(limit) if self.limit.is_none() => Some(Found {
                 limit: Some(limit),
                 ..self
-            })
-        }
-    }
-
-    fn with_seed(self, seed: u64) -> Option<Found>
-        ensures { result ≡ (if is_some self.seed then None else Some (record self { seed = Some seed })) }
-    {
-        if self.seed.is_some() {
-            None
-        } else {
-            Some(Found {
+            }),
+            Argument::Seed(seed) if self.seed.is_none() => Some(Found {
                 seed: Some(seed),
                 ..self
-            })
-        }
-    }
-
-    fn with_workers(self, workers: u8) -> Option<Found>
-        ensures { result ≡ (if is_some self.workers then None else Some (record self { workers = Some workers })) }
-    {
-        if self.workers.is_some() {
-            None
-        } else {
-            Some(Found {
+            }),
+            Argument::Workers(workers) if self.workers.is_none() => Some(Found {
                 workers: Some(workers),
                 ..self
-            })
+            }),
+            _ => None,
         }
     }
 

@@ -35,7 +35,7 @@ pub fn take_words(alloc: Global, words: &[String]) -> Result<Command, NoMemory>
     }
 }
 
-/// What `clap` finds in the words; it refuses what it takes only for want of memory.
+/// What `clap` finds in the words; what it takes it refuses only where it runs out of memory.
 fn matches_in<'a>(alloc: Global, words: &'a [String]) -> Result<ArgMatches<'a>, Error>
     ensures found { IfOk result (λ matches. rows_of (found_of matches) ≡ matches_of program (map string_bytes words.now)) }
     ensures refused { IfErr result (λ error. takes program (map string_bytes words.now) ≡ true → kind_of error ≡ OutOfMemory) }

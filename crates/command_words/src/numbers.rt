@@ -1,3 +1,4 @@
+//! Numbers in words.
 ghost use Rattle.std.specs.Prelude.{◌≡◌, ◌≤◌, IfSome};
 ghost use Rattle.command_words.specs.Arguments.{number_between};
 

@@ -8,7 +8,7 @@ use Rattle.command_words.specs.declared.arguments.Argument.TheVariants.{Opens, L
 use Rattle.command_words.specs.declared.found.Found.{Found}
 use Rattle.command_words.specs.Commands.{HasDepth, command_from}
 
--- the arguments that were found, those of one kind after those of another
+-- the arguments that were found, one kind after another
 abbrev pub found_arguments : Found → List Argument
 found_arguments found =
     map Opens (option_to_list found.opening) ++ map Limit (option_to_list found.limit) ++ map Seed (option_to_list found.seed)

@@ -1,4 +1,4 @@
--- The command line as `clap` is told of it, and the command that the texts which it found say.
+-- The command line as it is built for `clap`, and the command that the texts which `clap` finds say.
 use Rattle.std.specs.Prelude.{ℕ, ◌-◌, ◌^◌, true, List, Option, Some, codes}
 use Rattle.std.specs.Option.{option_map, option_map_or}
 use Rattle.clap.specs.Walk.{Rule}
@@ -14,7 +14,7 @@ use Rattle.command_words.specs.Arguments.{number_between}
 abbrev pub flag_rule : List ℕ → Rule
 flag_rule name = record (new_rule name) { long = Some name; action = Some SetTrue }
 
--- an argument that takes one
+-- an argument that takes a text
 abbrev pub number_rule : List ℕ → Rule
 number_rule name = record (new_rule name) { long = Some name; action = Some Set }
 
