@@ -1,7 +1,7 @@
 -- One line of a script, request by request.
 -- What a line gives is a recursion over its entries (`GoesThrough`), each of which answers what `AsksNext` says; `GoesThrough-then` adds one at the end, where
 -- code adds. `Going` is a loop of requests with a property of the run (`keeps`): the last delivery for deliver-all, `any_run` for a line of one request.
--- What is said of the keys of the engine (`keys_of`) is said of those that a run has (`same_keys`).
+-- What is said of the keys of the engine (`keys_of`) is said of the keys of a run (`same_keys`).
 use Rattle.std.proofs.Common.{◌≡◌, ℕ, false, ◌||◌, List, [], ◌∷◌, ◌++◌, Option, None, Some, Result, Ok, Err, sym, refl, ap, ◌∙◌, subst, inl, inr, append_assoc}
 use Rattle.std.specs.Prelude.{IfErr, MatchResult, OnOk}
 use Rattle.std.proofs.lemmas.Bool.{or_parts}
@@ -83,7 +83,7 @@ module _ {D G V R : Type 0} (on : Devices D G V) (draws : DrawGhosts R) (peers :
   }
 
 module _ {D G V R : Type 0} (on : Devices D G V) (draws : DrawGhosts R) (peers : Drawing) (held : View D G R) where
-  -- what a line asks with the keys of the engine, it asks with those of a run
+  -- what a line asks with the keys of the engine, it asks with the keys of a run
   pub asks_by : (line : ScriptLine) (so_far : List Entry) (next : Option Ask) (by : Keying G) (run : Run D) → Stands on.disks draws peers by held run
       → (before : List Entry) → AsksNext peers.block console_name run before so_far line next → AsksNext by.members_block by.group run before so_far line next
   asks_by line so_far next by run stands before asks =

@@ -22,7 +22,7 @@ use Rattle.console_run.proofs.CutLemmas.{cut_of-more, lines_cut, unfinished-some
 abbrev lines_at : Cut → List (List ℕ)
 lines_at cut = cut.lines ++ unfinished cut.rest
 
--- octets add lines to those there are
+-- octets add lines to the lines so far
 more_lines : (lines : List (List ℕ)) (rest octets : List ℕ)
     → (more : List (List ℕ)) × ((fold cut_more (record { lines = lines; rest = rest }) octets).lines ≡ lines ++ more)
 more_lines lines rest [] = ([], sym (append-nil lines))
@@ -178,7 +178,7 @@ module _ (octets before text after : List ℕ) (ended : Bool) (ends : EndsLine b
     ]
   ]
 
-  -- the text is no line that goes on behind 200 octets
+  -- the text is no line that goes on after 200 octets
   no_long_line : length text ≡ 200 → (octet : ℕ) (later : List ℕ) → (octet ≡ 10 → ⊥) → octets ≡ before ++ (text ++ (octet ∷ later)) → ⊥
   no_long_line long octet later other whole =
       let lines = script_lines before in

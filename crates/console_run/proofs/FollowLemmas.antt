@@ -91,7 +91,7 @@ module _ {D G V R : Type 0} (on : Devices D G V) (draws : DrawGhosts R) (start :
       came : CameFrom had.octets left.octets (given_of taken.taken true)
       came = record { consumed = taken.consumed; octets = all_so_far.small; whole = λ ended. taken.whole }
 
-      -- it was taken whole, and what stands after its last line end was run
+      -- it was taken whole, and what comes after its last line end was run
       pub run_whole : (new : Moment D G R) → Ends on draws middle new → IsRunTo on draws Whole start had left new
       run_whole new ends = record { given = given_of taken.taken true; came = came; source = taken.stands; reported = ends start taken.taken all_so_far }
 

@@ -39,7 +39,7 @@ open_ran answer h = absurd (false≢true h)
 module _ {D G V : Type 0} (on : Devices D G V) (by : Keying G) where
   -- ---- steps
 
-  -- what a line gives, after those that it gave so far
+  -- what a line gives, after what it gave so far
   through_steps : (line : Line) (before so_far : List Entry) (run : Run D) (more : List Entry) (after : Run D)
       → GoesThrough on by line before so_far run more after → AreRunSteps on by (before ++ so_far) run more after
   through_steps line before so_far run [] after h = h

@@ -124,7 +124,7 @@ module _ {D G V R : Type 0} (on : Devices D G V) (draws : DrawGhosts R) where
     one_line = refl;
   }
 
-  -- where a run stands in the octets that were taken
+  -- where a run is in the octets that were taken
   module _ (start : Start D G) (before : List ℕ) (now : Moment D G R) (so : IsSoFar on draws start before now) where
     lines_before : script_lines so.front ≡ (cut_of before).lines
     lines_before = lines_cut so.front ∙ ap (λ (c : Cut). c.lines ++ unfinished c.rest) so.cut ∙ append-nil (cut_of before).lines

@@ -168,7 +168,7 @@ module _ {D G V R : Type 0} (on : Devices D G V) (draws : DrawGhosts R) where
         (Puts-entries start.was out now held.entries run.more so.puts run.puts);
   }
 
-  -- the run stopped in what stands after the last line end
+  -- the run stopped in what comes after the last line end
   pub stopped_at_end : (start : Start D G) (before : List ℕ) (stop : Stop) (held new : View D G R) (line : List ℕ) (count : ℕ) (out now : Shown)
       (peers peers_now : Drawing) → IsSoFar on draws start before (moment held line count out peers)
       → length line ≤ 200 → count < 16384 → (stop ≡ Line → is_line line ≡ false) → Stops on.disks draws peers (begun_by_text on line) stop held new out now
@@ -249,7 +249,7 @@ module _ {D G V R : Type 0} (on : Devices D G V) (draws : DrawGhosts R) where
   StopsWithin-then a b stop first second new goes stops start before so =
       subst (λ octets. IsStoppedAt on draws stop (given_of octets false) start new) (append_assoc before a b) (stops start (before ++ a) (goes start before so))
 
-  -- no octet came after those that were taken
+  -- no octet came after the octets that were taken
   pub StopsWithin-lost : (taken : List ℕ) (old now : Moment D G R) → GoesOn on draws taken old now → length now.line ≤ 200
       → (0 < length now.line → now.count < 16384)
       → StopsWithin on draws taken SourceStop old now

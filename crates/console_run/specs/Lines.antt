@@ -118,21 +118,21 @@ module _ (block : ℕ → List ℕ) (group : Name) {D : Type 0} (run : Run D) (b
   AsksBy line None next = (rest : Members) × AreAtRest run.members rest × AsksFirst line rest next
   AsksBy line (Some last) next = AsksAfter line last next
 
-  -- what a line asks, after the entries before it and those that it gave so far, which made this run
+  -- what a line asks, after the entries before it and its own so far, which made this run
   abbrev pub AsksNext : Line → Option Ask → Type 0
   AsksNext line next = AsksBy line (last_of so_far) next
 
 -- ---- what a script gives
 
 module _ {D G V : Type 0} (on : Devices D G V) (by : Keying G) where
-  -- Entries one after the other, after those that a line gave so far. Each answers what the line asks next, and memory ran out in the last of them at most.
+  -- Entries one after the other, after the entries that a line gave so far. Each answers what the line asks next, and memory ran out in the last of them at most.
   abbrev pub GoesThrough : Line → List Entry → List Entry → Run D → List Entry → Run D → Type 0
   GoesThrough line before so_far run [] after = after ≡ run
   GoesThrough line before so_far run (entry ∷ more) after =
       (acted : Members) × AsksNext by.members_block by.group run before so_far line (Some (entry.asked, acted)) × ((more ≡ []) ⊎ (ran_out entry.answer ≡ false))
       × (next : Run D) × IsAnsweredAfter on by acted (before ++ so_far) run entry next × GoesThrough line before (so_far ++ entry ∷ []) next more after
 
-  -- A line begins to give these entries: the first of those that it gives, perhaps none. The last of them may have run out of memory.
+  -- A line begins to give these entries: the first ones that it gives, perhaps none. The last of them may have run out of memory.
   abbrev pub BeginsToGive : Line → List Entry → Run D → List Entry → Run D → Type 0
   BeginsToGive line before run more after = GoesThrough line before [] run more after
 

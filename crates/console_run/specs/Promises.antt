@@ -49,7 +49,7 @@ abbrev pub request_of : Opening → Asked
 request_of (New depth) = Create depth
 request_of Open = Begin
 
--- so many phase 1 SAs may be introduced
+-- how many phase 1 SAs may be introduced
 abbrev pub most_phases : ℕ
 most_phases = 1024
 
@@ -139,9 +139,9 @@ module _ {D G V : Type 0} (on : Devices D G V) (by : Keying G) where
     -- Where a group is made, or the disk exposes the journal of one, the source exposes a script, and nothing fails, all lines are run, or memory ran out.
     pub complete : CanRun streams command.opening old new → (ending ≡ Whole) ⊎ (ending ≡ Memory)
     -- Each entry is a step, from the opening on: of the server, its disk and its draws, of the members and their stores. So each push is the text of its batch,
-    -- and each refusal but for want of memory has its cause, as far as the disk shows it.
+    -- and each refusal but `NoMemory` has its cause, as far as the disk shows it.
     pub history : IsHistory on by (start_of command old place members_place) entries after
-    -- At each moment each batch fits the tree that those before it left, whatever openings read. One that is in doubt is not counted.
+    -- At each moment each batch fits the tree that the batches before it left, whatever openings read. One that is in doubt is not counted.
     pub valid : (front : List Entry) (mid : Run D) → IsMoment on by (start_of command old place members_place) entries after front mid
         → IsValid mid.host.server.depth (batches_in mid)
     -- By key names: from all that the batches of a moment could ever send, and all that they could ever give to some names, these derive the traffic key of

@@ -3,15 +3,15 @@ use Rattle.std.specs.Prelude.{◌≡◌, ◌⊎◌, ℕ, ◌==◌, ◌&&◌, nat
 use Rattle.std.specs.List.{list_all, slice_split}
 use Rattle.script_text.specs.Lines.{line_of}
 
--- a line has at most so many octets
+-- how many octets a line has at most
 abbrev pub longest_line : ℕ
 longest_line = 200
 
--- a script has at most so many lines
+-- how many lines a script has at most
 abbrev pub most_lines : ℕ
 most_lines = 16384
 
--- a source is asked for so many octets at a time
+-- how many octets a source is asked for at a time
 abbrev pub longest_piece : ℕ
 longest_piece = 4096
 
@@ -23,7 +23,7 @@ are_octets octets = list_all (λ octet. nat_lt octet 256) octets
 abbrev pub ends_line : ℕ → Bool
 ends_line octet = octet == 10
 
--- what stands after the last line end: a line, where it has octets
+-- what comes after the last line end: a line, where it has octets
 abbrev pub unfinished : List ℕ → List (List ℕ)
 unfinished [] = []
 unfinished (octet ∷ octets) = (octet ∷ octets) ∷ []

@@ -20,7 +20,7 @@ module _ {D G V : Type 0} (on : Devices D G V) (by : Keying G) where
     pub sure : (before : List Entry) (opening : Entry) (next : Run D) (later : List Entry) (mid : Run D)
         → IsStretch on by start entries after before opening next later mid → IsSure on.disks next.host.disk later
         → AreTrueSteps on by (before ++ opening ∷ []) next later mid
-    -- What the stretch gave and sent serves those members whom it sent a reply, and nobody but members.
+    -- What the stretch gave and sent serves the members whom it sent a reply, and nobody but members.
     pub serves : (before : List Entry) (opening : Entry) (next : Run D) (later : List Entry) (mid : Run D)
         → IsStretch on by start entries after before opening next later mid → AreTrueSteps on by (before ++ opening ∷ []) next later mid
         → ServesMembers mid.host.server.depth (batches_in mid) (opening ∷ later)

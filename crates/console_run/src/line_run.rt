@@ -8,11 +8,11 @@ ghost use Rattle.script_text.specs.declared.lines.Line.TheVariants as lines;
 ghost use Rattle.console_run.specs.Scripts.{is_line, most_lines};
 ghost use Rattle.run_report.specs.Reports.{Puts};
 ghost use Rattle.group_run.specs.Stays.{RulesStay};
-ghost use Rattle.console_run.specs.Private.Asks.{StopsIn};
+ghost use Rattle.console_run.specs.Private.Asks.{RunsLine};
 ghost use Rattle.console_run.specs.Private.Mail.{begun_by_mail, by_mail};
 ghost use Rattle.console_run.specs.Private.Reports.{EntryStops};
 ghost use Rattle.group_steps.specs.Devices.{devices};
-ghost use Rattle.console_run.specs.Private.Runs.{Drawing, Runs, Stops, begun_by_text, by_line, by_text, drawn_by};
+ghost use Rattle.console_run.specs.Private.Runs.{Drawing, Runs, Stops, begun_by_text, by_text, drawn_by};
 
 use crate::consoles::console_name;
 use gd_disk::Disk;
@@ -65,11 +65,8 @@ fn run<D: Disk, G: Signer, V: Verifier, R: Draws, P: Draws, K: Sink>(
     requires rest { group.old.members.mail ≡ [] }
     requires place { P.place_of peers.old ≡ group.old.members.place }
     requires rules { length group.old.server.rules < most_lines }
-    ensures runs { MatchResult result
-        (λ _. Runs D.Disk R.Draws (drawn_by P.Draws peers.old) (by_line (devices D.Disk G.Signer V.Verifier verifier.now) line) group.old group.new
-        (K.shows out.old) (K.shows out.new))
-        (λ stop. StopsIn (devices D.Disk G.Signer V.Verifier verifier.now) R.Draws (drawn_by P.Draws peers.old) line stop group.old group.new (K.shows out.old)
-        (K.shows out.new)) }
+    ensures runs { RunsLine (devices D.Disk G.Signer V.Verifier verifier.now) R.Draws (drawn_by P.Draws peers.old) line result
+        group.old group.new (K.shows out.old) (K.shows out.new) }
     ensures place { OnOk result (P.place_of peers.new ≡ group.new.members.place) }
     ensures blocks { (k : ℕ) → P.block_at peers.new k ≡ P.block_at peers.old k }
     ensures rules { OnOk result (length group.new.server.rules ≤ length group.old.server.rules + 1) }
@@ -96,7 +93,7 @@ fn run<D: Disk, G: Signer, V: Verifier, R: Draws, P: Draws, K: Sink>(
     report_last(alloc, group, out)
 }
 
-/// A rule that allows or denies those whose names match.
+/// A rule that allows or denies names that match.
 fn rule(allow: bool, pattern: Pattern) -> Rule
     ensures { result ≡ record { allow = allow; pattern = pattern } }
 {
@@ -114,12 +111,8 @@ fn run_join<D: Disk, G: Signer, V: Verifier, R: Draws, P: Draws, K: Sink>(
 ) -> Result<(), Stop>
     requires rest { group.old.members.mail ≡ [] }
     requires place { P.place_of peers.old ≡ group.old.members.place }
-    ensures runs { MatchResult result
-        (λ _. Runs D.Disk R.Draws (drawn_by P.Draws peers.old) (by_line (devices D.Disk G.Signer V.Verifier verifier.now) (lines.Join member.now)) group.old
-        group.new
-        (K.shows out.old) (K.shows out.new))
-        (λ stop. StopsIn (devices D.Disk G.Signer V.Verifier verifier.now) R.Draws (drawn_by P.Draws peers.old) (lines.Join member.now) stop group.old group.new
-        (K.shows out.old) (K.shows out.new)) }
+    ensures runs { RunsLine (devices D.Disk G.Signer V.Verifier verifier.now) R.Draws (drawn_by P.Draws peers.old) (lines.Join member.now) result
+        group.old group.new (K.shows out.old) (K.shows out.new) }
     ensures place { OnOk result (P.place_of peers.new ≡ group.new.members.place) }
     ensures blocks { (k : ℕ) → P.block_at peers.new k ≡ P.block_at peers.old k }
     ensures rules { OnOk result (group.new.server.rules ≡ group.old.server.rules) }
@@ -150,12 +143,8 @@ fn run_pull<D: Disk, G: Signer, V: Verifier, R: Draws, P: Draws, K: Sink>(
     requires rest { group.old.members.mail ≡ [] }
     requires place { P.place_of peers.old ≡ group.old.members.place }
     requires introduced { was_introduced group.old.members.all member.now ≡ true }
-    ensures runs { MatchResult result
-        (λ _. Runs D.Disk R.Draws (drawn_by P.Draws peers.old) (by_line (devices D.Disk G.Signer V.Verifier verifier.now) (lines.Join member.now)) group.old
-        group.new
-        (K.shows out.old) (K.shows out.new))
-        (λ stop. StopsIn (devices D.Disk G.Signer V.Verifier verifier.now) R.Draws (drawn_by P.Draws peers.old) (lines.Join member.now) stop group.old group.new
-        (K.shows out.old) (K.shows out.new)) }
+    ensures runs { RunsLine (devices D.Disk G.Signer V.Verifier verifier.now) R.Draws (drawn_by P.Draws peers.old) (lines.Join member.now) result
+        group.old group.new (K.shows out.old) (K.shows out.new) }
     ensures place { OnOk result (P.place_of peers.new ≡ group.new.members.place) }
     ensures blocks { (k : ℕ) → P.block_at peers.new k ≡ P.block_at peers.old k }
     ensures rules { OnOk result (group.new.server.rules ≡ group.old.server.rules) }
@@ -175,11 +164,8 @@ fn run_again<D: Disk, G: Signer, V: Verifier, R: Draws, K: Sink>(
     out: &mut K,
 ) -> Result<(), Stop>
     requires { group.old.members.mail ≡ [] }
-    ensures runs { (peers : Drawing) → MatchResult result
-        (λ _. Runs D.Disk R.Draws peers (by_line (devices D.Disk G.Signer V.Verifier verifier.now) (lines.Again member.now)) group.old group.new
-        (K.shows out.old) (K.shows out.new))
-        (λ stop. StopsIn (devices D.Disk G.Signer V.Verifier verifier.now) R.Draws peers (lines.Again member.now) stop group.old group.new
-        (K.shows out.old) (K.shows out.new)) }
+    ensures runs { (peers : Drawing) → RunsLine (devices D.Disk G.Signer V.Verifier verifier.now) R.Draws peers (lines.Again member.now) result
+        group.old group.new (K.shows out.old) (K.shows out.new) }
     ensures stays { OnOk result (RulesStay group.old group.new) }
     ensures rest { OnOk result (group.new.members.mail ≡ []) }
 {
@@ -188,7 +174,7 @@ fn run_again<D: Disk, G: Signer, V: Verifier, R: Draws, K: Sink>(
     read_mail(alloc, group, verifier, out)
 }
 
-/// Closes the batch, and its fourth messages come to those who come in with it.
+/// Closes the batch, and its fourth messages come to the members who come in with it.
 fn run_batch<D: Disk, G: Signer, V: Verifier, R: Draws, K: Sink>(
     alloc: Global,
     group: &mut GroupRun<D, G, R>,
@@ -196,11 +182,8 @@ fn run_batch<D: Disk, G: Signer, V: Verifier, R: Draws, K: Sink>(
     out: &mut K,
 ) -> Result<(), Stop>
     requires { group.old.members.mail ≡ [] }
-    ensures runs { (peers : Drawing) → MatchResult result
-        (λ _. Runs D.Disk R.Draws peers (by_line (devices D.Disk G.Signer V.Verifier verifier.now) lines.Batch) group.old group.new
-        (K.shows out.old) (K.shows out.new))
-        (λ stop. StopsIn (devices D.Disk G.Signer V.Verifier verifier.now) R.Draws peers lines.Batch stop group.old group.new
-        (K.shows out.old) (K.shows out.new)) }
+    ensures runs { (peers : Drawing) → RunsLine (devices D.Disk G.Signer V.Verifier verifier.now) R.Draws peers lines.Batch result
+        group.old group.new (K.shows out.old) (K.shows out.new) }
     ensures stays { OnOk result (RulesStay group.old group.new) }
     ensures rest { OnOk result (group.new.members.mail ≡ []) }
 {
@@ -238,11 +221,8 @@ fn deliver_all<D: Disk, G: Signer, V: Verifier, R: Draws, K: Sink>(
     out: &mut K,
 ) -> Result<(), Stop>
     requires { group.old.members.mail ≡ [] }
-    ensures runs { (peers : Drawing) → MatchResult result
-        (λ _. Runs D.Disk R.Draws peers (by_line (devices D.Disk G.Signer V.Verifier verifier.now) lines.DeliverAll) group.old group.new
-        (K.shows out.old) (K.shows out.new))
-        (λ stop. StopsIn (devices D.Disk G.Signer V.Verifier verifier.now) R.Draws peers lines.DeliverAll stop group.old group.new
-        (K.shows out.old) (K.shows out.new)) }
+    ensures runs { (peers : Drawing) → RunsLine (devices D.Disk G.Signer V.Verifier verifier.now) R.Draws peers lines.DeliverAll result
+        group.old group.new (K.shows out.old) (K.shows out.new) }
     ensures stays { OnOk result (RulesStay group.old group.new) }
     ensures rest { OnOk result (group.new.members.mail ≡ []) }
 {

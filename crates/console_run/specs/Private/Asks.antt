@@ -1,5 +1,5 @@
 -- How one line of a script is run, request by request.
-use Rattle.std.specs.Prelude.{◌≡◌, ◌∷◌, [], ◌++◌}
+use Rattle.std.specs.Prelude.{◌≡◌, ◌∷◌, [], ◌++◌, MatchResult, Result}
 use Rattle.gd_edges.specs.Shown.{Shown}
 use Rattle.gd_edges.specs.declared.draws.Draws.{Ghosts as DrawGhosts}
 use Rattle.group_model.specs.declared.entries.Asked.{Asked}
@@ -12,7 +12,7 @@ use Rattle.run_report.specs.declared.stops.Stop.TheVariants.{Line}
 use Rattle.group_steps.specs.Devices.{Devices, Keying}
 use Rattle.group_steps.specs.Steps.{IsAnsweredAfter}
 use Rattle.member_steps.specs.Members.{Members}
-use Rattle.console_run.specs.Private.Runs.{Drawing, Stands, Stops, begun_by_line}
+use Rattle.console_run.specs.Private.Runs.{Drawing, Runs, Stands, Stops, begun_by_line, by_line}
 
 module _ {D G V R : Type 0} (on : Devices D G V) (draws : DrawGhosts R) (peers : Drawing) where
   -- One entry was added, which answers a request once the members are these. Whatever run it was before, that is an answer of it, and it is the run after that.
@@ -27,3 +27,8 @@ module _ {D G V R : Type 0} (on : Devices D G V) (draws : DrawGhosts R) (peers :
   pub record StopsIn (line : ScriptLine) (stop : Stop) (old new : View D G R) (was now : Shown) : Type 0 where
     pub stops : Stops on.disks draws peers (begun_by_line on line) stop old new was now
     pub known : stop ≡ Line → ⊥
+
+  -- a line of the grammar was run, or the run stopped in it
+  abbrev pub RunsLine : ScriptLine → Result (Unit {0}) Stop → View D G R → View D G R → Shown → Shown → Type 0
+  RunsLine line result old new was now =
+      MatchResult result (λ done. Runs on.disks draws peers (by_line on line) old new was now) (λ stop. StopsIn line stop old new was now)

@@ -17,7 +17,7 @@ use Rattle.console_run.specs.Lines.{Opens}
 use Rattle.console_run.specs.Promises.{IsEnded, IsBroken, streams_of}
 use Rattle.console_run.specs.Private.Runs.{Drawing, Moment, GoesOn, IsReported, IsStoppedAt, SourceFails, Stands, Start, StopsWithin}
 
--- a group and its sink at a moment, with what has come of the present line, after so many lines
+-- a group and its sink at a moment, with what has come of the present line, and the count of lines before it
 abbrev pub moment : {D G R : Type 0} → View D G R → List ℕ → ℕ → Shown → Drawing → Moment D G R
 moment held line count out peers = record { held = held; peers = peers; line = line; count = count; out = out }
 

@@ -34,7 +34,7 @@ pub record Drawing : Type 0 where
 abbrev pub drawing : ℕ → (ℕ → List ℕ) → Drawing
 drawing place block = record { place = place; block = block }
 
--- those of who draws
+-- the draws of a drawer
 abbrev pub drawn_by : {P : Type 0} → DrawGhosts P → P → Drawing
 drawn_by draws drawer = drawing (draws.place_of drawer) (draws.block_at drawer)
 
@@ -47,7 +47,7 @@ pub record Stands {D G R : Type 0} (d : DiskGhosts D) (draws : DrawGhosts R) (pe
   pub members_blocks : (k : ℕ) → peers.block k ≡ by.members_block k
   pub group : by.group ≡ console_name
 
--- entries that are given by a server, after those before them, which have made this run, and the run after them
+-- entries that are given by a server, after earlier entries, which have made this run, and the run after them
 abbrev pub Giving : Type 0 → Type 0 → Type 1
 Giving D G = Keying G → List Entry → Run D → List Entry → Run D → Type 0
 
@@ -177,12 +177,12 @@ module _ {D G V R : Type 0} (on : Devices D G V) (draws : DrawGhosts R) where
   IsStoppedAt MemoryStop given start at = IsReported Memory given start at
   IsStoppedAt Unreported given start at = IsBrokenOff Memory given start at
 
-  -- the run stopped at some of these octets, after those so far
+  -- the run stopped at some of these octets, after the octets so far
   abbrev pub StopsWithin : List ℕ → Stop → Moment D G R → Moment D G R → Type 0
   StopsWithin octets stop old new =
       (start : Start D G) (before : List ℕ) → IsSoFar start before old → IsStoppedAt stop (given_of (before ++ octets) false) start new
 
-  -- the run stopped at this octet, the next after those so far, whatever came with it
+  -- the run stopped at this octet, the next after the octets so far, whatever came with it
   abbrev pub StopsAt : ℕ → Stop → Moment D G R → Moment D G R → Type 0
   StopsAt octet stop old new = (later : List ℕ) → length later < longest_piece → are_octets later ≡ true → StopsWithin (octet ∷ later) stop old new
 
@@ -190,6 +190,6 @@ module _ {D G V R : Type 0} (on : Devices D G V) (draws : DrawGhosts R) where
   abbrev pub Ends : Moment D G R → Moment D G R → Type 0
   Ends old new = (start : Start D G) (before : List ℕ) → IsSoFar start before old → IsReported Whole (given_of before true) start new
 
-  -- or the run stopped in what stands after its last line end
+  -- or the run stopped in what comes after its last line end
   abbrev pub StopsAtEnd : Stop → Moment D G R → Moment D G R → Type 0
   StopsAtEnd stop old new = (start : Start D G) (before : List ℕ) → IsSoFar start before old → IsStoppedAt stop (given_of before true) start new

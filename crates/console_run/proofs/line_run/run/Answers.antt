@@ -14,8 +14,9 @@ use Rattle.group_steps.specs.Devices.{devices}
 use Rattle.console_run.specs.Private.Runs.{Runs, by_line, drawn_by}
 use Rattle.console_run.proofs.AskLemmas.{AsksOnce, Ends-once, MovesBy, Runs-nothing, Stops-unbegun, asked_once}
 use Rattle.run_report.proofs.ErrorLemmas.{match_error}
+use Rattle.console_run.proofs.line_run.run.Given.{Over}
 use Rattle.console_run.proofs.line_run.run.Goals as goal
-use Rattle.console_run.proofs.line_run.run.Goals.{in-Allow, in-Deny, in-Lose, in-Leave, in-Deliver, in-Key, in-Derive, in-Halt, in-Reopen, in-Show}
+use Rattle.console_run.proofs.line_run.run.Goals.{After-report_last, in-Allow, in-Deny, in-Lose, in-Leave, in-Deliver, in-Key, in-Derive, in-Halt, in-Reopen, in-Show}
 
 pub returns-in-Nothing-clause-runs : goal.returns-in-Nothing-clause-runs
 returns-in-Nothing-clause-runs g c =
@@ -93,74 +94,39 @@ module _ {D G R : Type 0} (old new held : View D G R) (same : new ≡ held) (cal
         rest = λ none. ap (λ members. members.mail) h ∙ none;
       })
 
+-- a line that asks once leaves at most one rule more, the place of the draws, and nothing on its way
+kept_once : (g : Over) (c : After-report_last g) → IsKeptOn c.args.group.now c.match-line.group
+kept_once g c =
+    let old = c.args.group.now in
+    let new = c.match-line.group in
+    let u = c.in_ok-asked.field-0 in
+    let ok = c.in_ok-asked.was in
+    elim c.match-line.branch [
+      | in-Allow w ↦ by_rule old new w.add_rule-asked.new.self w.group-is w.add_rule-asked.result u (sym w.asked-is ∙ ok) _ w.add_rule-asked.ensures.rules
+          w.add_rule-asked.ensures.members
+      | in-Deny w ↦ by_rule old new w.add_rule-asked-in-Deny.new.self w.group-is w.add_rule-asked-in-Deny.result u (sym w.asked-is ∙ ok) _
+          w.add_rule-asked-in-Deny.ensures.rules w.add_rule-asked-in-Deny.ensures.members
+      | in-Lose w ↦ by_mail old new w.lose-asked.new.self w.group-is w.lose-asked.result u (sym w.asked-is ∙ ok) w.lose-asked.ensures.stays
+      | in-Leave w ↦ by_mail old new w.leave-asked.new.self w.group-is w.leave-asked.result u (sym w.asked-is ∙ ok) w.leave-asked.ensures.stays
+      | in-Deliver w ↦ by_mail old new w.deliver-asked.new.self w.group-is w.deliver-asked.result u (sym w.asked-is ∙ ok) w.deliver-asked.ensures.stays
+      | in-Key w ↦ by_mail old new w.key-asked.new.self w.group-is w.key-asked.result u (sym w.asked-is ∙ ok) w.key-asked.ensures.stays
+      | in-Derive w ↦ by_mail old new w.derive-asked.new.self w.group-is w.derive-asked.result u (sym w.asked-is ∙ ok) w.derive-asked.ensures.stays
+      | in-Halt w ↦ by_mail old new w.halt-asked.new.self w.group-is w.halt-asked.result u (sym w.asked-is ∙ ok) w.halt-asked.ensures.stays
+      | in-Reopen w ↦ by_opening old new w.reopen-asked.new.self w.group-is w.reopen-asked.result u (sym w.asked-is ∙ ok) w.reopen-asked.ensures.stays
+          w.reopen-asked.ensures.rest
+      | in-Show w ↦ by_mail old new w.show-asked.new.self w.group-is w.show-asked.result u (sym w.asked-is ∙ ok) w.show-asked.ensures.stays
+    ]
+
 pub returns-clause-place : goal.returns-clause-place
 returns-clause-place g c =
-    let old = c.args.group.now in
-    let new = c.match-line.group in
-    let u = c.in_ok-asked.field-0 in
-    let ok = c.in_ok-asked.was in
-    let kept : IsKeptOn old new = elim c.match-line.branch [
-      | in-Allow w ↦ by_rule old new w.add_rule-asked.new.self w.group-is w.add_rule-asked.result u (sym w.asked-is ∙ ok) _ w.add_rule-asked.ensures.rules
-          w.add_rule-asked.ensures.members
-      | in-Deny w ↦ by_rule old new w.add_rule-asked-in-Deny.new.self w.group-is w.add_rule-asked-in-Deny.result u (sym w.asked-is ∙ ok) _
-          w.add_rule-asked-in-Deny.ensures.rules w.add_rule-asked-in-Deny.ensures.members
-      | in-Lose w ↦ by_mail old new w.lose-asked.new.self w.group-is w.lose-asked.result u (sym w.asked-is ∙ ok) w.lose-asked.ensures.stays
-      | in-Leave w ↦ by_mail old new w.leave-asked.new.self w.group-is w.leave-asked.result u (sym w.asked-is ∙ ok) w.leave-asked.ensures.stays
-      | in-Deliver w ↦ by_mail old new w.deliver-asked.new.self w.group-is w.deliver-asked.result u (sym w.asked-is ∙ ok) w.deliver-asked.ensures.stays
-      | in-Key w ↦ by_mail old new w.key-asked.new.self w.group-is w.key-asked.result u (sym w.asked-is ∙ ok) w.key-asked.ensures.stays
-      | in-Derive w ↦ by_mail old new w.derive-asked.new.self w.group-is w.derive-asked.result u (sym w.asked-is ∙ ok) w.derive-asked.ensures.stays
-      | in-Halt w ↦ by_mail old new w.halt-asked.new.self w.group-is w.halt-asked.result u (sym w.asked-is ∙ ok) w.halt-asked.ensures.stays
-      | in-Reopen w ↦ by_opening old new w.reopen-asked.new.self w.group-is w.reopen-asked.result u (sym w.asked-is ∙ ok) w.reopen-asked.ensures.stays
-          w.reopen-asked.ensures.rest
-      | in-Show w ↦ by_mail old new w.show-asked.new.self w.group-is w.show-asked.result u (sym w.asked-is ∙ ok) w.show-asked.ensures.stays
-    ] in
-    OnOk-holds c.report_last.result (c.requires.place ∙ sym kept.place)
+    let kept = kept_once g (goal.at.returns-clause-place g c).After-report_last in OnOk-holds c.report_last.result (c.requires.place ∙ sym kept.place)
 
 pub returns-clause-rules : goal.returns-clause-rules
-returns-clause-rules g c =
-    let old = c.args.group.now in
-    let new = c.match-line.group in
-    let u = c.in_ok-asked.field-0 in
-    let ok = c.in_ok-asked.was in
-    let kept : IsKeptOn old new = elim c.match-line.branch [
-      | in-Allow w ↦ by_rule old new w.add_rule-asked.new.self w.group-is w.add_rule-asked.result u (sym w.asked-is ∙ ok) _ w.add_rule-asked.ensures.rules
-          w.add_rule-asked.ensures.members
-      | in-Deny w ↦ by_rule old new w.add_rule-asked-in-Deny.new.self w.group-is w.add_rule-asked-in-Deny.result u (sym w.asked-is ∙ ok) _
-          w.add_rule-asked-in-Deny.ensures.rules w.add_rule-asked-in-Deny.ensures.members
-      | in-Lose w ↦ by_mail old new w.lose-asked.new.self w.group-is w.lose-asked.result u (sym w.asked-is ∙ ok) w.lose-asked.ensures.stays
-      | in-Leave w ↦ by_mail old new w.leave-asked.new.self w.group-is w.leave-asked.result u (sym w.asked-is ∙ ok) w.leave-asked.ensures.stays
-      | in-Deliver w ↦ by_mail old new w.deliver-asked.new.self w.group-is w.deliver-asked.result u (sym w.asked-is ∙ ok) w.deliver-asked.ensures.stays
-      | in-Key w ↦ by_mail old new w.key-asked.new.self w.group-is w.key-asked.result u (sym w.asked-is ∙ ok) w.key-asked.ensures.stays
-      | in-Derive w ↦ by_mail old new w.derive-asked.new.self w.group-is w.derive-asked.result u (sym w.asked-is ∙ ok) w.derive-asked.ensures.stays
-      | in-Halt w ↦ by_mail old new w.halt-asked.new.self w.group-is w.halt-asked.result u (sym w.asked-is ∙ ok) w.halt-asked.ensures.stays
-      | in-Reopen w ↦ by_opening old new w.reopen-asked.new.self w.group-is w.reopen-asked.result u (sym w.asked-is ∙ ok) w.reopen-asked.ensures.stays
-          w.reopen-asked.ensures.rest
-      | in-Show w ↦ by_mail old new w.show-asked.new.self w.group-is w.show-asked.result u (sym w.asked-is ∙ ok) w.show-asked.ensures.stays
-    ] in
-    OnOk-holds c.report_last.result (kept.rules)
+returns-clause-rules g c = OnOk-holds c.report_last.result (kept_once g (goal.at.returns-clause-rules g c).After-report_last).rules
 
 pub returns-clause-rest : goal.returns-clause-rest
 returns-clause-rest g c =
-    let old = c.args.group.now in
-    let new = c.match-line.group in
-    let u = c.in_ok-asked.field-0 in
-    let ok = c.in_ok-asked.was in
-    let kept : IsKeptOn old new = elim c.match-line.branch [
-      | in-Allow w ↦ by_rule old new w.add_rule-asked.new.self w.group-is w.add_rule-asked.result u (sym w.asked-is ∙ ok) _ w.add_rule-asked.ensures.rules
-          w.add_rule-asked.ensures.members
-      | in-Deny w ↦ by_rule old new w.add_rule-asked-in-Deny.new.self w.group-is w.add_rule-asked-in-Deny.result u (sym w.asked-is ∙ ok) _
-          w.add_rule-asked-in-Deny.ensures.rules w.add_rule-asked-in-Deny.ensures.members
-      | in-Lose w ↦ by_mail old new w.lose-asked.new.self w.group-is w.lose-asked.result u (sym w.asked-is ∙ ok) w.lose-asked.ensures.stays
-      | in-Leave w ↦ by_mail old new w.leave-asked.new.self w.group-is w.leave-asked.result u (sym w.asked-is ∙ ok) w.leave-asked.ensures.stays
-      | in-Deliver w ↦ by_mail old new w.deliver-asked.new.self w.group-is w.deliver-asked.result u (sym w.asked-is ∙ ok) w.deliver-asked.ensures.stays
-      | in-Key w ↦ by_mail old new w.key-asked.new.self w.group-is w.key-asked.result u (sym w.asked-is ∙ ok) w.key-asked.ensures.stays
-      | in-Derive w ↦ by_mail old new w.derive-asked.new.self w.group-is w.derive-asked.result u (sym w.asked-is ∙ ok) w.derive-asked.ensures.stays
-      | in-Halt w ↦ by_mail old new w.halt-asked.new.self w.group-is w.halt-asked.result u (sym w.asked-is ∙ ok) w.halt-asked.ensures.stays
-      | in-Reopen w ↦ by_opening old new w.reopen-asked.new.self w.group-is w.reopen-asked.result u (sym w.asked-is ∙ ok) w.reopen-asked.ensures.stays
-          w.reopen-asked.ensures.rest
-      | in-Show w ↦ by_mail old new w.show-asked.new.self w.group-is w.show-asked.result u (sym w.asked-is ∙ ok) w.show-asked.ensures.stays
-    ] in
-    OnOk-holds c.report_last.result (kept.rest c.requires.rest)
+    let kept = kept_once g (goal.at.returns-clause-rest g c).After-report_last in OnOk-holds c.report_last.result (kept.rest c.requires.rest)
 
 pub returns-clause-runs : goal.returns-clause-runs
 returns-clause-runs g c =
