@@ -10,6 +10,7 @@ pub trait Gate {
 }
 
 /// A gate that is always open.
+#[derive(Drop)]
 pub struct OpenGate;
 
 impl Gate for OpenGate {
@@ -17,6 +18,7 @@ impl Gate for OpenGate {
 }
 
 /// A gate at which the first call waits for the second one, but not for ever. By it a test sees that two calls are under way at once.
+#[derive(Drop)]
 pub struct MeetGate {
     looks: u64,
     /// Whether the second call was reached.
