@@ -1,0 +1,7 @@
+mod BlockLemmas
+mod GiveLemmas
+mod LineLemmas
+mod RunLemmas
+mod SeatLemmas
+mod SeatingLemmas
+mod TurnLemmas

@@ -1,0 +1,6 @@
+pub mod Blocks
+pub mod Lines
+pub mod Private
+pub mod Shows
+pub mod Views
+pub mod Workers

@@ -1,0 +1,79 @@
+//! What a turn asks of the key server.
+ghost use Rattle.std.specs.Prelude.{◌≡◌};
+ghost use Rattle.group_server.specs.Answers.{answer_served};
+ghost use Rattle.server_steps.specs.Serves.{Serves, answer_batch};
+ghost use Rattle.register_workers.specs.Private.Requests.{asked_of};
+
+use gd_disk::Disk;
+use gd_edges::{Draws, Signer};
+use group_model::{Answer, Asked, MemberName, Octets, Output, Refusal};
+use group_server::{GroupServer, Reply};
+use server_steps::answer_done;
+use std::alloc::Global;
+
+/// What is asked.
+#[derive(Drop)]
+pub(crate) enum Request {
+    /// To answer a datagram of this member.
+    Serve {
+        member: MemberName,
+        datagram: Octets,
+    },
+    /// To take a member out with the next batch.
+    Leave {
+        member: MemberName,
+    },
+    /// To close the batch.
+    Batch,
+}
+
+impl Request {
+    /// The request as the history has it. It takes no memory.
+    pub(crate) fn into_asked(self) -> Asked
+        ensures { result ≡ asked_of self }
+    {
+        match self {
+            Request::Serve { member, datagram } => Asked::Serve { member, datagram },
+            Request::Leave { member } => Asked::Leave { member },
+            Request::Batch => Asked::Batch,
+        }
+    }
+}
+
+/// Has the server serve a request.
+pub(crate) fn served<D: Disk, G: Signer, R: Draws>(
+    alloc: Global,
+    server: &mut GroupServer<D, G, R>,
+    request: &Request,
+) -> Answer
+    ensures { Serves D.Disk G.Signer R.Draws (asked_of request.now) result server.old server.new }
+{
+    match request {
+        Request::Serve { datagram, .. } => {
+            answer_served(server.serve(alloc, datagram.as_slice()))
+        }
+        Request::Leave { member } => answer_done(server.leave(member)),
+        Request::Batch => answer_batch(server.batch(alloc)),
+    }
+}
+
+/// What is answered to a datagram.
+fn answer_served(reply: Result<Reply, Refusal>) -> Answer
+    ensures { result ≡ answer_served reply }
+{
+    match reply {
+        Ok(Reply::Datagram { octets, names }) => Answer::Datagram { octets, names },
+        Ok(Reply::Queued) => Answer::Queued,
+        Err(why) => Answer::Refused { why },
+    }
+}
+
+/// What is answered to a request for a batch.
+fn answer_batch(output: Result<Output, Refusal>) -> Answer
+    ensures { result ≡ answer_batch output }
+{
+    match output {
+        Ok(output) => Answer::Batched { output },
+        Err(why) => Answer::Refused { why },
+    }
+}
