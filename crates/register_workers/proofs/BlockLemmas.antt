@@ -1,5 +1,5 @@
 -- A block, from what was done at its desk.
-use Rattle.std.proofs.Common.{◌≡◌, ◌∙◌, ℕ, Bool, List, ◌++◌, length, Option, None, Some, sym, ap, subst}
+use Rattle.std.proofs.Common.{◌≡◌, ◌∙◌, ℕ, Bool, List, ◌++◌, Option, None, Some, sym, ap, subst}
 use Rattle.std.proofs.lemmas.List.{append_cancel_left}
 use Rattle.desk.specs.Calls.{AreCallsOf}
 use Rattle.desk.specs.declared.calls.Call.{Call}

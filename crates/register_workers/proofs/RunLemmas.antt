@@ -1,5 +1,5 @@
 -- Lines that a worker ran, one after the other.
-use Rattle.std.proofs.Common.{◌≡◌, ◌∙◌, ◌⊎◌, ℕ, Bool, true, false, List, [], ◌∷◌, ◌++◌, append_assoc, inl, refl, sym, ap, subst}
+use Rattle.std.proofs.Common.{◌∙◌, ℕ, Bool, true, false, List, [], ◌∷◌, ◌++◌, append_assoc, inl, refl, sym, ap, subst}
 use Rattle.std.specs.Prelude.{◌||◌}
 use Rattle.std.proofs.lemmas.List.{append-nil}
 use Rattle.desk.specs.declared.calls.Call.{Call}
@@ -7,7 +7,7 @@ use Rattle.epoch_board.specs.Pairs.{StartsWith}
 use Rattle.epoch_board.specs.declared.pairs.Seen.{Seen}
 use Rattle.group_model.specs.declared.entries.Entry.{Entry}
 use Rattle.register_workers.specs.Lines.{Becomes}
-use Rattle.register_workers.specs.Workers.{IsKnownAt, LearnsBy, Looks, Ran, RanAll, RanBy, TakesTurns, turns_in}
+use Rattle.register_workers.specs.Workers.{LearnsBy, Looks, Ran, RanAll, RanBy, TakesTurns}
 use Rattle.register_workers.specs.declared.lines.BlockAsk.{BlockAsk}
 use Rattle.register_workers.specs.declared.lines.BlockAsk.TheVariants.{Join, Again, Leave, Batch, Now}
 use Rattle.register_workers.specs.declared.lines.BlockLine.{BlockLine}

@@ -102,7 +102,8 @@ module _ (desk : DeskTold Entry OnBoard) (lines : List BlockLine) (old new : Lis
         let due : reverse was.due ≡ share (length old) w lines
         = ap reverse (sym (get_or-map (λ (worker : Worker). worker.due) old w other [] below) ∙ dealt w below) ∙ reverse-reverse (share (length old) w lines) in
         let ranAll : List BlockLine → List Seen → Type 0
-        = λ these known. RanAll (length desk.terms.start) worker.pass.seen worker.reader.seen worker.memory these known worker.pass.mine worker.done worker.reader.seen in
+        = λ these known. RanAll (length desk.terms.start) worker.pass.seen worker.reader.seen worker.memory these known worker.pass.mine worker.done
+        worker.reader.seen in
         subst (λ n. ranAll (share n w lines) (pairs_shown desk.terms.start)) (sym many)
         (subst (λ (x : List BlockLine × List Seen). ranAll x.0 x.1) (λ i. (due i, knew w other below i)) run.ran);
   }

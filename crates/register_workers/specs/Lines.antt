@@ -1,5 +1,5 @@
 -- The lines of a block: what each asks of the server, and what becomes of it by the answers.
-use Rattle.std.specs.Prelude.{◌≡◌, ◌≢◌, ◌⊎◌, ℕ, Bool, true, false, MatchBool, List, [], ◌∷◌, All, Option, None, Some, IsSome, Ok, Err}
+use Rattle.std.specs.Prelude.{◌≡◌, ◌≢◌, ◌⊎◌, ℕ, Bool, false, MatchBool, List, [], ◌∷◌, All, Some, IsSome, Ok, Err}
 use Rattle.group_terms.specs.Names.{Name}
 use Rattle.group_model.specs.Answers.{ran_out}
 use Rattle.group_model.specs.declared.entries.Answer.{Answer}

@@ -35,13 +35,14 @@ pub struct Blocked<D: Disk, G: Signer, R: Draws> {
     pub calls: Option<Calls<Entry, OnBoard>>,
 }
 
-/// Has so many workers run the lines of a block, each in a thread of its own. Worker `w` of `n` runs the lines at the places `w`, `w + n` and so on, one after the
-/// other.
+/// Has so many workers run the lines of a block, each in a thread of its own. Worker `w` of `n` runs the lines at the places `w`, `w + n` and so on, one after
+/// the other.
 ///
-/// A line asks the server in turns: a join or a line that sends again has one or two, a leave and a batch one each, and a look none. What is lost, and what members
-/// do with datagrams, is outside the turns. Each worker tells the gate the number of a line, from 1, before its first turn.
+/// A line asks the server in turns: a join or a line that sends again has one or two, a leave and a batch one each, and a look none. What is lost, and what
+/// members do with datagrams, is outside the turns. Each worker tells the gate the number of a line, from 1, before its first turn.
 ///
-/// There are 1 to 512 lines and 1 to 16 workers, and each line whose member sends has a pull and a datagram. The pass of the board is shown all that was published.
+/// There are 1 to 512 lines and 1 to 16 workers, and each line whose member sends has a pull and a datagram. The pass of the board is shown all that was
+/// published.
 pub fn run_block<
     D: Disk + Send + Drop,
     G: Signer + Send + Drop,
@@ -101,7 +102,16 @@ fn run_from<
     nothing_was_served_yet::<D, G, R>();
     book.show(board, reader);
     let kept: DeskBook<'_, D, G, R, M> = DeskBook::of(alloc, book, board);
-    let mut blocked = at_desk(rt, alloc, kept, board, reader, lines, usize::from(workers), gate);
+    let mut blocked = at_desk(
+        rt,
+        alloc,
+        kept,
+        board,
+        reader,
+        lines,
+        usize::from(workers),
+        gate,
+    );
     blocked.book.show(board, reader);
     blocked
 }

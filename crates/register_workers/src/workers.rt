@@ -100,8 +100,7 @@ fn run_lines<
 }
 
 impl<'a, D: Disk, G: Signer, R: Draws, M: Began<D, G, R>, W: Gate> Bench
-    for Floor<'_, 'a, D, G, R, M, W>
-{
+    for Floor<'_, 'a, D, G, R, M, W> {
     type Job = Worker<'a, D, G, R, M>;
 
     ghost use Rattle.register_workers.specs.Private.Running.{HasRun, IsFresh};

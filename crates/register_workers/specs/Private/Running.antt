@@ -1,5 +1,5 @@
 -- How a worker runs its lines.
-use Rattle.std.specs.Prelude.{◌≡◌, ◌⊎◌, ℕ, ◌+◌, ◌≤◌, Bool, true, false, MatchBool, List, [], ◌∷◌, ◌++◌, length, reverse, All}
+use Rattle.std.specs.Prelude.{◌≡◌, ◌⊎◌, ℕ, ◌+◌, ◌≤◌, Bool, MatchBool, List, [], ◌∷◌, ◌++◌, length, reverse, All}
 use Rattle.desk.specs.Views.{Holder, Told as DeskTold}
 use Rattle.desk.specs.declared.calls.Call.{Call}
 use Rattle.epoch_board.specs.Pairs.{StartsWith}

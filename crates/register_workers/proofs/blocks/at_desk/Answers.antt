@@ -23,7 +23,7 @@ sit-requires-clause-passes g c =
     let made = c.in-Ok-new.made in
     let new : ℕ → Holder Entry OnBoard = λ number. record { desk = made.desk.id; number = number; seen = made.desk.terms.start; mine = [] } in
     let fact = All-same (IsNewPass made.desk.id) made.passes (map new (range_with_len 1 made.desk.terms.passes)) c.in-Ok-new.ensures.passes
-        (All-map (IsNewPass made.desk.id) new (range_with_len 1 made.desk.terms.passes) (λ k d less. record { own = refl; fresh = refl })) in
+    (All-map (IsNewPass made.desk.id) new (range_with_len 1 made.desk.terms.passes) (λ k d less. record { own = refl; fresh = refl })) in
     search (rules, fact)
 
 pub sit-requires-clause-many : goal.sit-requires-clause-many
@@ -38,7 +38,7 @@ sit-requires-clause-turns g c =
     let many = c.in-Ok-new.ensures.many in
     let fact : c.in-Ok-new.made.desk.terms.turns ≡ 2 * rounds (length c.in-Ok-new.made.passes) (length c.args.lines)
     = ap (λ terms. terms.turns) c.in-Ok-new.ensures.desk ∙ c.turns_each.ensures.two ∙ ap (λ count. 2 * rounds c.args.workers count) c.len-count.ensures
-        ∙ ap (λ n. 2 * rounds n (length c.args.lines)) (sym many) in
+    ∙ ap (λ n. 2 * rounds n (length c.args.lines)) (sym many) in
     search (rules, fact)
 
 pub sit-requires-clause-board : goal.sit-requires-clause-board
@@ -63,7 +63,7 @@ sit-requires-clause-due g c =
     let hands = c.in-Ok.rooms.due.items in
     let fact : AreHands hands items_of room_of (length c.in-Ok-new.made.passes) (length c.args.lines)
     = subst (λ n. AreHands hands items_of room_of n (length c.args.lines)) (sym many)
-        (subst (λ count. AreHands hands items_of room_of c.args.workers count) c.len-count.ensures c.in-Ok.ensures.due) in
+    (subst (λ count. AreHands hands items_of room_of c.args.workers count) c.len-count.ensures c.in-Ok.ensures.due) in
     search (rules, fact)
 
 pub sit-requires-clause-done : goal.sit-requires-clause-done
@@ -72,32 +72,37 @@ sit-requires-clause-done g c =
     let hands = c.in-Ok.rooms.done.items in
     let fact : AreHands hands items_of room_of (length c.in-Ok-new.made.passes) (length c.args.lines)
     = subst (λ n. AreHands hands items_of room_of n (length c.args.lines)) (sym many)
-        (subst (λ count. AreHands hands items_of room_of c.args.workers count) c.len-count.ensures c.in-Ok.ensures.done) in
+    (subst (λ count. AreHands hands items_of room_of c.args.workers count) c.len-count.ensures c.in-Ok.ensures.done) in
     search (rules, fact)
 
 pub sit-requires-clause-workers : goal.sit-requires-clause-workers
 sit-requires-clause-workers g c =
-    let fact = subst (λ n. IsRoomFor n c.in-Ok.rooms.workers.items (vec_capacity c.in-Ok.rooms.workers)) (sym c.in-Ok-new.ensures.many) c.in-Ok.ensures.workers in
+    let room = c.in-Ok.rooms.workers in
+    let fact = subst (λ n. IsRoomFor n room.items (vec_capacity room)) (sym c.in-Ok-new.ensures.many) c.in-Ok.ensures.workers in
     search (rules, fact)
 
 pub sit-requires-clause-left_passes : goal.sit-requires-clause-left_passes
 sit-requires-clause-left_passes g c =
-    let fact = subst (λ n. IsRoomFor n c.in-Ok.rooms.left.passes.items (vec_capacity c.in-Ok.rooms.left.passes)) (sym c.in-Ok-new.ensures.many) c.in-Ok.ensures.passes in
+    let room = c.in-Ok.rooms.left.passes in
+    let fact = subst (λ n. IsRoomFor n room.items (vec_capacity room)) (sym c.in-Ok-new.ensures.many) c.in-Ok.ensures.passes in
     search (rules, fact)
 
 pub sit-requires-clause-left_readers : goal.sit-requires-clause-left_readers
 sit-requires-clause-left_readers g c =
-    let fact = subst (λ n. IsRoomFor n c.in-Ok.rooms.left.readers.items (vec_capacity c.in-Ok.rooms.left.readers)) (sym c.in-Ok-new.ensures.many) c.in-Ok.ensures.readers in
+    let room = c.in-Ok.rooms.left.readers in
+    let fact = subst (λ n. IsRoomFor n room.items (vec_capacity room)) (sym c.in-Ok-new.ensures.many) c.in-Ok.ensures.readers in
     search (rules, fact)
 
 pub sit-requires-clause-left_ran : goal.sit-requires-clause-left_ran
 sit-requires-clause-left_ran g c =
-    let fact = subst (λ n. IsRoomFor n c.in-Ok.rooms.left.ran.items (vec_capacity c.in-Ok.rooms.left.ran)) (sym c.in-Ok-new.ensures.many) c.in-Ok.ensures.ran in
+    let room = c.in-Ok.rooms.left.ran in
+    let fact = subst (λ n. IsRoomFor n room.items (vec_capacity room)) (sym c.in-Ok-new.ensures.many) c.in-Ok.ensures.ran in
     search (rules, fact)
 
 pub sit-requires-clause-lines : goal.sit-requires-clause-lines
 sit-requires-clause-lines g c =
-    let fact = subst (λ n. IsRoomFor n c.in-Ok.rooms.lines.items (vec_capacity c.in-Ok.rooms.lines)) c.len-count.ensures c.in-Ok.ensures.lines in
+    let room = c.in-Ok.rooms.lines in
+    let fact = subst (λ n. IsRoomFor n room.items (vec_capacity room)) c.len-count.ensures c.in-Ok.ensures.lines in
     search (rules, fact)
 
 pub returns-in-Ok-new-clause-ended : goal.returns-in-Ok-new-clause-ended

@@ -47,7 +47,7 @@ pub at_desk-blocked-requires-clause-shown : goal.at_desk-blocked-requires-clause
 at_desk-blocked-requires-clause-shown g c =
     let show = c.show.ensures in
     let fact = show.seen ∙ show.shown
-        ∙ ap pairs_shown (sym (c.of-kept.ensures.entries ∙ ap (λ (b : View g.row.D.Denot g.row.G.Denot g.row.R.Denot). b.entries) show.same)) in
+    ∙ ap pairs_shown (sym (c.of-kept.ensures.entries ∙ ap (λ (b : View g.row.D.Denot g.row.G.Denot g.row.R.Denot). b.entries) show.same)) in
     search (rules, fact)
 
 pub show-requires-2 : goal.show-requires-2

@@ -1,4 +1,4 @@
-use Rattle.std.proofs.Common.{Err, refl, subst}
+use Rattle.std.proofs.Common.{refl, subst}
 use Rattle.member_pull.specs.Pulls.{IsSecond}
 use Rattle.register_workers.proofs.GiveLemmas.{left_alone, passed_over}
 use Rattle.register_workers.proofs.running.give.Goals as goal

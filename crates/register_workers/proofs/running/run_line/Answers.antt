@@ -1,4 +1,4 @@
-use Rattle.std.proofs.Common.{◌⊎◌, None, length, rules, sym, subst}
+use Rattle.std.proofs.Common.{◌⊎◌, None, length, rules, subst}
 use Rattle.group_model.specs.declared.entries.Asked.TheVariants as requests
 use Rattle.register_workers.specs.Lines.{CanSend, Ends, HasPull}
 use Rattle.register_workers.specs.declared.lines.BlockAsk.TheVariants as asks

@@ -1,4 +1,4 @@
-use Rattle.std.proofs.Common.{◌≡◌, ◌∙◌, ◌+◌, ◌≤◌, Bool, true, false, List, [], ◌∷◌, ◌++◌, length, map, reverse, Global, Vec, append-nil, arith, refl, sym, ap}
+use Rattle.std.proofs.Common.{◌≡◌, ◌∙◌, Bool, true, false, List, [], ◌∷◌, ◌++◌, length, map, reverse, Global, Vec, append-nil, arith, refl, sym, ap}
 use Rattle.std.proofs.lemmas.List.{length-append, length-reverse, map_push, nil_from_length, reverse-append, reverse-reverse}
 use Rattle.std.specs.List.{list_any}
 use Rattle.std.specs.Prelude.{◌||◌}
@@ -57,18 +57,33 @@ loop-worker-smaller g c = omega (arith, ap length c.in-Some.ensures.items, lengt
 
 pub push_reserved-requires : goal.push_reserved-requires
 push_reserved-requires g c =
-    omega (arith, c.loop-worker.invariant.room_passes, ap length c.in-Some.ensures.items, length-append c.pop.new.self.items (c.in-Some.worker ∷ []),
-    c.loop-worker.left.passes.ok.0)
+    omega (
+      arith,
+      c.loop-worker.invariant.room_passes,
+      ap length c.in-Some.ensures.items,
+      length-append c.pop.new.self.items (c.in-Some.worker ∷ []),
+      c.loop-worker.left.passes.ok.0,
+    )
 
 pub push_reserved-requires-in-Some : goal.push_reserved-requires-in-Some
 push_reserved-requires-in-Some g c =
-    omega (arith, c.loop-worker.invariant.room_readers, ap length c.in-Some.ensures.items, length-append c.pop.new.self.items (c.in-Some.worker ∷ []),
-    c.loop-worker.left.readers.ok.0)
+    omega (
+      arith,
+      c.loop-worker.invariant.room_readers,
+      ap length c.in-Some.ensures.items,
+      length-append c.pop.new.self.items (c.in-Some.worker ∷ []),
+      c.loop-worker.left.readers.ok.0,
+    )
 
 pub push_reserved-requires-in-Some-2 : goal.push_reserved-requires-in-Some-2
 push_reserved-requires-in-Some-2 g c =
-    omega (arith, c.loop-worker.invariant.room_ran, ap length c.in-Some.ensures.items, length-append c.pop.new.self.items (c.in-Some.worker ∷ []),
-    c.loop-worker.left.ran.ok.0)
+    omega (
+      arith,
+      c.loop-worker.invariant.room_ran,
+      ap length c.in-Some.ensures.items,
+      length-append c.pop.new.self.items (c.in-Some.worker ∷ []),
+      c.loop-worker.left.ran.ok.0,
+    )
 
 pub loop-worker-preserved : goal.loop-worker-preserved
 loop-worker-preserved g c =
@@ -96,37 +111,62 @@ loop-worker-preserved g c =
           ∙ ap (λ (list : List Worker). c.loop-worker.short || list_any short_of list) (reverse-append front (worker ∷ []))
           ∙ or_assoc c.loop-worker.short worker.memory rest
           ∙ ap (λ (worker : Worker). (c.loop-worker.short || worker.memory) || rest) (sym c.worker.view_is);
-      room_passes = omega (arith, inv.room_passes, ap length last, fewer, ap length c.push_reserved.ensures.items,
-          length-append left.passes.items (inside.pass ∷ []), c.push_reserved.ensures.capacity);
-      room_readers = omega (arith, inv.room_readers, ap length last, fewer, ap length c.push_reserved-in-Some.ensures.items,
-          length-append left.readers.items (inside.reader ∷ []), c.push_reserved-in-Some.ensures.capacity);
-      room_ran = omega (arith, inv.room_ran, ap length last, fewer, ap length c.push_reserved-in-Some-2.ensures.items,
-          length-append left.ran.items (inside.done ∷ []), c.push_reserved-in-Some-2.ensures.capacity);
+      room_passes = omega (
+        arith,
+        inv.room_passes,
+        ap length last,
+        fewer,
+        ap length c.push_reserved.ensures.items,
+        length-append left.passes.items (inside.pass ∷ []),
+        c.push_reserved.ensures.capacity,
+      );
+      room_readers = omega (
+        arith,
+        inv.room_readers,
+        ap length last,
+        fewer,
+        ap length c.push_reserved-in-Some.ensures.items,
+        length-append left.readers.items (inside.reader ∷ []),
+        c.push_reserved-in-Some.ensures.capacity,
+      );
+      room_ran = omega (
+        arith,
+        inv.room_ran,
+        ap length last,
+        fewer,
+        ap length c.push_reserved-in-Some-2.ensures.items,
+        length-append left.ran.items (inside.done ∷ []),
+        c.push_reserved-in-Some-2.ensures.capacity,
+      );
     }
 
 pub returns-clause-passes : goal.returns-clause-passes
 returns-clause-passes g c =
     let inv = c.loop-worker.invariant in
     let left = c.loop-worker.left.passes.items in
-    let none : c.loop-worker.workers.items ≡ [] = nil_from_length c.loop-worker.workers.items (omega (arith, c.in_default.ensures.cases.0, c.loop-worker.workers.ok.0)) in
+    let none : c.loop-worker.workers.items ≡ []
+    = nil_from_length c.loop-worker.workers.items (omega (arith, c.in_default.ensures.cases.0, c.loop-worker.workers.ok.0)) in
     sym (inv.passes ∙ ap (λ (list : List Worker). left ++ map pass_of (reverse list)) none ∙ append-nil left)
 
 pub returns-clause-readers : goal.returns-clause-readers
 returns-clause-readers g c =
     let inv = c.loop-worker.invariant in
     let left = c.loop-worker.left.readers.items in
-    let none : c.loop-worker.workers.items ≡ [] = nil_from_length c.loop-worker.workers.items (omega (arith, c.in_default.ensures.cases.0, c.loop-worker.workers.ok.0)) in
+    let none : c.loop-worker.workers.items ≡ []
+    = nil_from_length c.loop-worker.workers.items (omega (arith, c.in_default.ensures.cases.0, c.loop-worker.workers.ok.0)) in
     sym (inv.readers ∙ ap (λ (list : List Worker). left ++ map reader_of (reverse list)) none ∙ append-nil left)
 
 pub returns-clause-ran : goal.returns-clause-ran
 returns-clause-ran g c =
     let inv = c.loop-worker.invariant in
     let left = map items_of c.loop-worker.left.ran.items in
-    let none : c.loop-worker.workers.items ≡ [] = nil_from_length c.loop-worker.workers.items (omega (arith, c.in_default.ensures.cases.0, c.loop-worker.workers.ok.0)) in
+    let none : c.loop-worker.workers.items ≡ []
+    = nil_from_length c.loop-worker.workers.items (omega (arith, c.in_default.ensures.cases.0, c.loop-worker.workers.ok.0)) in
     sym (inv.ran ∙ ap (λ (list : List Worker). left ++ map done_of (reverse list)) none ∙ append-nil left)
 
 pub returns-clause-memory : goal.returns-clause-memory
 returns-clause-memory g c =
     let inv = c.loop-worker.invariant in
-    let none : c.loop-worker.workers.items ≡ [] = nil_from_length c.loop-worker.workers.items (omega (arith, c.in_default.ensures.cases.0, c.loop-worker.workers.ok.0)) in
+    let none : c.loop-worker.workers.items ≡ []
+    = nil_from_length c.loop-worker.workers.items (omega (arith, c.in_default.ensures.cases.0, c.loop-worker.workers.ok.0)) in
     sym (inv.memory ∙ ap (λ (list : List Worker). c.loop-worker.short || list_any short_of (reverse list)) none ∙ or_none c.loop-worker.short)

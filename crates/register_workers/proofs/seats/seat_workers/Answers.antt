@@ -1,4 +1,4 @@
-use Rattle.std.proofs.Common.{◌≡◌, ◌∙◌, ◌+◌, ◌≤◌, List, [], ◌∷◌, ◌++◌, length, map, reverse, vec_capacity, false, All, Some, Global, Vec, append-nil, arith, refl, sym, ap}
+use Rattle.std.proofs.Common.{◌≡◌, ◌∙◌, ◌+◌, ◌≤◌, List, [], ◌∷◌, ◌++◌, length, map, reverse, vec_capacity, false, Some, Global, Vec, append-nil, arith, refl, sym, ap}
 use Rattle.std.proofs.lemmas.List.{length-append, nil_from_length}
 use Rattle.std.proofs.lemmas.List.Elements.{All-nil, All-pop, All-push, All-same}
 use Rattle.register_workers.specs.Private.Running.{IsFresh, Worker}
@@ -84,8 +84,14 @@ loop-pass-preserved g c =
     record {
       many = (
         omega (arith, inv.many.0, ap length last, fewer, ap length c.last_hand-lines.ensures, length-append c.last_hand-lines.new.hands.items (lines ∷ [])),
-        omega (arith, inv.many.1, ap length last, fewer, ap length c.last_hand-ran.ensures,
-        length-append c.last_hand-ran.new.hands.items (c.last_hand-ran.result ∷ [])),
+        omega (
+          arith,
+          inv.many.1,
+          ap length last,
+          fewer,
+          ap length c.last_hand-ran.ensures,
+          length-append c.last_hand-ran.new.hands.items (c.last_hand-ran.result ∷ []),
+        ),
       );
       seats = omega (arith, inv.seats, ap length last, fewer, ap length pushed.items, length-append workers (worker ∷ []), pushed.capacity);
       passes = pass.0;
@@ -94,14 +100,15 @@ loop-pass-preserved g c =
       dealt = one_back items_of due_of (map items_of c.args.due.items) c.last_hand-lines.new.hands.items lines workers worker
           (inv.dealt ∙ ap (λ (hands : List (Vec BlockLine Global)). map items_of hands ++ map due_of (reverse workers)) c.last_hand-lines.ensures) refl
           ∙ ap (λ (list : List Worker). map items_of c.last_hand-lines.new.hands.items ++ map due_of (reverse list)) (sym pushed.items);
-      fresh = All-same (IsFresh desk) c.push_reserved.new.self.items (workers ++ worker ∷ []) pushed.items (All-push (IsFresh desk) workers worker inv.fresh (record {
-        own = pass.1.own;
-        fresh = pass.1.fresh;
-        reads = ap (λ p. p.board) reader ∙ c.requires.reader ∙ c.args.floor.now.one_board;
-        none_done = room.1.0;
-        turns = work.1.few;
-        ready = work.1.ready;
-      }));
+      fresh = All-same (IsFresh desk) c.push_reserved.new.self.items (workers ++ worker ∷ []) pushed.items
+          (All-push (IsFresh desk) workers worker inv.fresh (record {
+            own = pass.1.own;
+            fresh = pass.1.fresh;
+            reads = ap (λ p. p.board) reader ∙ c.requires.reader ∙ c.args.floor.now.one_board;
+            none_done = room.1.0;
+            turns = work.1.few;
+            ready = work.1.ready;
+          }));
       knew = All-same (λ (worker : Worker). worker.reader.seen ≡ c.args.reader.now.seen) c.push_reserved.new.self.items (workers ++ worker ∷ []) pushed.items
           (All-push (λ (worker : Worker). worker.reader.seen ≡ c.args.reader.now.seen) workers worker inv.knew (ap (λ p. p.seen) reader));
       reader = c.split.ensures.same ∙ inv.reader;
@@ -122,7 +129,8 @@ returns-clause-fresh g c =
 
 pub returns-clause-knew : goal.returns-clause-knew
 returns-clause-knew g c =
-    All-same (λ (worker : Worker). worker.reader.seen ≡ c.args.reader.now.seen) c.reverse.new.self.items (reverse c.loop-pass.workers.items) c.reverse.ensures.items
+    All-same (λ (worker : Worker). worker.reader.seen ≡ c.args.reader.now.seen) c.reverse.new.self.items (reverse c.loop-pass.workers.items)
+    c.reverse.ensures.items
     (all_reversed (λ (worker : Worker). worker.reader.seen ≡ c.args.reader.now.seen) c.loop-pass.workers.items c.loop-pass.invariant.knew)
 
 pub returns-clause-reader : goal.returns-clause-reader

@@ -1,4 +1,4 @@
-use Rattle.std.proofs.Common.{◌≡◌, ◌∙◌, ◌<◌, ◌≤◌, List, length, map, All, Global, Vec, arith, refl, sym, ap, subst}
+use Rattle.std.proofs.Common.{◌≡◌, ◌∙◌, ◌<◌, List, length, map, All, Global, Vec, arith, refl, sym, ap, subst}
 use Rattle.std.proofs.lemmas.List.{length-map}
 use Rattle.std.proofs.lemmas.List.Elements.{All-map, All-same}
 use Rattle.desk.specs.Turned.{IsWhole}
@@ -47,7 +47,8 @@ show_all-requires g c =
     record {
       book = c.into_book-book.ensures.board ∙ ap (λ (tag : OnBoard). tag.board) c.closed-kept.ensures.tag ∙ sym c.requires.board;
       readers = All-same (λ (reader : PassState). reader.board ≡ c.args.board.now) _ (map reader_of seated) c.rise-memory.ensures.readers
-          (All-map (λ (reader : PassState). reader.board ≡ c.args.board.now) reader_of seated (λ k d less. c.requires.ran.2.reads k d less ∙ sym c.requires.board));
+          (All-map (λ (reader : PassState). reader.board ≡ c.args.board.now) reader_of seated
+          (λ k d less. c.requires.ran.2.reads k d less ∙ sym c.requires.board));
     }
 
 pub gathered-requires : goal.gathered-requires
@@ -68,7 +69,8 @@ returns-clause-ended g c lines counted run =
     let rise = c.rise-memory.ensures in
     let closed = c.closed-kept.ensures in
     let news = c.gathered.result in
-    let entries : c.show_all.new.book.entries ≡ c.into_book-book.result.entries = ap (λ (b : View g.row.D.Denot g.row.G.Denot g.row.R.Denot). b.entries) c.show_all.ensures.same in (
+    let entries : c.show_all.new.book.entries ≡ c.into_book-book.result.entries
+    = ap (λ (b : View g.row.D.Denot g.row.G.Denot g.row.R.Denot). b.entries) c.show_all.ensures.same in (
       c.closed-kept.result.calls,
       refl,
       ended c.args.desk lines seated run c.show_all.new.book.entries passes c.rise-memory.new.left.readers.items (map items_of ran) c.rise-memory.result news

@@ -1,4 +1,4 @@
-use Rattle.std.proofs.Common.{◌≡◌, ◌∙◌, ℕ, ◌*◌, ◌<◌, ◌≤◌, List, [], length, map, reverse, slice_index_or, vec_capacity, Global, Vec, rules, sym, ap, subst}
+use Rattle.std.proofs.Common.{◌≡◌, ◌∙◌, ℕ, ◌*◌, ◌<◌, ◌≤◌, List, [], length, reverse, slice_index_or, vec_capacity, Global, Vec, rules, sym, ap, subst}
 use Rattle.std.proofs.lemmas.List.{get_or-map, length-map}
 use Rattle.work_shares.specs.Shares.{rounds, share}
 use Rattle.register_workers.specs.Private.Running.{Worker}
@@ -67,7 +67,8 @@ returns-clause-ran g c =
     let lines = c.args.lines in
     let seated = c.seat_workers-seated.result.items in
     let seat = c.seat_workers-seated.ensures in
-    let many : length seated ≡ length c.args.due.items = sym (length-map seated due_of) ∙ ap length seat.due ∙ length-map c.dealt-due.result.items items_of ∙ c.dealt-due.ensures.many in
+    let many : length seated ≡ length c.args.due.items
+    = sym (length-map seated due_of) ∙ ap length seat.due ∙ length-map c.dealt-due.result.items items_of ∙ c.dealt-due.ensures.many in
     have_run c.args.floor.now.desk.now lines seated c.all_done.result.items c.all_done.ensures.many c.all_done.ensures.did
     (λ k d less. seat.knew k d less ∙ c.requires.reader.1)
     (λ w less. ap (λ list. slice_index_or list w []) seat.due ∙ c.dealt-due.ensures.dealt w (subst (λ n. w < n) many less)

@@ -1,4 +1,4 @@
-use Rattle.std.proofs.Common.{◌≡◌, ◌∙◌, ◌≤◌, vec_capacity, rules, sym, subst}
+use Rattle.std.proofs.Common.{◌∙◌, ◌≤◌, vec_capacity, rules, sym, subst}
 use Rattle.register_workers.specs.Private.Seating.{IsEnded, IsRoomFor}
 use Rattle.register_workers.proofs.sittings.sit.Goals as goal
 
