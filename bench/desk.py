@@ -59,4 +59,5 @@ def main():
             print(f"{threads:7}  {desk / 1000:17.0f}  {mutex / 1000:18.0f}  {mutex / desk:5.2f}")
 
 
-main()
+if __name__ == "__main__":
+    main()
