@@ -1,7 +1,7 @@
 #!/usr/bin/env python3
 """Makes docs/PROVED.md: the page docs/promises.md, and then each crate's public calls with their clauses, read from the sources.
 
-    docs/proved.py            writes the file, and the table of standards in docs/FORMATS.md
+    docs/proved.py            writes the file, the table of standards in docs/FORMATS.md, and the tables of crates in docs/ARCHITECTURE.md
     docs/proved.py --check    says which of them is stale, and then has status 1
 """
 import itertools
@@ -179,15 +179,30 @@ def says(clause, names, known):
     return "; ".join(f"`{it[1]}`, {cell(sentence(known[it][0]).rstrip('.'))}" if known[it][0] else f"`{it[1]}`" for it in chosen)
 
 
+def root_of(crate):
+    """The file at the root of a crate: that of a library, or that of a program."""
+    library = CRATES / crate / "src/lib.rt"
+    return library if library.exists() else CRATES / crate / "src/main.rt"
+
+
+def is_library(crate):
+    return root_of(crate).name == "lib.rt"
+
+
 def tests_alone(crate):
     """Whether a crate has nothing but tests."""
-    return any("#[test]" in file.read_text() for file in (CRATES / crate / "src").rglob("*.rt"))
+    return crate.startswith("test_")
+
+
+def said_of(crate):
+    """What the root of a crate says of it."""
+    said = itertools.takewhile(lambda it: it.startswith("//!"), root_of(crate).read_text().splitlines())
+    return " ".join(line[4:] for line in said if line[4:])
 
 
 def section(crate, known):
     """What is said of a crate: what it has, its calls with their clauses, and the edits to it that are refused."""
-    root = CRATES / crate / "src/lib.rt"
-    lines = [f"## `{crate}`", "", " ".join(re.findall(r"^//! (.*)", root.read_text(), re.M)), ""]
+    lines = [f"## `{crate}`", "", said_of(crate), ""]
     shown = exported(crate)
     for file in sorted((CRATES / crate / "src").rglob("*.rt")):
         names = imports(file.read_text())
@@ -221,7 +236,7 @@ def section(crate, known):
 def proved():
     """The whole file."""
     below, known = uses(), definitions()
-    crates = [it for it in from_the_lowest(below) if (CRATES / it / "src/lib.rt").exists() and not tests_alone(it)]
+    crates = [it for it in from_the_lowest(below) if is_library(it) and not tests_alone(it)]
     lines = [(TOP / "docs/promises.md").read_text().rstrip(), ""]
     for crate in crates:
         lines += section(crate, known)
@@ -247,19 +262,51 @@ def standards():
     return "\n".join(lines)
 
 
-def formats():
-    """docs/FORMATS.md with that table between its two marks."""
-    text = (TOP / "docs/FORMATS.md").read_text()
-    marks = "<!-- from the definitions -->\n", "<!-- up to here -->"
+def layers():
+    """The crates of each layer, by the headers of crates.txt."""
+    found = {}
+    for line in (TOP / "crates.txt").read_text().splitlines():
+        if line.startswith("# "):
+            crates = found.setdefault(line[2:], [])
+        elif line:
+            crates.append(line.partition(":")[0])
+    return found
+
+
+def crates_by_layer():
+    """What each crate is, by layers, and which libraries no program stands on."""
+    below, found = uses(), layers()
+    used = set().union(*(stands_on(it, below) for it in found["programs"]))
+    lines, others = [], []
+    for layer, crates in found.items():
+        lines += [f"|*{layer}*||"] + [f"|`{it}`|{cell(said_of(it).partition('. ')[0].rstrip('.'))}|" for it in crates]
+        others += [f"`{it}`" for it in crates if it not in used and is_library(it) and not it.startswith(("test_", "case_"))]
+    return "\n".join(["|Crate|What it is|", "|---|---|"] + lines + ["", f"No program uses these yet: {', '.join(others)}."])
+
+
+def stands_on(crate, below):
+    """A crate of ours, and all that it stands on."""
+    return {crate}.union(*(stands_on(it, below) for it in below[crate] if it in below))
+
+
+def with_part(name, mark, part):
+    """A document, with that part between its two marks."""
+    text = (TOP / "docs" / name).read_text()
+    marks = f"<!-- {mark} -->\n", "<!-- up to here -->"
     if marks[0] not in text:
         return text
     front, rest = text.split(marks[0])
-    return front + marks[0] + "\n" + standards() + "\n\n" + marks[1] + rest.split(marks[1])[1]
+    return front + marks[0] + "\n" + part + "\n\n" + marks[1] + rest.split(marks[1], 1)[1]
 
 
 def main():
     stale = False
-    for name, made in (("PROVED.md", proved()), ("FORMATS.md", formats())):
+    made_anew = {
+        "PROVED.md": proved(),
+        "FORMATS.md": with_part("FORMATS.md", "from the definitions", standards()),
+        "ARCHITECTURE.md": with_part("ARCHITECTURE.md", "from the roots of the crates", crates_by_layer()),
+    }
+    for name, made in made_anew.items():
         file = TOP / "docs" / name
         if file.exists() and file.read_text() == made:
             continue
