@@ -1,3 +1,4 @@
+//! Making a desk with its passes.
 ghost use Rattle.std.specs.Prelude.{◌≡◌, ℕ, ◌+◌, ◌*◌, ◌<◌, ◌≤◌, [], ◌∷◌, length, All, IfOk, IfErr, IsErrAnd, vec_len, vec_capacity, Some};
 ghost use Rattle.desk.specs.Opened.{terms_of, IsLaid};
 ghost use Rattle.desk.specs.Seats.{IsSized, IsSeatOf, IsAtRest};

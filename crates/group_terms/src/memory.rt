@@ -1,3 +1,4 @@
+//! The error of a call that is out of memory.
 use std::alloc::{AllocError, AllocFailed};
 use thiserror::Error;
 
