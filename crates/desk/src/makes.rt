@@ -144,7 +144,7 @@ fn made_at<K: Kept>(
 
 impl<K: Kept> Desk<K> {
     /// A desk with 1 to 64 passes, of which each may make 1 to 4,096 turns. Room for all turns of all passes is reserved.
-    /// `DeskLost` gives the value back where there is no memory; it may have got room.
+    /// `DeskLost` gives the value back if out of memory; it may have got room.
     pub fn new(
         alloc: Global,
         mut kept: K,

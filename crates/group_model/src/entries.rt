@@ -219,7 +219,7 @@ pub enum Refusal {
     NotAJournal {
         at: u64,
     },
-    /// There was no memory.
+    /// It was out of memory.
     NoMemory,
 }
 
