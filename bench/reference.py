@@ -558,13 +558,13 @@ def format_journal(disk):
     return 9
 
 def append(disk, gate, body):
-    """Gives the place of the new closed gate."""
+    """Gives the place of the new clear commit mark."""
     disk.write(gate + 1, n4(len(body)) + body + b'\0'); disk.sync()
     disk.write(gate, b'\1'); disk.sync()
     return gate + 5 + len(body)
 
 def open_journal(disk):
-    """The group of a disk, and the place of the closed gate."""
+    """The group of a disk, and the place of the clear commit mark."""
     disk.sync()
     image = disk.read()
     if image[:1] != b'\1' or image[1:9] != MAGIC: raise NotAJournal(0)

@@ -1,3 +1,4 @@
+//! The queue of changes, in the order in which they were asked for.
 ghost use Rattle.std.specs.Prelude.{◌≡◌, ◌≤◌, [], ◌∷◌, ◌++◌, length, OnOk, OnErr};
 ghost use Rattle.group_terms.specs.Changes.{is_pending, leavers, joiners};
 ghost use Rattle.batch_queue.specs.Answers.{answer_to_change};

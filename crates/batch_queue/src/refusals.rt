@@ -1,3 +1,4 @@
+//! The refusals of the queue.
 use thiserror::Error;
 
 /// Why a change cannot wait.

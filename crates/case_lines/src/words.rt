@@ -1,4 +1,4 @@
-//! What the words of a line stand for; `None` where they stand for nothing, or where memory is short.
+//! What the words of a line stand for; `None` where they stand for nothing, or out of memory.
 
 use std::alloc::Global;
 

@@ -223,7 +223,7 @@ pub fn disk_with(alloc: Global, word: &str) -> Option<MemDisk> {
     Some(MemDisk::holding(alloc, List::from_vec(image)))
 }
 
-/// What a group is made of after a crash of this number. `None` where memory is short.
+/// What a group is made of after a crash of this number. `None` if out of memory.
 fn crashed(parts: TestParts, choice: u64) -> Option<TestParts> {
     let Parts {
         disk,

@@ -20,7 +20,7 @@ mod pushes;
 /// The octets of a large datagram.
 const LONG: usize = 18 * 1024;
 
-/// Does a work as often as the words say, and shows octets of what came of it. `None` for other words, or where memory is short.
+/// Does a work as often as the words say, and shows octets of what came of it. `None` for other words, or if out of memory.
 pub fn repeat(alloc: Global, words: &[&str], text: &mut Text) -> Option<()> {
     let [work, count] = words else {
         return None;

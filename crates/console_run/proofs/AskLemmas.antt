@@ -208,7 +208,7 @@ module _ {D G V R : Type 0} (on : Devices D G V) (draws : DrawGhosts R) (peers :
       puts = going.puts;
     }
 
-    -- there was no memory for a request
+    -- out of memory for a request
     pub Stops-unasked : (new : View D G R) → new.server ≡ middle.server → new.entries ≡ middle.entries
         → StopsIn on draws peers line Memory old new was seen
     Stops-unasked new server entries = record {
@@ -326,7 +326,7 @@ module _ {D G V R : Type 0} (on : Devices D G V) (draws : DrawGhosts R) (peers :
         stop
         (stopped old.entries h.answers.entry h.answers.added)
 
--- there was no memory for the first request of a line
+-- out of memory for the first request of a line
 pub Stops-unbegun : {D G V R : Type 0} (on : Devices D G V) (draws : DrawGhosts R) (peers : Drawing) (line : ScriptLine) (old new : View D G R) (was : Shown)
     → new.server ≡ old.server → new.entries ≡ old.entries → StopsIn on draws peers line Memory old new was was
 Stops-unbegun on draws peers line old new was server entries =

@@ -61,7 +61,7 @@ module _ {D G V R : Type 0} (on : Devices D G V) (draws : DrawGhosts R) (start :
         opening_reported on draws start held out peers opened
         (subst (λ was. Puts was out (entry_text first.entry)) (sym same) (reported [] first.entry first.alone).0)
 
-    -- there was no memory to go on
+    -- out of memory before going on
     pub run_out_of_memory : (had : Shown) → IsRunUntil on draws MemoryStop start had had (moment held line count out peers)
     run_out_of_memory had = record {
       given = given_of [] false;

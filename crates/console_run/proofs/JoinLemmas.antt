@@ -306,7 +306,7 @@ module _ {D G V R : Type 0} (on : Devices D G V) (draws : DrawGhosts R) (peers :
         (subst (λ asked. JoinsAfter peers.block console_name run old.entries (answers.entry ∷ []) m asked answers.entry.answer None) (sym answers.asked)
         (no_more run (answers.entry ∷ []) answers.entry.answer (seen_by run false reflects is kept))))
 
-    -- there was no memory for the pull
+    -- out of memory for the pull
     pub unpulled : IsReported on draws peers old middle was seen → (new : View D G R) → new.server ≡ middle.server → new.entries ≡ middle.entries
         → StopsIn on draws peers (lines.Join m) Memory old new was seen
     unpulled reported new server entries =

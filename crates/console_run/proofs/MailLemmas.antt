@@ -272,7 +272,7 @@ module _ {D G V R : Type 0} (on : Devices D G V) (draws : DrawGhosts R) (peers :
   }
 
   module _ (old middle new : View D G R) (was seen now : Shown) (reading : IsReading old middle was seen) where
-    -- there was no memory to read on
+    -- out of memory before reading on
     pub unread : HasReadSome middle new → Stops on.disks draws peers (begun_by_mail on) Memory old new was seen
     unread none = record {
       more = reading.more;

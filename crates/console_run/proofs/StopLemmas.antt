@@ -188,7 +188,7 @@ module _ {D G V R : Type 0} (on : Devices D G V) (draws : DrawGhosts R) where
       up_to = inl (record { none_taken = refl; nothing = refl; begins = inr opened.opens.first });
     }
 
-    -- there was no memory to go on
+    -- out of memory before going on
     pub no_memory_after_opening : Puts start.was now (entries_text held.entries)
         → IsReported on draws Memory (given_of [] false) start (moment held [] 0 now peers)
     no_memory_after_opening puts = record {

@@ -1,3 +1,4 @@
+//! Which entries of the history each pass made, as contracts see it once the desk is closed.
 use crate::views::View;
 use atomic_table::Badge;
 use std::collections::LinkedList;

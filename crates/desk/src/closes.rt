@@ -1,3 +1,4 @@
+//! Closing a desk: all passes come back, and the value is given back.
 ghost use Rattle.std.specs.Prelude.{◌≡◌, ◌↔◌, ℕ, ◌<◌, ◌≤◌, List, [], ◌∷◌, length, map, All, IsErr, IfOk, IfErr};
 ghost use Rattle.desk.specs.Opened.{terms_of};
 ghost use Rattle.desk.specs.Seats.{IsSized, IsSeatOf, IsAtRest, HasAll, IsHome};

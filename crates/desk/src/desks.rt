@@ -1,3 +1,4 @@
+//! The desk itself, and what contracts see of it.
 ghost use Rattle.std.specs.Prelude.{◌≡◌, ◌≤◌, Some};
 ghost use Rattle.desk.specs.Opened.{terms_of};
 ghost use Rattle.desk.specs.Seats.{IsSized};

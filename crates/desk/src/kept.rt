@@ -1,3 +1,4 @@
+//! What a value promises that is kept at a desk.
 ghost use Rattle.std.specs.Prelude.{◌≡◌, ℕ, ◌+◌, ◌<◌, ◌≤◌, List, [], ◌∷◌, ◌++◌, length, OnOk};
 ghost use Rattle.std.specs.Thread.{IsSync};
 

@@ -1,3 +1,4 @@
+//! Making a desk with its passes.
 ghost use Rattle.std.specs.Prelude.{◌≡◌, ℕ, ◌+◌, ◌*◌, ◌<◌, ◌≤◌, [], ◌∷◌, length, All, IfOk, IfErr, IsErrAnd, vec_len, vec_capacity, Some};
 ghost use Rattle.desk.specs.Opened.{terms_of, IsLaid};
 ghost use Rattle.desk.specs.Seats.{IsSized, IsSeatOf, IsAtRest};
@@ -143,7 +144,7 @@ fn made_at<K: Kept>(
 
 impl<K: Kept> Desk<K> {
     /// A desk with 1 to 64 passes, of which each may make 1 to 4,096 turns. Room for all turns of all passes is reserved.
-    /// `DeskLost` gives the value back where there is no memory; it may have got room.
+    /// `DeskLost` gives the value back if out of memory; it may have got room.
     pub fn new(
         alloc: Global,
         mut kept: K,

@@ -1,3 +1,4 @@
+//! A pass that learns what another pass has seen.
 ghost use Rattle.std.specs.Prelude.{◌≡◌, List, [], ◌∷◌};
 ghost use Rattle.desk.specs.Opened.{terms_of};
 ghost use Rattle.desk.specs.Views.{StartsWith};

@@ -1,3 +1,4 @@
+//! The passes, with which threads take their turns.
 ghost use Rattle.std.specs.Prelude.{◌≡◌, length};
 ghost use Rattle.desk.specs.Seats.{IsPass, holder};
 

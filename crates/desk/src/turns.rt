@@ -1,3 +1,4 @@
+//! A turn at the desk.
 ghost use Rattle.std.specs.Prelude.{◌≡◌, ◌↔◌, length, IsErr, IfOk, IfErr};
 ghost use Rattle.desk.specs.Turned.{IsTurn};
 

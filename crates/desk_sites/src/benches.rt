@@ -1,3 +1,4 @@
+//! Jobs that threads do side by side at what they share, each job by one thread.
 ghost use Rattle.std.specs.Prelude.{◌≡◌, ℕ, ◌<◌, length, slice_index_or, All};
 ghost use Rattle.std.specs.Thread.{IsSync};
 

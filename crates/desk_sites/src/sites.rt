@@ -1,3 +1,4 @@
+//! Where turns are made: a desk, known by a trait.
 ghost use Rattle.std.specs.Prelude.{◌≡◌, ◌↔◌, List, length, IsErr, IfOk, IfErr};
 ghost use Rattle.std.specs.Thread.{IsSync};
 ghost use Rattle.desk.specs.Turned.{IsTurn};

@@ -1,3 +1,4 @@
+//! Many turns with each of several passes, in several threads.
 ghost use Rattle.std.specs.Prelude.{◌≡◌, ◌⊎◌, ℕ, ◌<◌, ◌≤◌, length, All};
 ghost use Rattle.std.specs.Thread.{IsSync};
 

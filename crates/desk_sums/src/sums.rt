@@ -1,3 +1,4 @@
+//! The sum, and how it takes a number in.
 ghost use Rattle.std.specs.Prelude.{◌≡◌, []};
 ghost use Rattle.desk_sums.specs.Totals.{total_from};
 

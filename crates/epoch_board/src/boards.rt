@@ -43,7 +43,7 @@ pub struct BoardMade {
 }
 
 impl EpochBoard {
-    /// A board that shows 0, 0, its publisher, and a pass. `NoMemory` where there is none for them.
+    /// A board that shows 0, 0, its publisher, and a pass. `NoMemory` if out of memory for them.
     pub fn new(alloc: Global) -> Result<BoardMade, NoMemory>
         ensures publisher { IfOk result (λ made. made.publisher ≡ record { board = made.board; published = []; moments = [] }) }
         ensures reader { IfOk result (λ made. made.reader ≡ record { board = made.board; seen = []; moments = [] }) }

@@ -121,7 +121,7 @@ impl MemFile {
     }
 
     /// What a loss of power leaves, by `choice` as of a crash of a disk in memory, of which there are eight; nothing where the folder does
-    /// not have the file, and `choice / 8` is even. `NoMemory` where there is none for the octets.
+    /// not have the file, and `choice / 8` is even. `NoMemory` if out of memory for the octets.
     pub fn crashed(self, choice: u64) -> Result<MemDisk, NoMemory>
         ensures { IfOk result (λ disk. MayLeaveFile self disk.image) }
     {

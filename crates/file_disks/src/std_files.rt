@@ -34,7 +34,7 @@ impl<R> Model for StdFile<R> {
 }
 
 impl<R: Files<File = File> + Clone> StdFile<R> {
-    /// The file at a path, before it is opened. `NoMemory` where there is none for the path.
+    /// The file at a path, before it is opened. `NoMemory` if out of memory for the path.
     pub fn new(alloc: Global, rt: &R, path: &str) -> Result<StdFile<R>, NoMemory>
         ensures { IfOk result (λ file. file ≡ record { is_sound = true; faults = 0 }) }
     {

@@ -50,7 +50,7 @@ impl TextSink {
 impl Sink for TextSink {
     ghost shows = { λ sink. record { octets = Some sink.written; faults = sink.faults } };
 
-    /// A call that is listed fails, and so does one for which there is no memory; any other takes the whole piece.
+    /// A call fails if it is listed or out of memory; any other takes the whole piece.
     fn put(&mut self, piece: &[u8]) -> Result<usize, Failed>
         requires { 0 < length piece.now }
         ensures count { IfOk result (λ n. (0 < n) × (n ≤ length piece.now)) }

@@ -1,6 +1,7 @@
 -- Leaves that change hands one after the other, and the index of names.
 -- Leaves change hands one by one (`slice_set`), and the marks follow by `map-set` and `zip_set`; what they mean for the batch is a lemma on the finished list,
--- `seated_after`. The index of names may be given up (`NameIndex`): its invariant holds as far as there is one, so an insertion without memory needs no error.
+-- `seated_after`. The index of names may be given up (`NameIndex`): its invariant holds as far as there is one, so an insertion that is
+-- out of memory needs no error.
 use Rattle.std.proofs.Common.{◌≡◌, ℕ, zero, suc, ◌+◌, ◌<◌, Bool, true, false, not, ltb, List, [], ◌∷◌, ◌++◌, Option, None, Some, cond, ◌⊎◌, ◌^◌, length, map, replicate, get_or, set, ◌&&◌, ◌||◌, refl, sym, ap, ◌∙◌, subst, arith, inl, inr}
 use Rattle.std.specs.Prelude.{is_some, is_none}
 use Rattle.std.specs.List.{All, cons_option, count_by, fold, list_any, position, position_or_len, zip}

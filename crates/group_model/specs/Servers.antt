@@ -135,7 +135,7 @@ abbrev pub IsLeave : Server → Name → Result (Unit {0}) Refusal → Server �
 IsLeave server m (Ok done) next = (refusal_to_leave server m ≡ None) × (next ≡ with_change server (Out m))
 IsLeave server m (Err why) next = (refusal_to_leave server m ≡ Some why) × (next ≡ server)
 
--- What waits is to be the next batch, and draws have these blocks. Where no memory is left, some blocks may be drawn, but none where the batch would be
+-- What waits is to be the next batch, and draws have these blocks. Out of memory, some blocks may be drawn, but none where the batch would be
 -- refused.
 abbrev pub IsPreparation : (ℕ → List ℕ) → Server → Result BatchValues Refusal → Server → Type 0
 IsPreparation block server (Ok values) next =

@@ -1,3 +1,4 @@
+//! The entries of a history: what was asked, what the outside did meanwhile, and what was answered.
 ghost use Rattle.std.specs.Prelude.{◌≡◌};
 ghost use Rattle.group_model.specs.declared.entries.Refusal.TheVariants as refusals;
 
@@ -218,7 +219,7 @@ pub enum Refusal {
     NotAJournal {
         at: u64,
     },
-    /// There was no memory.
+    /// It was out of memory.
     NoMemory,
 }
 

@@ -73,7 +73,7 @@ takes_named datagram peers name i result next once is at = record {
       (same_phase datagram (get_or peers i no_peer) at.after result at.takes);
 }
 
--- where it is ignored, or memory is short, nothing changes
+-- where it is ignored, or out of memory, nothing changes
 pub ignored_there : (datagram : List ℕ) (peers : List Peer) (i : ℕ) (result : Result Pulled NoMemory) (next : List Peer) → TakesAt datagram peers i result next
     → result ≡ Ok Ignored → next ≡ peers
 ignored_there datagram peers i result next at is =

@@ -33,7 +33,7 @@ pub record Begins (peers : List Peer) (name : Name) (message ni group : List ℕ
 
 -- ---- what a datagram makes of them
 
--- a pull refuses a datagram, or waits for none; that memory was short is no refusal
+-- a pull refuses a datagram, or waits for none; out of memory is no refusal
 abbrev pub PassesOverAt : Step → Pull → List ℕ → Type 0
 PassesOverAt (steps.Second iv) pull datagram = (why : PullRefusal) × (why ≢ refusals.NoMemory) × IsSecond pull datagram (Err why) pull
 PassesOverAt (steps.Fourth iv nr spi) pull datagram = (why : PullRefusal) × (why ≢ refusals.NoMemory) × IsFourth pull datagram (Err why) pull
@@ -60,7 +60,7 @@ pub record IsTold (datagram : List ℕ) (keyed : Keyed) (peer next : Peer) : Typ
   pub takes : IsFourth pull datagram (Ok keyed) ended
   pub now : next ≡ record peer { pull = Some ended }
 
--- what comes of a datagram; where memory is short, nothing changes
+-- what comes of a datagram; out of memory, nothing changes
 abbrev pub TakesDatagram : List ℕ → Peer → Result Pulled NoMemory → Peer → Type 0
 TakesDatagram datagram peer (Ok Ignored) next = PassesOver peer.pull datagram × (next ≡ peer)
 TakesDatagram datagram peer (Ok Sends) next = (third : List ℕ) × Agrees datagram third peer next

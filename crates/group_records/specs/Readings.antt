@@ -109,13 +109,13 @@ batch_record = do
   end
   give (record { batch = batch; epoch = epoch; sequence = sequence; values = record { nodes = nodes; traffic = traffic } })
 
--- what reading the values of positions answers: the values, and where reading goes on; or the first fault; or that there was no memory for it
+-- what reading the values of positions answers: the values, and where reading goes on; or the first fault; or out of memory for it
 abbrev pub NodesGive : Result (List Drawn) RecordFault → Cursor → Result (List Drawn × Cursor) WireFault → Type 0
 NodesGive (Ok drawn) now reading = reading ≡ Ok (drawn, now)
 NodesGive (Err (Malformed fault)) now reading = reading ≡ Err fault
 NodesGive (Err NoMemory) now reading = ⊤
 
--- what reading a batch answers: the batch; or the first fault; or that there was no memory for it
+-- what reading a batch answers: the batch; or the first fault; or out of memory for it
 abbrev pub BatchAnswers : Result Stored RecordFault → Result (Stored × Cursor) WireFault → Type 0
 BatchAnswers (Ok stored) reading = value_of reading ≡ Ok stored
 BatchAnswers (Err (Malformed fault)) reading = reading ≡ Err fault

@@ -25,7 +25,7 @@ pub struct Stored {
 }
 
 /// Reads the record of a batch: at most 32 changes, of members by names of their grammar, values of positions, and that of a traffic key
-/// whose SPI has its highest bit set, and nothing after it; else the first fault. `NoMemory` where there is none for the values. A record has at
+/// whose SPI has its highest bit set, and nothing after it; else the first fault. `NoMemory` if out of memory for the values. A record has at
 /// most 65,536 octets.
 #[tactic(auto, unfolding(crate::specs::Readings::batch_record))]
 pub fn read_batch(alloc: Global, body: &[u8]) -> Result<Stored, RecordFault>
@@ -56,7 +56,7 @@ pub fn read_batch(alloc: Global, body: &[u8]) -> Result<Stored, RecordFault>
     })
 }
 
-/// The record of a batch, with the values of at most 65,535 positions; `NoMemory` where there is none for it.
+/// The record of a batch, with the values of at most 65,535 positions; `NoMemory` if out of memory for it.
 pub fn write_batch(
     alloc: Global,
     batch: &Batch,

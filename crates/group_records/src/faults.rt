@@ -12,7 +12,7 @@ pub enum RecordFault {
     /// It has another form; the first fault, by its place in the record.
     #[error("no record of a group: {fault}")]
     Malformed { fault: WireFault },
-    /// There is no memory for it.
+    /// Out of memory for it.
     #[error("no memory")]
     NoMemory,
 }

@@ -60,7 +60,7 @@ pub fn read_head(body: &[u8]) -> Result<Head, WireFault>
     })
 }
 
-/// The record of a head; `NoMemory` where there is none for it.
+/// The record of a head; `NoMemory` if out of memory for it.
 pub fn write_head(alloc: Global, head: &Head) -> Result<Octets, NoMemory>
     ensures octets { IfOk result (λ text. text ≡ head_text head.now) }
     ensures few { IfOk result (λ text. length text ≤ 56) }

@@ -1,3 +1,4 @@
+//! Changes of membership, and the batch that takes up at most 32 of them.
 ghost use Rattle.std.specs.Prelude.{◌≡◌, ◌<◌, ◌≤◌, [], ◌∷◌, ◌++◌, length};
 ghost use Rattle.group_terms.specs.Names.{same_name};
 ghost use Rattle.group_terms.specs.Changes.{member_of, is_pending, leaver, leavers, joiner, joiners};

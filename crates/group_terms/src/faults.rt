@@ -1,3 +1,4 @@
+//! A call to the outside that failed, and the count of such faults.
 ghost use Rattle.std.specs.Prelude.{◌≡◌, ◌≤◌};
 ghost use Rattle.group_terms.specs.Faults.{Rose, one_more};
 

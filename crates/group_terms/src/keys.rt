@@ -1,3 +1,4 @@
+//! What keys are called, and encryptions of one key under another.
 use crate::{LkhId, MemberName};
 
 /// What a key is called, whatever its octets are.

@@ -1,3 +1,4 @@
+//! Lists that grow item by item, and answer `NoMemory` where they cannot.
 ghost use Rattle.std.specs.Prelude.{◌≡◌, ◌↔◌, [], ◌∷◌, ◌++◌, length, take, IsTrue, IsNone, IfSome, IfNone, IfOk, OnOk, OnErr};
 ghost use Rattle.std.specs.Borrow.{sem};
 
@@ -5,7 +6,7 @@ use crate::NoMemory;
 use std::alloc::Global;
 use std::marker::Model;
 
-/// A list that grows one item after the other, and says where there is no memory for that.
+/// A list that grows one item after the other, and says when it is out of memory for that.
 #[derive(Drop)]
 pub struct List<T> {
     items: Vec<T>,
@@ -118,7 +119,7 @@ impl<T: Drop> List<T> {
         self.items.truncate(n);
     }
 
-    /// Keeps what was appended after the first `n` items, or takes it off again where there was no memory for all of it; answers which.
+    /// Keeps what was appended after the first `n` items, or takes it off again if out of memory for all of it; answers which.
     pub fn keep_or_truncate(
         &mut self,
         n: usize,

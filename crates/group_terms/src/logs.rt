@@ -1,3 +1,4 @@
+//! Lists with reserved room, so that adding an item cannot fail.
 ghost use Rattle.std.specs.Prelude.{◌≡◌, ◌+◌, ◌<◌, ◌≤◌, [], ◌∷◌, ◌++◌, OnOk};
 ghost use Rattle.group_terms.specs.Logs.{Recorded};
 

@@ -1,3 +1,4 @@
+//! For each position of a tree, whether a marked leaf lies at or below it.
 ghost use Rattle.std.specs.Prelude.{◌≡◌, ◌≤◌, ◌<◌, ◌^◌, ◌+◌, ◌*◌, ◌++◌, ◌||◌, ℕ, Bool, List, false, length, map, replicate, IfOk};
 ghost use Rattle.std.specs.List.{range_with_len};
 ghost use Rattle.group_terms.specs.Positions.{some_leaf_below};

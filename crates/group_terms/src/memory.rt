@@ -1,7 +1,8 @@
+//! The error of a call that is out of memory.
 use std::alloc::{AllocError, AllocFailed};
 use thiserror::Error;
 
-/// There was no memory for what a call makes or grows.
+/// Out of memory for what a call makes or grows.
 #[derive(Clone, Copy, Debug, PartialEq, Eq, Error)]
 #[error("memory is short")]
 pub struct NoMemory;

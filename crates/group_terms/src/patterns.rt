@@ -1,3 +1,4 @@
+//! Patterns of names, and rules of who may join.
 ghost use Rattle.std.specs.Prelude.{◌≡◌, ◌≤◌, length, IsTrue};
 ghost use Rattle.group_terms.specs.Patterns.{is_pattern, matches, pattern_of};
 

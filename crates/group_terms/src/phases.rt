@@ -1,3 +1,4 @@
+//! What a member and the server share after phase 1.
 use crate::{IV_OCTETS, KEY_OCTETS, MemberName};
 use std::fmt;
 

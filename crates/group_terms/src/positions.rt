@@ -1,3 +1,4 @@
+//! The positions of the key tree.
 ghost use Rattle.std.specs.Prelude.{◌≡◌, ◌≢◌, ◌/◌, ◌*◌, ◌+◌, ◌<◌, ◌≤◌, ◌^◌, ◌↔◌, ℕ, ◌==◌, true, None, Some, if◌then◌else◌};
 ghost use Rattle.group_terms.specs.Positions.{IsBelow, is_below};
 

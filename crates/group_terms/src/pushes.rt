@@ -1,3 +1,4 @@
+//! Why a member does not take a push.
 use crate::LkhId;
 use thiserror::Error;
 

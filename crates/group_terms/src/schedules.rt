@@ -1,3 +1,4 @@
+//! Which calls of an object fail, and the counts of its calls and of its faults.
 ghost use Rattle.std.specs.Prelude.{◌≡◌, ◌≤◌};
 ghost use Rattle.group_terms.specs.Faults.{Rose, one_more, fails_next};
 

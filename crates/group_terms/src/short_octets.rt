@@ -1,3 +1,4 @@
+//! Short texts of octets, kept in place.
 ghost use Rattle.std.specs.Prelude.{◌≡◌, ◌≤◌, length};
 
 use std::marker::Model;

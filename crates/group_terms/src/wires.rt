@@ -1,3 +1,4 @@
+//! Why octets are no text of their grammar, and where that shows.
 use thiserror::Error;
 
 /// Why octets are no text of their grammar: what is wrong first, and where.

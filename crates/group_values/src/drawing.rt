@@ -1,3 +1,4 @@
+//! Drawing the values of the keys that a batch makes.
 ghost use Rattle.std.specs.Prelude.{◌≡◌, ℕ, ◌*◌, ◌≤◌, ◌++◌, length, take, IfOk, OnOk, OnErr};
 ghost use Rattle.group_values.specs.Drawing.{blocks_for, node_drawn, nodes_drawn, place_after, traffic_drawn, values_drawn, with_high_bit};
 

@@ -1,3 +1,4 @@
+//! The values that the keys of a group have now.
 ghost use Rattle.std.specs.Prelude.{◌≡◌, ◌≢◌, ◌<◌, ◌≤◌, ◌^◌, ◌+◌, [], ◌∷◌, ◌++◌, List, length, slice_get, slice_set, Some, IfOk, IfErr};
 ghost use Rattle.std.specs.List.{All, HoldsAt, fold};
 ghost use Rattle.group_terms.specs.declared.changes.Change.{Change};

@@ -31,7 +31,7 @@ pub fn write_update(job: &WrapJob, out: &mut Octets) -> Result<(), NoMemory>
     out.keep_or_truncate(before, appended)
 }
 
-/// Appends that array with this sealed data; where memory is short, maybe only a part of it.
+/// Appends that array with this sealed data; out of memory, maybe only a part of it.
 fn append_update(job: &WrapJob, sealed: &[u8], out: &mut Octets) -> Result<(), NoMemory>
     requires { length sealed.now ≡ data_octets }
     ensures ok { OnOk result (out.new ≡ out.old ++ update_text job.now sealed.now) }

@@ -1,3 +1,4 @@
+//! Laws of the way from a leaf to the root, and of what a batch encrypts on it.
 ghost use Rattle.law_key_ways.specs.Laws.{EncryptionsGoUp, EncryptionsAreFew, TheRootIsGiven, PlacesAreLeaves, MembersHavePlaces};
 ghost use Rattle.law_key_ways.specs.Laws.{WaysEndAtTheRoot, ParentsStandAbove, WhoStaysKeepsItsLeaf, WhoStaysIsGivenItsWay};
 ghost use Rattle.law_key_ways.specs.Laws.{WhoLeavesHasANewWay, HoldersStayBelowKept, Laws};

@@ -25,7 +25,7 @@ pub enum PullRefusal {
         carried: [u8; 32],
         expected: [u8; 32],
     },
-    /// There is no memory for the text, or for the answer.
+    /// Out of memory for the text, or for the answer.
     #[error("no memory")]
     NoMemory,
 }

@@ -9,7 +9,7 @@ use Rattle.member_steps.specs.Views.{View, members_with}
 use Rattle.member_steps.specs.declared.came.Came.{Came}
 use Rattle.member_steps.specs.declared.came.Came.TheVariants.{Ended, Ignored, Sends}
 
--- it is the first one, and is to this member; where memory is short, nothing changes
+-- it is the first one, and is to this member; out of memory, nothing changes
 abbrev pub TakesMail : Name → List ℕ → List Mail → View → Result Came NoMemory → View → Type 0
 TakesMail m datagram later old (Ok Ignored) new = IsIgnoring (members_with old ((m, datagram) ∷ later)) (members_with new later)
 TakesMail m datagram later old (Ok Sends) new = (third : List ℕ) × Agrees m third (members_with old ((m, datagram) ∷ later)) (members_with new later)

@@ -115,7 +115,7 @@ impl Members {
     }
 
     /// Who was introduced begins a pull for a group (RFC 6407 section 3.2): message id and nonce are drawn, two blocks, and its first message is what
-    /// it sent last then. Where memory is short, the blocks are drawn all the same.
+    /// it sent last then. Out of memory, the blocks are drawn all the same.
     pub fn begin_pull<P: Draws>(
         &mut self,
         alloc: Global,

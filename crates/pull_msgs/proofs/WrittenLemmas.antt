@@ -106,7 +106,7 @@ pub record Laws : Type 0 where
   pub opens_as : (key iv text sealed : List ℕ) → IsKey key → AreBytes 16 iv → All IsByte text → IsSealed key iv text sealed → IsOpened key iv sealed text
   pub once : (key iv sealed one other : List ℕ) → IsOpened key iv sealed one → IsOpened key iv sealed other → one ≡ other
 
--- this is an answer for a datagram where a message is awaited, and the only one but that memory is short
+-- this is an answer for a datagram where a message is awaited, and the only one but for out of memory
 pub record IsRead {A B : Type 0} (phase : Phase1) (awaited : Awaited A B) (datagram : List ℕ) (gives : B) : Type 0 where
   pub can_be : IsAnswer phase awaited datagram (Ok gives)
   pub alone : (answer : Result B PullFault) → IsAnswer phase awaited datagram answer → (answer ≡ Err NoMemory) ⊎ (answer ≡ Ok gives)

@@ -122,7 +122,7 @@ pub record IsOfText (A B : Type 0) (phase : Phase1) (awaited : Awaited A B) (dat
   pub is : answer ≡ answer_for (hash_of phase head.message awaited.nonces) (awaited.gives head datagram)
       (value_of (awaited.payloads text head.next (from_start 28 text)))
 
--- for a datagram whose header has a fault, that fault; for others the answer for the text, or that there was no memory for it
+-- for a datagram whose header has a fault, that fault; for others the answer for the text, or out of memory for it
 abbrev pub IsOfHead : (A B : Type 0) → Phase1 → Awaited A B → List ℕ → Result B PullFault → Result Header WireFault → Type 0
 IsOfHead A B phase awaited datagram answer (Err fault) = answer ≡ Err (Malformed fault)
 IsOfHead A B phase awaited datagram answer (Ok head) = (answer ≡ Err NoMemory) ⊎ IsOfText A B phase awaited datagram head answer
@@ -134,7 +134,7 @@ IsAnswer {A} {B} phase awaited datagram answer =
 
 -- ---- its causes
 
--- an answer is this one, or there was no memory for it
+-- an answer is this one, or out of memory for it
 abbrev pub OrNoMemory : {B : Type 0} → Result B PullFault → Result B PullFault → Type 0
 OrNoMemory answer due = (answer ≡ Err NoMemory) ⊎ (answer ≡ due)
 

@@ -20,7 +20,7 @@ pub enum PullFault {
         carried: [u8; 32],
         expected: [u8; 32],
     },
-    /// There is no memory for the opened text, or for what the answer keeps of it.
+    /// Out of memory for the opened text, or for what the answer keeps of it.
     #[error("no memory")]
     NoMemory,
 }

@@ -34,7 +34,7 @@ use sa_wire::{
     written_policies_are_octets, written_policies_are_read, written_policies_have_their_size,
 };
 
-/// A message that was written is read as what it was written of, where it is awaited; only memory may be short. That a fourth message gives its keys is
+/// A message that was written is read as what it was written of, where it is awaited, unless out of memory. That a fourth message gives its keys is
 /// an answer.
 pub fn a_written_message_is_read()
     ensures first { (phase : Phase1) (message ni group datagram : List ℕ) (answer : Result First PullFault) →
@@ -151,7 +151,7 @@ pub fn written_messages_have_their_size()
 }
 
 /// The answer for a datagram has its cause: a fault of the header; or of the text as which its other octets are opened; or another HASH
-/// than is due. Else the message is taken. A datagram is opened in one way, so two answers are the same, if memory is not short.
+/// than is due. Else the message is taken. A datagram is opened in one way, so two answers are the same, unless out of memory.
 pub fn each_answer_has_its_cause()
     ensures first { (phase : Phase1) (datagram : List ℕ) (answer : Result First PullFault) →
         IsAnswer phase (first_awaited phase) datagram answer → HasCauses _ _ phase (first_awaited phase) datagram answer }

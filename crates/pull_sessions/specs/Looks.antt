@@ -55,7 +55,7 @@ IsOfSession steps.AwaitsThird phase session datagram result = IsReadAsThird phas
 IsOfSession steps.Queued phase session datagram result = result ≡ Err WrongStep
 IsOfSession steps.Done phase session datagram result = result ≡ Err WrongStep
 
--- what was answered is answered again, if there is memory for it
+-- what was answered is answered again, unless out of memory for it
 abbrev pub IsAgain : Phase1 → Session → Result Looked SessionRefusal → Type 0
 IsAgain phase session result =
     (result ≡ Ok (record { member = phase.member; what = Repeat session.kept })) ⊎ (result ≡ Err NoMemory)

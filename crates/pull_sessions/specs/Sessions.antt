@@ -72,7 +72,7 @@ new_sa phase = record { phase = phase; session = None }
 abbrev pub with_sa : Sessions → Phase1 → Sessions
 with_sa sessions phase = record sessions { sas = sessions.sas ++ new_sa phase ∷ [] }
 
--- An SA is introduced, or refused by the first reason that holds; where none holds, only memory may be short.
+-- An SA is introduced, or refused by the first reason that holds; where none holds, only out of memory.
 abbrev pub IsIntroduction : Sessions → Phase1 → Result (Unit {0}) SessionRefusal → Sessions → Type 0
 IsIntroduction old phase (Ok done) new = (why_no_introduction old phase ≡ None) × (new ≡ with_sa old phase)
 IsIntroduction old phase (Err why) new =

@@ -37,7 +37,7 @@ pub enum SessionRefusal {
     PhaseFull {
         held: u32,
     },
-    /// There is no memory.
+    /// Out of memory.
     #[error("no memory")]
     NoMemory,
 }

@@ -11,7 +11,7 @@ use Rattle.run_report.specs.declared.endings.Ending.{Ending}
 use Rattle.run_report.specs.declared.endings.Ending.TheVariants.{Whole, BadLine, Source, Sink, Memory, NotOpened}
 use Rattle.run_report.specs.Reports.{BreaksOff, LastLineEnds, Puts}
 
--- the report of a text broke off, because the sink failed, or because there was no memory for it
+-- the report of a text broke off, because the sink failed, or out of memory for it
 abbrev pub TextBreaksOff : Stop → Shown → Shown → List ℕ → Type 0
 TextBreaksOff Line was now text = ⊥
 TextBreaksOff SourceStop was now text = ⊥

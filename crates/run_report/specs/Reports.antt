@@ -45,7 +45,7 @@ line_at NotOpened = 0
 abbrev pub last_line : Ending → List ℕ
 last_line ending = end_text (status_of ending) (line_at ending)
 
--- Where a report breaks off, it is because the sink failed, or because there was no memory for the text; then nothing of it was put. At
+-- Where a report breaks off, it is because the sink failed, or out of memory for the text; then nothing of it was put. At
 -- other endings no report breaks off.
 abbrev pub BreaksOff : Ending → Shown → Shown → List ℕ → Type 0
 BreaksOff Whole was now text = ⊥

@@ -59,7 +59,7 @@ pub fn write_sa(policy: &SaPolicy, out: &mut Octets) -> Result<(), NoMemory>
     out.keep_or_truncate(before, appended)
 }
 
-/// Appends that body; where memory is short, maybe only a part of it.
+/// Appends that body; out of memory, maybe only a part of it.
 fn append_sa(policy: &SaPolicy, out: &mut Octets) -> Result<(), NoMemory>
     requires { IsSome policy.now.kek ⊎ IsSome policy.now.tek }
     ensures ok { OnOk result (out.new ≡ out.old ++ sa_text policy.now) }

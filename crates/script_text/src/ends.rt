@@ -8,7 +8,7 @@ use group_model::{List, NoMemory, Octets};
 use std::alloc::Global;
 
 /// Puts the line that ends a run at the end of a text; `line` is the one at which the run ended; it is named at status 2.
-/// Where there is no memory for that, the text stays as it was.
+/// Out of memory for that, the text stays as it was.
 pub fn end_line(alloc: Global, status: u8, line: u32, out: &mut Octets) -> Result<(), NoMemory>
     ensures ok { OnOk result (out.new ≡ out.old ++ end_text status line) }
     ensures err { OnErr result (out.new ≡ out.old) }

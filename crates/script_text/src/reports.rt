@@ -12,7 +12,7 @@ use crate::texts::append_text;
 use group_model::{Answer, Asked, Entry, List, NoMemory, Octets};
 use std::alloc::Global;
 
-/// Puts the lines that report an entry at the end of a text. Where there is no memory for that, the text stays as it was.
+/// Puts the lines that report an entry at the end of a text. Out of memory for that, the text stays as it was.
 #[tactic(auto, unfolding(crate::specs::Report::entry_text))]
 pub fn report_entry(alloc: Global, entry: &Entry, out: &mut Octets) -> Result<(), NoMemory>
     ensures ok { OnOk result (out.new ≡ out.old ++ entry_text entry.now) }

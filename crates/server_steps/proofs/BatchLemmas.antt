@@ -145,7 +145,7 @@ module _ {D G R : Type 0} (d : DiskGhosts D) (g : SignerGhosts G) (draws : DrawG
       sessions = refl;
     }
 
-    -- no memory was left
+    -- out of memory
     memory_ends : (server : Server) → HasJournal d (at_host was server)
         → (n : ℕ) → n ≤ blocks_to_draw server → Stands draws mid (after_draws server n)
         → (next : Host D) × Closes was (Refused NoMemory) is_now (at_host was server) next

@@ -71,7 +71,7 @@ module _ {D G : Type 0} (d : DiskGhosts D) (g : SignerGhosts G) (signer : G) (bl
     pub reason : refusal_to_batch host.server ≡ Some why
     pub says : Says (Refused why) host answer outside next
 
-  -- no memory was left, and some blocks were drawn, unless the batch would be refused
+  -- out of memory, and some blocks were drawn, unless the batch would be refused
   pub record RunsOut (answer : Answer) (outside : Outside) (next : Host D) : Type 0 where
     pub answers : answer ≡ Refused NoMemory
     pub beside : outside ≡ quiet host

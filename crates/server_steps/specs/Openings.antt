@@ -50,7 +50,7 @@ module _ {D : Type 0} (d : DiskGhosts D) (block : ℕ → List ℕ) where
     }
     pub journal : HasJournal d next
 
-  -- The disk failed, or no memory was left; the SPI may be drawn. Where no memory was left, the disk is untouched.
+  -- The disk failed, or out of memory; the SPI may be drawn. Out of memory, the disk is untouched.
   pub record FailsToMake (host : Host D) (answer : Answer) (outside : Outside) (next : Host D) : Type 0 where
     pub why : Refusal
     pub causes : (why ≡ DiskFault) ⊎ ((why ≡ NoMemory) × (next.disk ≡ host.disk))
@@ -119,7 +119,7 @@ module _ {D G : Type 0} (d : DiskGhosts D) (g : SignerGhosts G) (signer : G) whe
   abbrev pub HasNoJournal : Host D → ℕ → Host D → Type 0
   HasNoJournal host at next = Knows (shown d host.disk) (λ file. IsNoGroup file at × Only file (d.may_leave next.disk) × ComesToLast d file host.disk next.disk)
 
-  -- the disk failed, no memory was left, or there is no journal
+  -- the disk failed, or out of memory, or there is no journal
   pub record FailsToBegin (host : Host D) (answer : Answer) (outside : Outside) (next : Host D) : Type 0 where
     pub why : Refusal
     pub causes : (why ≡ DiskFault) ⊎ ((why ≡ NoMemory) ⊎ ((at : ℕ) × (why ≡ NotAJournal at) × HasNoJournal host at next))
@@ -141,7 +141,7 @@ module _ {D G : Type 0} (d : DiskGhosts D) (g : SignerGhosts G) (signer : G) whe
     pub finds : FindsGroup host found answer outside next
     pub same : Knows (shown d host.disk) (λ file. IsSame host found)
 
-  -- The disk failed, no memory was left, or there is no journal, which never is so of an honest disk that exposes its octets.
+  -- The disk failed, or out of memory, or there is no journal, which never is so of an honest disk that exposes its octets.
   pub record FailsToReopen (host : Host D) (answer : Answer) (outside : Outside) (next : Host D) : Type 0 where
     pub why : Refusal
     pub causes : (why ≡ DiskFault) ⊎ ((why ≡ NoMemory) ⊎ ((at : ℕ) × (why ≡ NotAJournal at) × Knows (shown d host.disk) (λ file. ⊥)))

@@ -102,7 +102,7 @@ module _ {D G : Type 0} (g : SignerGhosts G) (signer : G) (block : ℕ → List 
       sessions = with_session host.sessions m (begun_session first nonce_next datagram (kept.Datagram second None));
     }) host answer outside next
 
-  -- memory was short, and the block may have been drawn
+  -- out of memory, and the block may have been drawn
   pub record RunsOutAtFirst (answer : Answer) (outside : Outside) (next : Host D) : Type 0 where
     pub n : ℕ
     pub few : n ≤ 1

@@ -32,7 +32,7 @@ impl ShowRoom {
     }
 }
 
-/// Who has which leaf; `NeedsReopen` where that is so. Without memory nothing is answered.
+/// Who has which leaf; `NeedsReopen` where that is so. Out of memory, nothing is answered.
 pub fn show<D: Disk, G: Signer, R: Draws>(
     alloc: Global,
     core: &Core<D, G, R>,

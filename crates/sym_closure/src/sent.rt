@@ -45,7 +45,7 @@ impl Sent {
         }
     }
 
-    /// Takes in what a history sent since, of which it knows a beginning. Where there is no memory for that it still knows a beginning,
+    /// Takes in what a history sent since, of which it knows a beginning. Out of memory for that, it still knows a beginning,
     /// and a later call goes on.
     pub fn follow(&mut self, alloc: Global, history: &[Entry]) -> Result<(), NoMemory>
         requires { Knows self.old history.now }
@@ -61,7 +61,7 @@ impl Sent {
         }
     }
 
-    /// The same; but where there is no memory, it may have taken in a part of what an entry sent.
+    /// The same; but out of memory, it may have taken in a part of what an entry sent.
     fn take_in(&mut self, alloc: Global, history: &[Entry]) -> Result<(), NoMemory>
         requires { Knows self.old history.now }
         ensures { OnOk result (KnowsAll self.new history.now) }

@@ -12,7 +12,7 @@ use std::alloc::Global;
 /// Who has a leaf, if anybody has it.
 pub type Holder = Option<MemberName>;
 
-/// The leaves of a tree of this depth before anybody has one. `NoMemory` where there is none for them.
+/// The leaves of a tree of this depth before anybody has one. `NoMemory` if out of memory for them.
 pub fn nobody(alloc: Global, depth: u8) -> Result<List<Holder>, NoMemory>
     requires { depth ≤ 9 }
     ensures { IfOk result (λ holders. holders ≡ no_holders depth) }
@@ -37,7 +37,7 @@ pub fn place_of(holders: &[Holder], member: &MemberName) -> Option<usize>
     holders.iter().position(|holder| is_held_by(holder, member))
 }
 
-/// The leaves that nobody has. `NoMemory` where there is none for their marks.
+/// The leaves that nobody has. `NoMemory` if out of memory for their marks.
 pub fn free(alloc: Global, depth: u8, holders: &[Holder]) -> Result<LeafMarks, NoMemory>
     requires not_deep { depth ≤ 9 }
     requires leaves { length holders.now ≡ 2 ^ depth }
@@ -58,7 +58,7 @@ pub fn count_members(holders: &[Holder]) -> usize
     holders.iter().filter(|holder| holder.is_some()).count()
 }
 
-/// Who has which leaf after a batch. `NoMemory` where there is none for them.
+/// Who has which leaf after a batch. `NoMemory` if out of memory for them.
 pub fn after(alloc: Global, before: &[Holder], batch: &[Change]) -> Result<List<Holder>, NoMemory>
     ensures holders { IfOk result (λ after. after ≡ holders_after before.now batch.now) }
     ensures len { IfOk result (λ after. length after ≡ length before.now) }
@@ -128,7 +128,7 @@ fn lowest_free(holders: &[Holder]) -> Option<usize>
     holders.iter().position(|holder| holder.is_none())
 }
 
-/// For each leaf, whether who has it changed. `NoMemory` where there is none for them.
+/// For each leaf, whether who has it changed. `NoMemory` if out of memory for them.
 pub fn changed(alloc: Global, before: &[Holder], after: &[Holder]) -> Result<List<bool>, NoMemory>
     requires { length before.now ≡ length after.now }
     ensures leaves { IfOk result (λ leaves. leaves ≡ changed_leaves before.now after.now) }
@@ -141,7 +141,7 @@ pub fn changed(alloc: Global, before: &[Holder], after: &[Holder]) -> Result<Lis
     Ok(leaves)
 }
 
-/// For each leaf, whether somebody has it who had it before. `NoMemory` where there is none for them.
+/// For each leaf, whether somebody has it who had it before. `NoMemory` if out of memory for them.
 pub fn held_on(alloc: Global, before: &[Holder], after: &[Holder]) -> Result<List<bool>, NoMemory>
     requires { length before.now ≡ length after.now }
     ensures leaves { IfOk result (λ leaves. leaves ≡ unchanged_holders before.now after.now) }

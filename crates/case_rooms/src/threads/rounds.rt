@@ -1,3 +1,4 @@
+//! Threads that take turns at a desk, and the sum of all their turns.
 ghost use Rattle.std.specs.Prelude.{◌≡◌, ◌<◌, All};
 ghost use Rattle.std.specs.Thread.{IsSync};
 

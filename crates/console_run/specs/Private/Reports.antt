@@ -9,7 +9,7 @@ use Rattle.run_report.specs.declared.stops.Stop.TheVariants.{Line, Source, Sink,
 use Rattle.run_report.specs.declared.endings.Ending.TheVariants.{Sink as SinkEnding, Memory as MemoryEnding}
 use Rattle.run_report.specs.Reports.{BreaksOff, Puts}
 
--- because the sink failed, or because there was no memory for it; or it was reported, and memory ran out in it
+-- because the sink failed, or out of memory for it; or it was reported, and the request was out of memory
 abbrev pub EntryStops : Stop → Shown → Shown → Entry → Type 0
 EntryStops Line was now entry = ⊥
 EntryStops Source was now entry = ⊥

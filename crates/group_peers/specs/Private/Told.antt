@@ -7,7 +7,7 @@ use Rattle.group_peers.specs.declared.pulled.Pulled.TheVariants.{Ignored, Told}
 use Rattle.member_pull.specs.declared.refusals.PullRefusal.{PullRefusal}
 use Rattle.member_pull.specs.declared.refusals.PullRefusal.TheVariants as refusals
 
--- keys, or nothing that was waited for; or memory was short
+-- keys, or nothing that was waited for; or out of memory
 abbrev pub IsPulledBy : Result Keyed PullRefusal → Result Pulled NoMemory → Type 0
 IsPulledBy (Ok keyed) result = result ≡ Ok (Told keyed)
 IsPulledBy (Err refusals.NoMemory) result = IsErr result

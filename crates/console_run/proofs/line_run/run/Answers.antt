@@ -27,7 +27,7 @@ returns-in-Nothing-clause-runs g c =
     subst (λ line. Runs g.D.Disk g.R.Draws peers (by_line on line) held held seen seen) (sym c.in-Nothing.is)
     (Runs-nothing on g.R.Draws peers held seen c.requires.rest)
 
--- a call that had no memory left all as it was
+-- a call that was out of memory left all as it was
 unchanged : {T E H : Type 0} (old new held : H) (call : Result T E) (error : E) → new ≡ held → call ≡ Err error → OnErr call (held ≡ old) → new ≡ old
 unchanged old new held call error same failed stays = same ∙ IfErr-at_err (λ _. held ≡ old) failed stays
 

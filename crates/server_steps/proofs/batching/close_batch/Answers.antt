@@ -39,7 +39,7 @@ returns-in_err-prepared-clause-sound g c =
     let V = View g.row.D.Denot g.row.G.Denot g.row.R.Denot in
     subst (λ (core : V). JoinsHaveSessions core.queue c.args.sessions.now.sas) (sym c.in_err-prepared.ensures.rest) c.requires
 
--- ---- no memory was left for the replies
+-- ---- out of memory for the replies
 
 pub returns-in-Err-clause-serves : goal.returns-in-Err-clause-serves
 returns-in-Err-clause-serves g c rule_list =
