@@ -1,8 +1,9 @@
 -- Laws of what a crash leaves between two moments of a disk.
 use Rattle.std.specs.Prelude.{◌≡◌, ◌≤◌, ◌↔◌, ℕ, Bool, true, false, List, Option, None, Some, IsSome, if◌then◌else◌}
-use Rattle.std.proofs.Common.{inl, inr, ⊎_elim, ◌∙◌, refl, arith}
-use Rattle.gd_disk.specs.Disks.{Elapses}
-use Rattle.gd_disk.specs.Moments.{shown, Keeps, LeavesOnly}
+use Rattle.std.proofs.Common.{inl, inr, ⊎_elim, ◌∙◌, refl, subst, arith}
+use Rattle.group_terms.specs.Faults.{Rose}
+use Rattle.gd_disk.specs.Disks.{Elapses, Knows}
+use Rattle.gd_disk.specs.Moments.{shown, Keeps, LeavesOnly, OnlyReads, ReportsFaults}
 use Rattle.gd_disk.specs.declared.disks.Disk.{Ghosts}
 
 module _ {D : Type 0} (g : Ghosts D) where
@@ -44,6 +45,32 @@ module _ {D : Type 0} (g : Ghosts D) where
     honest = second.honest ∙ first.honest;
     exposed = (λ some. first.exposed.0 (second.exposed.0 some), λ some. second.exposed.1 (first.exposed.1 some));
     counted = omega (arith, first.counted, second.counted);
+  }
+
+-- another word for a fault
+module _ {D : Type 0} (g : Ghosts D) (old new : D) (first second : Type 0) (to : first → second) (from : second → first) where
+  pub faults_as : ReportsFaults g first old new → ReportsFaults g second old new
+  faults_as one = record { cause = λ fault. one.cause (from fault); no_fault = λ no. one.no_fault (λ fault. no (to fault)); keeps = one.keeps }
+
+  pub reads_as : OnlyReads g first old new → OnlyReads g second old new
+  reads_as one = record { reports = faults_as one.reports; same = one.same; any_moment = one.any_moment }
+
+-- a call without a fault, and then another
+module _ {D : Type 0} (g : Ghosts D) (old mid new : D) (first second : Type 0) where
+  pub faults-joined : ReportsFaults g first old mid → (first → ⊥) → ReportsFaults g second mid new → ReportsFaults g second old new
+  faults-joined one goes two = record {
+    cause = λ failed. subst (λ n. Rose n (g.faults new)) (one.no_fault goes) (two.cause failed);
+    no_fault = λ not. two.no_fault not ∙ one.no_fault goes;
+    keeps = keeps-joined g old mid new one.keeps two.keeps;
+  }
+
+  -- where the first one only reads, and a crash in the second leaves no more than before
+  pub reads-joined : OnlyReads g first old mid → (first → ⊥) → ReportsFaults g second mid new → shown g new ≡ shown g mid
+      → Knows (shown g old) (λ _. LeavesOnly g mid new (g.may_leave old)) → OnlyReads g second old new
+  reads-joined one goes two same left = record {
+    reports = faults-joined one.reports goes two;
+    same = same ∙ one.same;
+    any_moment = λ file is. joined g old mid new (g.may_leave old) (one.any_moment file is) (left file is);
   }
 
 -- what a crash leaves now has the property

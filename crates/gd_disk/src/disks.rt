@@ -43,7 +43,7 @@ pub trait Disk {
         ensures honest { honest self.new ≡ honest self.old }
         ensures exposed { IsSome (image self.new) ↔ IsSome (image self.old) }
         ensures cause { OnErr result (Rose (faults self.old) (faults self.new)) }
-        ensures stands { OnOk result (faults self.new ≡ faults self.old) }
+        ensures no_fault { OnOk result (faults self.new ≡ faults self.old) }
         ensures counted { faults self.old ≤ faults self.new };
 
     /// Writes the octets over those at a place, and past the end. Where it fails, any part may be
@@ -62,7 +62,7 @@ pub trait Disk {
         ensures honest { honest self.new ≡ honest self.old }
         ensures exposed { IsSome (image self.new) ↔ IsSome (image self.old) }
         ensures cause { OnErr result (Rose (faults self.old) (faults self.new)) }
-        ensures stands { OnOk result (faults self.new ≡ faults self.old) }
+        ensures no_fault { OnOk result (faults self.new ≡ faults self.old) }
         ensures counted { faults self.old ≤ faults self.new };
 
     /// Cuts all octets from a place on. Where it fails, they may be cut in part.
@@ -79,7 +79,7 @@ pub trait Disk {
         ensures honest { honest self.new ≡ honest self.old }
         ensures exposed { IsSome (image self.new) ↔ IsSome (image self.old) }
         ensures cause { OnErr result (Rose (faults self.old) (faults self.new)) }
-        ensures stands { OnOk result (faults self.new ≡ faults self.old) }
+        ensures no_fault { OnOk result (faults self.new ≡ faults self.old) }
         ensures counted { faults self.old ≤ faults self.new };
 
     /// Waits until all octets are on the device: from then on a crash leaves what a read gives.
@@ -94,7 +94,7 @@ pub trait Disk {
         ensures honest { honest self.new ≡ honest self.old }
         ensures exposed { IsSome (image self.new) ↔ IsSome (image self.old) }
         ensures cause { OnErr result (Rose (faults self.old) (faults self.new)) }
-        ensures stands { OnOk result (faults self.new ≡ faults self.old) }
+        ensures no_fault { OnOk result (faults self.new ≡ faults self.old) }
         ensures counted { faults self.old ≤ faults self.new };
 
     /// What a read gives is an image that a crash may leave.

@@ -42,7 +42,7 @@ impl Disk for MemDisk {
         ensures honest { true ≡ true }
         ensures exposed { IsSome (Some self.new.image) ↔ IsSome (Some self.old.image) }
         ensures cause { OnErr result (Rose self.old.faults self.new.faults) }
-        ensures stands { OnOk result (self.new.faults ≡ self.old.faults) }
+        ensures no_fault { OnOk result (self.new.faults ≡ self.old.faults) }
         ensures counted { self.old.faults ≤ self.new.faults }
         ensures done { OnOk result (self.new ≡ called self.old) }
         ensures undone { OnErr result (self.new ≡ failing self.old) }
@@ -68,7 +68,7 @@ impl Disk for MemDisk {
         ensures honest { true ≡ true }
         ensures exposed { IsSome (Some self.new.image) ↔ IsSome (Some self.old.image) }
         ensures cause { OnErr result (Rose self.old.faults self.new.faults) }
-        ensures stands { OnOk result (self.new.faults ≡ self.old.faults) }
+        ensures no_fault { OnOk result (self.new.faults ≡ self.old.faults) }
         ensures counted { self.old.faults ≤ self.new.faults }
         ensures done { OnOk result (self.new ≡ wrote self.old at octets.now) }
         ensures undone { OnErr result (self.new ≡ failing self.old) }
@@ -93,7 +93,7 @@ impl Disk for MemDisk {
         ensures honest { true ≡ true }
         ensures exposed { IsSome (Some self.new.image) ↔ IsSome (Some self.old.image) }
         ensures cause { OnErr result (Rose self.old.faults self.new.faults) }
-        ensures stands { OnOk result (self.new.faults ≡ self.old.faults) }
+        ensures no_fault { OnOk result (self.new.faults ≡ self.old.faults) }
         ensures counted { self.old.faults ≤ self.new.faults }
         ensures done { OnOk result (self.new ≡ shortened self.old to) }
         ensures undone { OnErr result (self.new ≡ failing self.old) }
@@ -116,7 +116,7 @@ impl Disk for MemDisk {
         ensures honest { true ≡ true }
         ensures exposed { IsSome (Some self.new.image) ↔ IsSome (Some self.old.image) }
         ensures cause { OnErr result (Rose self.old.faults self.new.faults) }
-        ensures stands { OnOk result (self.new.faults ≡ self.old.faults) }
+        ensures no_fault { OnOk result (self.new.faults ≡ self.old.faults) }
         ensures counted { self.old.faults ≤ self.new.faults }
         ensures done { OnOk result (self.new ≡ synced self.old) }
         ensures undone { OnErr result (self.new ≡ failing self.old) }
