@@ -9,7 +9,7 @@ use group_terms::counted_on;
 pub(crate) fn counted<T>(faults: &mut u64, answer: Result<T, Failed>) -> Result<T, Failed>
     ensures same { result ≡ answer }
     ensures cause { OnErr result (Rose faults.old faults.new) }
-    ensures stands { OnOk result (faults.new ≡ faults.old) }
+    ensures no_fault { OnOk result (faults.new ≡ faults.old) }
     ensures no_less { faults.old ≤ faults.new }
 {
     match answer {

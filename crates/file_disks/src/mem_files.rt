@@ -136,7 +136,7 @@ impl MemFile {
 /// Counts a call that opens, locks or lists, which fails where it is listed.
 fn step(steps: &mut Schedule) -> Result<(), Failed>
     ensures cause { OnErr result (Rose steps.old.faults steps.new.faults) }
-    ensures stands { OnOk result (steps.new.faults ≡ steps.old.faults) }
+    ensures no_fault { OnOk result (steps.new.faults ≡ steps.old.faults) }
     ensures counted { steps.old.faults ≤ steps.new.faults }
 {
     if steps.call() {

@@ -111,7 +111,7 @@ impl<F: FolderFile> Disk for OverFile<F> {
         ensures honest { F.honest self.new.file ≡ F.honest self.old.file }
         ensures exposed { IsSome (F.image self.new.file) ↔ IsSome (F.image self.old.file) }
         ensures cause { OnErr result (Rose self.old.faults self.new.faults) }
-        ensures stands { OnOk result (self.new.faults ≡ self.old.faults) }
+        ensures no_fault { OnOk result (self.new.faults ≡ self.old.faults) }
         ensures counted { self.old.faults ≤ self.new.faults }
         ensures own { OnErr result ((self.old.lost ≡ true) ⊎ Rose (F.faults self.old.file) (F.faults self.new.file)) }
         ensures ended { self.old.lost ≡ true → IsErr result × (self.new.lost ≡ true) }
@@ -135,7 +135,7 @@ impl<F: FolderFile> Disk for OverFile<F> {
         ensures honest { F.honest self.new.file ≡ F.honest self.old.file }
         ensures exposed { IsSome (F.image self.new.file) ↔ IsSome (F.image self.old.file) }
         ensures cause { OnErr result (Rose self.old.faults self.new.faults) }
-        ensures stands { OnOk result (self.new.faults ≡ self.old.faults) }
+        ensures no_fault { OnOk result (self.new.faults ≡ self.old.faults) }
         ensures counted { self.old.faults ≤ self.new.faults }
         ensures own { OnErr result (((self.old.lost ≡ true) ⊎ Rose (F.faults self.old.file) (F.faults self.new.file))
             ⊎ (2 ^ 62 < at + length octets.now)) }
@@ -159,7 +159,7 @@ impl<F: FolderFile> Disk for OverFile<F> {
         ensures honest { F.honest self.new.file ≡ F.honest self.old.file }
         ensures exposed { IsSome (F.image self.new.file) ↔ IsSome (F.image self.old.file) }
         ensures cause { OnErr result (Rose self.old.faults self.new.faults) }
-        ensures stands { OnOk result (self.new.faults ≡ self.old.faults) }
+        ensures no_fault { OnOk result (self.new.faults ≡ self.old.faults) }
         ensures counted { self.old.faults ≤ self.new.faults }
         ensures own { OnErr result ((self.old.lost ≡ true) ⊎ Rose (F.faults self.old.file) (F.faults self.new.file)) }
         ensures ended { self.old.lost ≡ true → IsErr result × (self.new.lost ≡ true) }
@@ -181,7 +181,7 @@ impl<F: FolderFile> Disk for OverFile<F> {
         ensures honest { F.honest self.new.file ≡ F.honest self.old.file }
         ensures exposed { IsSome (F.image self.new.file) ↔ IsSome (F.image self.old.file) }
         ensures cause { OnErr result (Rose self.old.faults self.new.faults) }
-        ensures stands { OnOk result (self.new.faults ≡ self.old.faults) }
+        ensures no_fault { OnOk result (self.new.faults ≡ self.old.faults) }
         ensures counted { self.old.faults ≤ self.new.faults }
         ensures own { OnErr result ((self.old.lost ≡ true) ⊎ Rose (F.faults self.old.file) (F.faults self.new.file)) }
         ensures ended { self.old.lost ≡ true → IsErr result × (self.new.lost ≡ true) }

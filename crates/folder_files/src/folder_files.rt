@@ -45,7 +45,7 @@ pub trait FolderFile {
         ensures honest { honest self.new ≡ honest self.old }
         ensures exposed { IsSome (image self.new) ↔ IsSome (image self.old) }
         ensures cause { OnErr result (Rose (faults self.old) (faults self.new)) }
-        ensures stands { OnOk result (faults self.new ≡ faults self.old) }
+        ensures no_fault { OnOk result (faults self.new ≡ faults self.old) }
         ensures counted { faults self.old ≤ faults self.new };
 
     /// Takes the lock of the file, which no other process then has. Fails where another has it. Until it is taken others may change the file.
@@ -61,7 +61,7 @@ pub trait FolderFile {
         ensures honest { honest self.new ≡ honest self.old }
         ensures exposed { IsSome (image self.new) ↔ IsSome (image self.old) }
         ensures cause { OnErr result (Rose (faults self.old) (faults self.new)) }
-        ensures stands { OnOk result (faults self.new ≡ faults self.old) }
+        ensures no_fault { OnOk result (faults self.new ≡ faults self.old) }
         ensures counted { faults self.old ≤ faults self.new };
 
     /// Moves octets from a place on to the front of `into`, and says how many: perhaps fewer than are there and fit, but none only where
@@ -79,7 +79,7 @@ pub trait FolderFile {
         ensures honest { honest self.new ≡ honest self.old }
         ensures exposed { IsSome (image self.new) ↔ IsSome (image self.old) }
         ensures cause { OnErr result (Rose (faults self.old) (faults self.new)) }
-        ensures stands { OnOk result (faults self.new ≡ faults self.old) }
+        ensures no_fault { OnOk result (faults self.new ≡ faults self.old) }
         ensures counted { faults self.old ≤ faults self.new };
 
     /// Writes octets over those at a place, and past the end: the first of them, and says how many, at least one. Where it fails, any part
@@ -104,7 +104,7 @@ pub trait FolderFile {
         ensures honest { honest self.new ≡ honest self.old }
         ensures exposed { IsSome (image self.new) ↔ IsSome (image self.old) }
         ensures cause { OnErr result (Rose (faults self.old) (faults self.new)) }
-        ensures stands { OnOk result (faults self.new ≡ faults self.old) }
+        ensures no_fault { OnOk result (faults self.new ≡ faults self.old) }
         ensures counted { faults self.old ≤ faults self.new };
 
     /// Cuts all octets from a place on. Where it fails, they may be cut in part.
@@ -123,7 +123,7 @@ pub trait FolderFile {
         ensures honest { honest self.new ≡ honest self.old }
         ensures exposed { IsSome (image self.new) ↔ IsSome (image self.old) }
         ensures cause { OnErr result (Rose (faults self.old) (faults self.new)) }
-        ensures stands { OnOk result (faults self.new ≡ faults self.old) }
+        ensures no_fault { OnOk result (faults self.new ≡ faults self.old) }
         ensures counted { faults self.old ≤ faults self.new };
 
     /// Waits until all octets of the file are on the device. Where its folder has it there too, a loss of power from then on leaves what a
@@ -141,7 +141,7 @@ pub trait FolderFile {
         ensures honest { honest self.new ≡ honest self.old }
         ensures exposed { IsSome (image self.new) ↔ IsSome (image self.old) }
         ensures cause { OnErr result (Rose (faults self.old) (faults self.new)) }
-        ensures stands { OnOk result (faults self.new ≡ faults self.old) }
+        ensures no_fault { OnOk result (faults self.new ≡ faults self.old) }
         ensures counted { faults self.old ≤ faults self.new };
 
     /// Waits until the folder has the file on the device.
@@ -157,7 +157,7 @@ pub trait FolderFile {
         ensures honest { honest self.new ≡ honest self.old }
         ensures exposed { IsSome (image self.new) ↔ IsSome (image self.old) }
         ensures cause { OnErr result (Rose (faults self.old) (faults self.new)) }
-        ensures stands { OnOk result (faults self.new ≡ faults self.old) }
+        ensures no_fault { OnOk result (faults self.new ≡ faults self.old) }
         ensures counted { faults self.old ≤ faults self.new };
 
     /// Does nothing, and says that no file ends past 2^62.

@@ -2,8 +2,8 @@
 use Rattle.std.proofs.Common.{◌≡◌, ◌∙◌, ◌⊎◌, inl, inr, ℕ, false, List, [], ◌∷◌, ◌++◌, Option, None, Some, refl, sym, ap, subst, arith}
 use Rattle.std.specs.Prelude.{Result, Ok, Err, IfErr, IfSome, IsErrAnd, IsSome}
 use Rattle.gd_disk.specs.Disks.{Knows}
-use Rattle.gd_disk.specs.MomentLaws.{joined, keeps-joined, weaker}
-use Rattle.gd_disk.specs.Moments.{shown, Keeps, LeavesOnly}
+use Rattle.gd_disk.specs.MomentLaws.{joined, keeps-joined, reads-joined, weaker}
+use Rattle.gd_disk.specs.Moments.{shown, Keeps, LeavesOnly, OnlyReads, ReportsFaults}
 use Rattle.gd_disk.specs.declared.disks.Disk.{Ghosts}
 use Rattle.group_terms.specs.Faults.{Rose}
 use Rattle.group_terms.specs.declared.changes.Change.{Change}
@@ -145,12 +145,12 @@ none_there None not = refl
 none_there (Some a) not = absurd (not a refl)
 
 -- a disk on which a store was opened, and was then read
-pub then_read : {D : Type 0} (g : Ghosts D) (old mid new : D) (file : List ℕ) → ((f : List ℕ) → shown g old ≡ Some f → g.may_leave old f)
-    → shown g mid ≡ shown g old → shown g old ≡ Some file → LeavesOnly g old mid (g.may_leave old)
-    → Knows (shown g mid) (λ file. LeavesOnly g mid new (λ c. c ≡ file)) → LeavesOnly g old new (g.may_leave old)
-then_read g old mid new file stay same is first second =
-    joined g old mid new (g.may_leave old) first
-    (weaker g mid new (λ c. c ≡ file) (g.may_leave old) (λ c here. subst (g.may_leave old) (sym here) (stay file is)) (second file (same ∙ is)))
+pub then_read : {D : Type 0} (g : Ghosts D) (old mid new : D) → ((file : List ℕ) → shown g old ≡ Some file → g.may_leave old file)
+    → (first second : Type 0) → OnlyReads g first old mid → (first → ⊥) → ReportsFaults g second mid new → shown g new ≡ shown g mid
+    → Knows (shown g mid) (λ file. LeavesOnly g mid new (λ c. c ≡ file)) → OnlyReads g second old new
+then_read g old mid new stay first second opened goes reports same left =
+    reads-joined g old mid new first second opened goes reports same (λ file is.
+    weaker g mid new (λ c. c ≡ file) (g.may_leave old) (λ c here. subst (g.may_leave old) (sym here) (stay file is)) (left file (opened.same ∙ is)))
 
 -- a core says that there is no journal where its store says it, at the same place
 pub said_none : (why : JournalRefusal) (result : Refusal) → (why ≡ Closed → ⊥) → (why ≡ DiskFault → result ≡ refusals.DiskFault)
@@ -160,6 +160,14 @@ said_none Closed result not fault none memory at said = absurd (not refl)
 said_none DiskFault result not fault none memory at said = absurd (cc (fault refl, said))
 said_none (NotAJournal place) result not fault none memory at said = ap NotAJournal (cc (none place refl, said))
 said_none NoMemory result not fault none memory at said = absurd (cc (memory refl, said))
+
+-- it says that the disk failed where its store says it
+pub said_fault : (why : JournalRefusal) (result : Refusal) → (why ≡ Closed → ⊥) → ((at : ℕ) → why ≡ NotAJournal at → result ≡ refusals.NotAJournal at)
+    → (why ≡ NoMemory → result ≡ refusals.NoMemory) → result ≡ refusals.DiskFault → why ≡ DiskFault
+said_fault Closed result not none memory said = absurd (not refl)
+said_fault DiskFault result not none memory said = refl
+said_fault (NotAJournal place) result not none memory said = absurd (cc (none place refl, said))
+said_fault NoMemory result not none memory said = absurd (cc (memory refl, said))
 
 -- a file that has no head is no group's
 pub no_head : (shows : Option (List ℕ)) (at : ℕ)

@@ -1,5 +1,6 @@
 -- What making and opening a core answer.
-use Rattle.std.specs.Prelude.{ℕ, List, Result, Ok, Err}
+use Rattle.std.specs.Prelude.{◌≡◌, ℕ, List, Result, Ok, Err}
+use Rattle.group_model.specs.declared.entries.Refusal.TheVariants.{DiskFault}
 use Rattle.group_records.specs.declared.heads.Head.{Head}
 use Rattle.gcks_core.specs.declared.outputs.CoreOpened.{CoreOpened}
 use Rattle.gcks_core.specs.declared.outputs.NewGroup.{NewGroup}
@@ -19,3 +20,8 @@ core_disk (Err opening) = opening.parts.disk
 abbrev pub opened_disk : {D G R : Type 0} → Result (CoreOpened D G R) (Opening D G R) → D
 opened_disk (Ok opened) = opened.core.disk
 opened_disk (Err opening) = opening.parts.disk
+
+-- an answer that is a fault of the disk
+abbrev pub FoundFault : {T D G R : Type 0} → Result T (Opening D G R) → Type 0
+FoundFault (Ok made) = ⊥
+FoundFault (Err opening) = opening.refusal ≡ DiskFault

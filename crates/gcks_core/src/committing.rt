@@ -1,8 +1,7 @@
 //! Storing a batch that is ready.
-ghost use Rattle.std.specs.Prelude.{◌≡◌, [], ◌∷◌, ◌++◌, ℕ, List, Err, IfOk, OnOk, OnErr};
+ghost use Rattle.std.specs.Prelude.{◌≡◌, [], ◌∷◌, ◌++◌, ℕ, List, Err, IfOk, IfErr, OnOk, OnErr};
 ghost use Rattle.gd_disk.specs.Disks.{Knows};
-ghost use Rattle.gd_disk.specs.Moments.{shown, Keeps, LeavesOnly};
-ghost use Rattle.group_terms.specs.Faults.{Rose};
+ghost use Rattle.gd_disk.specs.Moments.{shown, LeavesOnly, ReportsFaults};
 ghost use Rattle.group_terms.specs.declared.changes.Change.{Change};
 ghost use Rattle.group_values.specs.Values.{Made, batches_made};
 ghost use Rattle.group_model.specs.declared.entries.Refusal.TheVariants.{DiskFault};
@@ -43,9 +42,8 @@ pub(crate) fn store_batch<D: Disk>(
         IsStorable head tree.old changes list ready → OnErr result (Knows (shown D.Disk store.new.disk)
         (IsGroupBeforeOrAfter head (stored_list head.depth list) (stored_after head.depth (batches_made list) (record { changes = changes; values = ready.values })))) }
     ensures err { OnErr result ((tree.new ≡ tree.old) × (kept.new ≡ kept.old)) }
-    ensures cause { OnErr result ((result ≡ Err DiskFault) × Rose (D.faults store.old.disk) (D.faults store.new.disk)) }
-    ensures stands { OnOk result (D.faults store.new.disk ≡ D.faults store.old.disk) }
-    ensures keeps { Keeps D.Disk store.old.disk store.new.disk }
+    ensures no_other { IfErr result (λ why. why ≡ DiskFault) }
+    ensures disk { ReportsFaults D.Disk (result ≡ Err DiskFault) store.old.disk store.new.disk }
 {
     a_file_has_one_group();
     let Prepared {

@@ -1,8 +1,7 @@
 //! The core, and its calls.
 ghost use Rattle.std.specs.Prelude.{◌≡◌, ◌⊎◌, ◌≤◌, [], ◌∷◌, ◌++◌, ℕ, List, true, false, None, Some, Ok, Err, IfOk, IfErr, OnOk, OnErr};
 ghost use Rattle.gd_disk.specs.Disks.{Knows, Only};
-ghost use Rattle.gd_disk.specs.Moments.{shown, Keeps, LeavesOnly};
-ghost use Rattle.group_terms.specs.Faults.{Rose};
+ghost use Rattle.gd_disk.specs.Moments.{shown, LeavesOnly, OnlyReads, ReportsFaults};
 ghost use Rattle.group_values.specs.Values.{Made};
 ghost use Rattle.group_model.specs.Places.{is_member};
 ghost use Rattle.group_model.specs.Servers.{Server, IsJoin, IsLeave, IsPreparation, IsStoring, IsReopening, opened_server, coming_batch, with_batch, in_doubt, halted};
@@ -140,10 +139,9 @@ impl<D: Disk, G: Signer, R: Draws> Core<D, G, R> {
         ensures any_moment { (server : Server) → Stands R.Draws self.old server → Knows (shown D.Disk self.old.disk) (λ file. IsFileOf self.old.head server file →
             LeavesOnly D.Disk self.old.disk self.new.disk (IsFileOf self.old.head (in_doubt server (coming_batch server prepared.values)))) }
         ensures rest { OnErr result (self.new ≡ record self.old { disk = self.new.disk; needs_reopen = true }) }
-        ensures cause { IfErr result (λ why. (why ≡ DiskFault) × Rose (D.faults self.old.disk) (D.faults self.new.disk)) }
-        ensures stands { OnOk result (D.faults self.new.disk ≡ D.faults self.old.disk) }
+        ensures no_other { IfErr result (λ why. why ≡ DiskFault) }
         ensures same { (self.new.signer ≡ self.old.signer) × (self.new.draws ≡ self.old.draws) × (self.new.head ≡ self.old.head) }
-        ensures keeps { Keeps D.Disk self.old.disk self.new.disk }
+        ensures disk { ReportsFaults D.Disk (result ≡ Err DiskFault) self.old.disk self.new.disk }
     {
         a_batch_that_fits_has_few_changes();
         match store_batch(&mut self.store, &mut self.tree, &mut self.kept, prepared) {
@@ -181,15 +179,11 @@ impl<D: Disk, G: Signer, R: Draws> Core<D, G, R> {
             × IsPairIfStayed G.Signer self.old.signer self.new.head.depth self.new.head.spi list resent) }
         ensures refused { (server : Server) → Stands R.Draws self.old server → OnErr result (Stands R.Draws self.new (halted server)) }
         ensures durable { (result ≡ Err DiskFault → ⊥) → Knows (shown D.Disk self.new.disk) (λ file. Only file (D.may_leave self.new.disk)) }
-        ensures any_moment { Knows (shown D.Disk self.old.disk) (λ _. LeavesOnly D.Disk self.old.disk self.new.disk (D.may_leave self.old.disk)) }
         ensures err { OnErr result (self.new ≡ record self.old { disk = self.new.disk; needs_reopen = true }) }
         ensures no_other { IfErr result (λ why. (why ≡ DiskFault) ⊎ ((why ≡ NoMemory) ⊎ ((at : ℕ) × (why ≡ NotAJournal at)))) }
-        ensures cause { result ≡ Err DiskFault → Rose (D.faults self.old.disk) (D.faults self.new.disk) }
-        ensures stands { (result ≡ Err DiskFault → ⊥) → D.faults self.new.disk ≡ D.faults self.old.disk }
         ensures broken { Knows (shown D.Disk self.old.disk) (λ file. (at : ℕ) → result ≡ Err (NotAJournal at) → IsNoGroup file at) }
-        ensures same { shown D.Disk self.new.disk ≡ shown D.Disk self.old.disk }
         ensures rest { (self.new.signer ≡ self.old.signer) × (self.new.draws ≡ self.old.draws) }
-        ensures keeps { Keeps D.Disk self.old.disk self.new.disk }
+        ensures reads { OnlyReads D.Disk (result ≡ Err DiskFault) self.old.disk self.new.disk }
     {
         a_file_has_one_group();
         match read_again(alloc, &mut self.store, &self.signer) {

@@ -1,8 +1,7 @@
 //! Making and opening a core.
-ghost use Rattle.std.specs.Prelude.{◌≡◌, ◌⊎◌, ◌≤◌, ◌<◌, [], ℕ, List, None, Some, Err, IfOk, IfErr, OnOk};
+ghost use Rattle.std.specs.Prelude.{◌≡◌, ◌⊎◌, ◌≤◌, ◌<◌, [], ℕ, List, None, Some, Err, IfOk, IfErr};
 ghost use Rattle.gd_disk.specs.Disks.{Knows, Only};
-ghost use Rattle.gd_disk.specs.Moments.{shown, Keeps, LeavesOnly};
-ghost use Rattle.group_terms.specs.Faults.{Rose};
+ghost use Rattle.gd_disk.specs.Moments.{shown, OnlyReads, ReportsFaults};
 ghost use Rattle.group_values.specs.Drawing.{next_place};
 ghost use Rattle.group_values.specs.Values.{Made};
 ghost use Rattle.group_model.specs.Servers.{opened_server};
@@ -13,7 +12,7 @@ ghost use Rattle.group_pushes.specs.Pairs.{IsPairIfStayed};
 ghost use Rattle.gcks_core.specs.Private.Cores.{IsGroupOf};
 ghost use Rattle.gcks_core.specs.Stands.{Stands};
 ghost use Rattle.gcks_core.specs.Stored.{IsOnDisk, stored_list};
-ghost use Rattle.gcks_core.specs.Openings.{core_disk, head_of, opened_disk};
+ghost use Rattle.gcks_core.specs.Openings.{core_disk, FoundFault, head_of, opened_disk};
 
 use crate::reading::{Found, read_all, refusal_of};
 use crate::{Core, CoreOpened, NewGroup, Opening, Parts, Queue, Refusal};
@@ -47,11 +46,9 @@ impl<D: Disk, G: Signer, R: Draws> Core<D, G, R> {
         ensures parts { IfErr result (λ opening. (opening.parts.signer ≡ parts.signer)
             × ((R.place_of opening.parts.draws ≡ R.place_of parts.draws) ⊎ (R.place_of opening.parts.draws ≡ next_place (R.place_of parts.draws)))
             × ((k : ℕ) → R.block_at opening.parts.draws k ≡ R.block_at parts.draws k)) }
-        ensures cause { IfErr result (λ opening. opening.refusal ≡ DiskFault → Rose (D.faults parts.disk) (D.faults opening.parts.disk)) }
         ensures no_other { IfErr result (λ opening. (opening.refusal ≡ DiskFault) ⊎ (opening.refusal ≡ OutOfMemory)) }
         ensures untouched { IfErr result (λ opening. opening.refusal ≡ OutOfMemory → opening.parts.disk ≡ parts.disk) }
-        ensures stands { OnOk result (D.faults (core_disk result) ≡ D.faults parts.disk) }
-        ensures keeps { Keeps D.Disk parts.disk (core_disk result) }
+        ensures disk { ReportsFaults D.Disk (FoundFault result) parts.disk (core_disk result) }
     {
         a_crash_may_leave_nothing_or_all();
         let Parts {
@@ -109,19 +106,14 @@ impl<D: Disk, G: Signer, R: Draws> Core<D, G, R> {
             × Knows (shown D.Disk parts.disk) (λ file. IsGroup file opened.core.head (stored_list opened.core.head.depth list))
             × IsPairIfStayed G.Signer parts.signer opened.core.head.depth opened.core.head.spi list opened.resent) }
         ensures durable { IfOk result (λ opened. Knows (shown D.Disk opened.core.disk) (λ file. Only file (D.may_leave opened.core.disk))) }
-        ensures any_moment { Knows (shown D.Disk parts.disk) (λ _. LeavesOnly D.Disk parts.disk (opened_disk result) (D.may_leave parts.disk)) }
-        ensures same { shown D.Disk (opened_disk result) ≡ shown D.Disk parts.disk }
         ensures others { IfOk result (λ opened. (opened.core.signer ≡ parts.signer) × (opened.core.draws ≡ parts.draws)) }
         ensures parts { IfErr result (λ opening. (opening.parts.signer ≡ parts.signer) × (opening.parts.draws ≡ parts.draws)) }
-        ensures cause { IfErr result (λ opening. opening.refusal ≡ DiskFault → Rose (D.faults parts.disk) (D.faults opening.parts.disk)) }
         ensures broken { IfErr result (λ opening. (at : ℕ) → opening.refusal ≡ NotAJournal at → Knows (shown D.Disk parts.disk) (λ file. IsNoGroup file at)) }
         ensures only { IfErr result (λ opening. (at : ℕ) → opening.refusal ≡ NotAJournal at →
             Knows (shown D.Disk parts.disk) (λ file. Only file (D.may_leave opening.parts.disk))) }
         ensures no_other { IfErr result (λ opening. (opening.refusal ≡ DiskFault) ⊎ ((opening.refusal ≡ OutOfMemory)
             ⊎ ((at : ℕ) × (opening.refusal ≡ NotAJournal at)))) }
-        ensures faultless { IfErr result (λ opening. (opening.refusal ≡ DiskFault → ⊥) → D.faults opening.parts.disk ≡ D.faults parts.disk) }
-        ensures stands { OnOk result (D.faults (opened_disk result) ≡ D.faults parts.disk) }
-        ensures keeps { Keeps D.Disk parts.disk (opened_disk result) }
+        ensures reads { OnlyReads D.Disk (FoundFault result) parts.disk (opened_disk result) }
     {
         let Parts {
             disk,

@@ -1,8 +1,7 @@
 //! Reading a journal from its first batch to its end.
 ghost use Rattle.std.specs.Prelude.{◌≡◌, ◌⊎◌, ◌<◌, ◌≤◌, ◌^◌, ◌+◌, [], ◌∷◌, ◌++◌, ℕ, List, false, true, None, Some, Ok, Err, length, IsSome, IfOk, IfErr, OnOk};
 ghost use Rattle.gd_disk.specs.Disks.{Knows, Only};
-ghost use Rattle.gd_disk.specs.Moments.{shown, Keeps, LeavesOnly};
-ghost use Rattle.group_terms.specs.Faults.{Rose};
+ghost use Rattle.gd_disk.specs.Moments.{shown, LeavesOnly, OnlyReads, ReportsFaults};
 ghost use Rattle.group_terms.specs.declared.changes.Change.{Change};
 ghost use Rattle.group_values.specs.Values.{KeepsLast, Made, batches_made};
 ghost use Rattle.group_model.specs.Present.{StandsFor};
@@ -59,9 +58,7 @@ pub(crate) fn read_all<D: Disk, G: Signer>(
     ensures any_moment { Knows (shown D.Disk store.old.disk) (λ file. LeavesOnly D.Disk store.old.disk store.new.disk (λ c. c ≡ file)) }
     ensures broken { IfErr result (λ why. (at : ℕ) → why ≡ NotAJournal at → Knows (shown D.Disk store.old.disk) (λ file. IsNoGroup file at)) }
     ensures no_other { IfErr result (λ why. why ≡ Closed → ⊥) }
-    ensures cause { result ≡ Err DiskFault → Rose (D.faults store.old.disk) (D.faults store.new.disk) }
-    ensures stands { (result ≡ Err DiskFault → ⊥) → D.faults store.new.disk ≡ D.faults store.old.disk }
-    ensures keeps { Keeps D.Disk store.old.disk store.new.disk }
+    ensures disk { ReportsFaults D.Disk (result ≡ Err DiskFault) store.old.disk store.new.disk }
 {
     store.prove_at_rest();
     let head = store.head();
@@ -82,13 +79,9 @@ pub(crate) fn read_again<D: Disk, G: Signer>(
     ensures found { IfOk result (λ found. (list : List Made) × IsGroupOf found.head found.tree found.kept list × IsAtEnd D.Disk store.new found.head list
         × IsPairIfStayed G.Signer signer.now found.head.depth found.head.spi list found.resent × (1 ≤ found.head.limit)) }
     ensures durable { (result ≡ Err DiskFault → ⊥) → Knows (shown D.Disk store.new.disk) (λ file. Only file (D.may_leave store.new.disk)) }
-    ensures same { shown D.Disk store.new.disk ≡ shown D.Disk store.old.disk }
-    ensures any_moment { Knows (shown D.Disk store.old.disk) (λ _. LeavesOnly D.Disk store.old.disk store.new.disk (D.may_leave store.old.disk)) }
     ensures broken { IfErr result (λ why. (at : ℕ) → why ≡ NotAJournal at → Knows (shown D.Disk store.old.disk) (λ file. IsNoGroup file at)) }
     ensures no_other { IfErr result (λ why. why ≡ Closed → ⊥) }
-    ensures cause { result ≡ Err DiskFault → Rose (D.faults store.old.disk) (D.faults store.new.disk) }
-    ensures stands { (result ≡ Err DiskFault → ⊥) → D.faults store.new.disk ≡ D.faults store.old.disk }
-    ensures keeps { Keeps D.Disk store.old.disk store.new.disk }
+    ensures reads { OnlyReads D.Disk (result ≡ Err DiskFault) store.old.disk store.new.disk }
 {
     store.reopen(alloc)?;
     read_all(alloc, store, signer)

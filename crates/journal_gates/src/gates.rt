@@ -1,8 +1,7 @@
 //! Writing after a clear commit mark.
-ghost use Rattle.std.specs.Prelude.{◌≡◌, ◌<◌, ◌≤◌, ◌+◌, ◌^◌, ◌++◌, [], ◌∷◌, ℕ, List, length, Some, OnOk, OnErr};
+ghost use Rattle.std.specs.Prelude.{◌≡◌, ◌<◌, ◌≤◌, ◌+◌, ◌^◌, ◌++◌, [], ◌∷◌, ℕ, List, length, Some, IsErr, OnOk, OnErr};
 ghost use Rattle.gd_disk.specs.Disks.{Knows, Only, Steps, Torn, written};
-ghost use Rattle.group_terms.specs.Faults.{Rose};
-ghost use Rattle.gd_disk.specs.Moments.{shown, Keeps, LeavesOnly};
+ghost use Rattle.gd_disk.specs.Moments.{shown, LeavesOnly, ReportsFaults};
 ghost use Rattle.journal_gates.specs.Gates.{IsSplit, IsGated, IsTorn};
 
 use gd_disk::{Disk, Failed, a_crash_may_leave_nothing_or_all};
@@ -26,9 +25,7 @@ pub fn write_gated<D: Disk>(disk: &mut D, gate: u64, piece: &[u8]) -> Result<(),
     ensures any_moment { (front : List ℕ) (shut : ℕ) (behind : List ℕ) → IsSplit (shown D.Disk disk.old) gate front shut behind →
         Only (front ++ shut ∷ behind) (D.may_leave disk.old) →
         LeavesOnly D.Disk disk.old disk.new (IsGated front shut piece.now behind) }
-    ensures stands { OnOk result (D.faults disk.new ≡ D.faults disk.old) }
-    ensures cause { OnErr result (Rose (D.faults disk.old) (D.faults disk.new)) }
-    ensures keeps { Keeps D.Disk disk.old disk.new }
+    ensures disk { ReportsFaults D.Disk (IsErr result) disk.old disk.new }
 {
     write_through(disk, gate + 1, piece)?;
     write_through(disk, gate, &[OPEN])?;
@@ -45,9 +42,7 @@ pub fn write_through<D: Disk>(disk: &mut D, at: u64, octets: &[u8]) -> Result<()
     ensures in_doubt { OnErr result (Steps (Torn at (length octets.now)) (shown D.Disk disk.old) (shown D.Disk disk.new)) }
     ensures any_moment { Knows (shown D.Disk disk.old)
         (λ _. LeavesOnly D.Disk disk.old disk.new (IsTorn at (length octets.now) (D.may_leave disk.old))) }
-    ensures stands { OnOk result (D.faults disk.new ≡ D.faults disk.old) }
-    ensures cause { OnErr result (Rose (D.faults disk.old) (D.faults disk.new)) }
-    ensures keeps { Keeps D.Disk disk.old disk.new }
+    ensures disk { ReportsFaults D.Disk (IsErr result) disk.old disk.new }
 {
     a_crash_may_leave_nothing_or_all();
     disk.write_at(at, octets)?;

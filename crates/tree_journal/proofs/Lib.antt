@@ -6,4 +6,5 @@ pub mod FrontLemmas
 pub mod HeadLemmas
 pub mod RecordLemmas
 pub mod StandLemmas
+pub mod SyncLemmas
 pub mod ViewLemmas

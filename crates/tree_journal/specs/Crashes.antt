@@ -6,6 +6,7 @@ use Rattle.gd_disk.specs.declared.disks.Disk.{Ghosts}
 use Rattle.tree_journal.specs.Records.{records}
 use Rattle.tree_journal.specs.Views.{View}
 use Rattle.tree_journal.specs.declared.refusals.FormatRefusal.{FormatRefusal}
+use Rattle.tree_journal.specs.declared.refusals.JournalRefusal.TheVariants.{DiskFault}
 
 -- a file that is shown is a journal with these bodies
 abbrev pub Opens : Option (List ℕ) → List (List ℕ) → Type 0
@@ -34,3 +35,8 @@ MakesJournal {D = D} g old new =
 abbrev pub disk_in : {D : Type 0} → Result (View D) (FormatRefusal D) → D
 disk_in (Ok journal) = journal.disk
 disk_in (Err refused) = refused.disk
+
+-- an answer that is a fault of the disk
+abbrev pub FoundFault : {T D : Type 0} → Result T (FormatRefusal D) → Type 0
+FoundFault (Ok made) = ⊥
+FoundFault (Err refused) = refused.why ≡ DiskFault

@@ -1,8 +1,7 @@
 //! Appending a record.
-ghost use Rattle.std.specs.Prelude.{◌≡◌, ◌⊎◌, ◌≤◌, ◌++◌, [], ◌∷◌, ◌+◌, ◌^◌, ℕ, List, length, take, true, false, Some, Ok, Err, is_err, if◌then◌else◌, IsSome, IfErr, OnOk, OnErr};
+ghost use Rattle.std.specs.Prelude.{◌≡◌, ◌⊎◌, ◌≤◌, ◌++◌, [], ◌∷◌, ◌+◌, ◌^◌, ℕ, List, length, take, true, false, Some, Ok, Err, is_err, if◌then◌else◌, IsSome, IsErr, IfErr, OnOk, OnErr};
 ghost use Rattle.gd_disk.specs.Disks.{Knows, Only, written};
-ghost use Rattle.group_terms.specs.Faults.{Rose};
-ghost use Rattle.gd_disk.specs.Moments.{shown, Keeps, LeavesOnly};
+ghost use Rattle.gd_disk.specs.Moments.{shown, LeavesOnly, ReportsFaults};
 ghost use Rattle.tree_journal.specs.Crashes.{Opens, IsBeforeOrAfter};
 ghost use Rattle.tree_journal.specs.Private.Fronts.{IsLast, IsReached, Stands};
 ghost use Rattle.tree_journal.specs.Records.{AreRecordsFrom, IsRecordAt, records, record_text, bodies_from, is_named};
@@ -44,16 +43,14 @@ impl<D: Disk> Journal<D> {
             Some (written (written file (end + 1) (record_text body.now ++ 0 ∷ [])) end (1 ∷ []))) }
         ensures closed { self.old.closed ≡ true → (result ≡ Err Closed) × (self.new ≡ self.old) }
         ensures refused { result ≡ Err Closed → self.old.closed ≡ true }
-        ensures cause { result ≡ Err DiskFault → Rose (D.faults self.old.disk) (D.faults self.new.disk) }
         ensures closes { OnErr result (self.new.closed ≡ true) }
         ensures goes_on { OnOk result (self.new.closed ≡ false) }
         ensures no_other { IfErr result (λ why. (why ≡ Closed) ⊎ (why ≡ DiskFault)) }
         ensures walked { IsSome self.old.end → IsSome self.new.end }
         ensures end { (end : ℕ) → self.old.end ≡ Some end →
             self.new.end ≡ Some (if is_err result then end else end + 5 + length body.now) }
-        ensures stands { OnOk result (D.faults self.new.disk ≡ D.faults self.old.disk) }
         ensures place { self.new.at ≡ self.old.at }
-        ensures keeps { Keeps D.Disk self.old.disk self.new.disk }
+        ensures disk { ReportsFaults D.Disk (result ≡ Err DiskFault) self.old.disk self.new.disk }
     {
         if self.closed {
             return Err(JournalRefusal::Closed);
@@ -104,9 +101,7 @@ fn write_record<D: Disk>(
         LeavesOnly D.Disk disk.old disk.new (IsBeforeOrAfter bodies body.now) }
     ensures in_doubt { (bodies : List (List ℕ)) → Opens (shown D.Disk disk.old) bodies →
         OnErr result (Knows (shown D.Disk disk.new) (IsBeforeOrAfter bodies body.now)) }
-    ensures unfaulted { OnOk result (D.faults disk.new ≡ D.faults disk.old) }
-    ensures cause { OnErr result (Rose (D.faults disk.old) (D.faults disk.new)) }
-    ensures keeps { Keeps D.Disk disk.old disk.new }
+    ensures disk { ReportsFaults D.Disk (IsErr result) disk.old disk.new }
     ensures size { length room.new ≡ length room.old }
 {
     put_together(room, body);

@@ -1,9 +1,8 @@
 //! Making and opening a journal.
-ghost use Rattle.std.specs.Prelude.{◌≡◌, ◌⊎◌, ◌≤◌, [], ◌∷◌, ◌++◌, ℕ, List, length, false, true, None, Some, Ok, Err, IfOk, IfErr, OnOk, OnErr};
+ghost use Rattle.std.specs.Prelude.{◌≡◌, ◌⊎◌, ◌≤◌, [], ◌∷◌, ◌++◌, ℕ, List, length, false, true, None, Some, Ok, Err, IsErr, IfOk, IfErr, OnOk, OnErr};
 ghost use Rattle.gd_disk.specs.Disks.{Knows, Only};
-ghost use Rattle.group_terms.specs.Faults.{Rose};
-ghost use Rattle.gd_disk.specs.Moments.{shown, Keeps, LeavesOnly};
-ghost use Rattle.tree_journal.specs.Crashes.{disk_in, Opens, IsCutOf, MakesJournal};
+ghost use Rattle.gd_disk.specs.Moments.{shown, LeavesOnly, OnlyReads, ReportsFaults};
+ghost use Rattle.tree_journal.specs.Crashes.{disk_in, FoundFault, Opens, IsCutOf, MakesJournal};
 ghost use Rattle.tree_journal.specs.Records.{records, bodies_from, is_named, front_text};
 ghost use Rattle.tree_journal.specs.declared.refusals.JournalRefusal.TheVariants.{DiskFault, NotAJournal, NoMemory as OutOfMemory};
 
@@ -29,11 +28,9 @@ impl<D: Disk> Journal<D> {
             (λ _. shown D.Disk journal.disk ≡ Some (front_text [] ++ 0 ∷ []))) }
         ensures moments { Knows (shown D.Disk disk) (λ _. MakesJournal D.Disk disk (disk_in result)) }
         ensures began { IfOk result (λ journal. journal ≡ record { disk = journal.disk; closed = false; at = 9; end = Some 9 }) }
-        ensures cause { IfErr result (λ refused. refused.why ≡ DiskFault → Rose (D.faults disk) (D.faults refused.disk)) }
         ensures untouched { IfErr result (λ refused. refused.why ≡ OutOfMemory → refused.disk ≡ disk) }
         ensures no_other { IfErr result (λ refused. (refused.why ≡ DiskFault) ⊎ (refused.why ≡ OutOfMemory)) }
-        ensures stands { OnOk result (D.faults (disk_in result) ≡ D.faults disk) }
-        ensures keeps { Keeps D.Disk disk (disk_in result) }
+        ensures disk { ReportsFaults D.Disk (FoundFault result) disk (disk_in result) }
     {
         a_crash_may_leave_nothing_or_all();
         let mut disk = disk;
@@ -64,17 +61,12 @@ impl<D: Disk> Journal<D> {
         ensures named { IfOk result (λ journal. Knows (shown D.Disk disk) (λ file. records file ≡ bodies_from file 9)) }
         ensures other { IfErr result (λ refused. (at : ℕ) → refused.why ≡ NotAJournal at →
             (at ≡ 0) × Knows (shown D.Disk disk) (λ file. records file ≡ Err 0)) }
-        ensures same { shown D.Disk (disk_in result) ≡ shown D.Disk disk }
-        ensures any_moment { Knows (shown D.Disk disk) (λ _. LeavesOnly D.Disk disk (disk_in result) (D.may_leave disk)) }
         ensures began { IfOk result (λ journal. journal ≡ record { disk = journal.disk; closed = false; at = 9; end = None }) }
-        ensures cause { IfErr result (λ refused. refused.why ≡ DiskFault → Rose (D.faults disk) (D.faults refused.disk)) }
         ensures untouched { IfErr result (λ refused. refused.why ≡ OutOfMemory → refused.disk ≡ disk) }
         ensures no_other { IfErr result (λ refused. (refused.why ≡ DiskFault) ⊎ ((refused.why ≡ NotAJournal 0) ⊎ (refused.why ≡ OutOfMemory))) }
-        ensures stands { OnOk result (D.faults (disk_in result) ≡ D.faults disk) }
-        ensures stands_too { IfErr result (λ refused. refused.why ≡ NotAJournal 0 → D.faults refused.disk ≡ D.faults disk) }
         ensures only { IfErr result (λ refused. refused.why ≡ NotAJournal 0 →
             Knows (shown D.Disk disk) (λ file. Only file (D.may_leave refused.disk))) }
-        ensures keeps { Keeps D.Disk disk (disk_in result) }
+        ensures reads { OnlyReads D.Disk (FoundFault result) disk (disk_in result) }
     {
         let Ok(piece) = room(alloc) else {
             return Err(FormatRefusal {
@@ -106,17 +98,12 @@ impl<D: Disk> Journal<D> {
         ensures named { OnOk result (Knows (shown D.Disk self.old.disk) (λ file. records file ≡ bodies_from file 9)) }
         ensures other { IfErr result (λ why. (at : ℕ) → why ≡ NotAJournal at →
             (at ≡ 0) × Knows (shown D.Disk self.old.disk) (λ file. records file ≡ Err 0)) }
-        ensures same { shown D.Disk self.new.disk ≡ shown D.Disk self.old.disk }
-        ensures any_moment { Knows (shown D.Disk self.old.disk)
-            (λ _. LeavesOnly D.Disk self.old.disk self.new.disk (D.may_leave self.old.disk)) }
         ensures began { OnOk result (self.new ≡ record { disk = self.new.disk; closed = false; at = 9; end = None }) }
         ensures closes { OnErr result (self.new ≡ record self.old { disk = self.new.disk; closed = true }) }
-        ensures cause { result ≡ Err DiskFault → Rose (D.faults self.old.disk) (D.faults self.new.disk) }
         ensures no_other { IfErr result (λ why. (why ≡ DiskFault) ⊎ (why ≡ NotAJournal 0)) }
-        ensures stands { (result ≡ Err DiskFault → ⊥) → D.faults self.new.disk ≡ D.faults self.old.disk }
         ensures durable { (result ≡ Err DiskFault → ⊥) →
             Knows (shown D.Disk self.new.disk) (λ file. Only file (D.may_leave self.new.disk)) }
-        ensures keeps { Keeps D.Disk self.old.disk self.new.disk }
+        ensures reads { OnlyReads D.Disk (result ≡ Err DiskFault) self.old.disk self.new.disk }
     {
         self.closed = true;
         match read_name(&mut self.disk, self.piece.as_mut_slice()) {
@@ -137,9 +124,7 @@ fn begin_file<D: Disk>(disk: &mut D) -> Result<(), Failed>
     ensures octets { OnOk result (Knows (shown D.Disk disk.old) (λ _. shown D.Disk disk.new ≡ Some (front_text [] ++ 0 ∷ []))) }
     ensures durable { OnOk result (Knows (shown D.Disk disk.new) (λ file. Only file (D.may_leave disk.new))) }
     ensures moments { Knows (shown D.Disk disk.old) (λ _. MakesJournal D.Disk disk.old disk.new) }
-    ensures stands { OnOk result (D.faults disk.new ≡ D.faults disk.old) }
-    ensures cause { OnErr result (Rose (D.faults disk.old) (D.faults disk.new)) }
-    ensures keeps { Keeps D.Disk disk.old disk.new }
+    ensures disk { ReportsFaults D.Disk (IsErr result) disk.old disk.new }
 {
     shut_file(disk)?;
     write_gated(disk, 0, &NAME)?;
@@ -151,9 +136,7 @@ fn shut_file<D: Disk>(disk: &mut D) -> Result<(), Failed>
     ensures octets { OnOk result (Knows (shown D.Disk disk.old) (λ _. shown D.Disk disk.new ≡ Some (0 ∷ []))) }
     ensures durable { OnOk result (Knows (shown D.Disk disk.new) (λ file. Only file (D.may_leave disk.new))) }
     ensures any_moment { Knows (shown D.Disk disk.old) (λ _. LeavesOnly D.Disk disk.old disk.new (IsCutOf (D.may_leave disk.old))) }
-    ensures stands { OnOk result (D.faults disk.new ≡ D.faults disk.old) }
-    ensures cause { OnErr result (Rose (D.faults disk.old) (D.faults disk.new)) }
-    ensures keeps { Keeps D.Disk disk.old disk.new }
+    ensures disk { ReportsFaults D.Disk (IsErr result) disk.old disk.new }
 {
     a_crash_may_leave_nothing_or_all();
     disk.cut(0)?;
@@ -166,11 +149,7 @@ fn read_name<D: Disk>(disk: &mut D, room: &mut [u8]) -> Result<bool, Failed>
     requires { 9 ≤ length room.old }
     ensures named { IfOk result (λ yes. Knows (shown D.Disk disk.old) (λ file. yes ≡ is_named file)) }
     ensures durable { OnOk result (Knows (shown D.Disk disk.new) (λ file. Only file (D.may_leave disk.new))) }
-    ensures same { shown D.Disk disk.new ≡ shown D.Disk disk.old }
-    ensures any_moment { Knows (shown D.Disk disk.old) (λ _. LeavesOnly D.Disk disk.old disk.new (D.may_leave disk.old)) }
-    ensures stands { OnOk result (D.faults disk.new ≡ D.faults disk.old) }
-    ensures cause { OnErr result (Rose (D.faults disk.old) (D.faults disk.new)) }
-    ensures keeps { Keeps D.Disk disk.old disk.new }
+    ensures reads { OnlyReads D.Disk (IsErr result) disk.old disk.new }
     ensures size { length room.new ≡ length room.old }
 {
     disk.sync()?;

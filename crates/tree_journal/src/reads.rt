@@ -1,8 +1,7 @@
 //! Reading the records.
-ghost use Rattle.std.specs.Prelude.{◌≡◌, ◌<◌, ◌≤◌, ◌^◌, ◌+◌, ◌∷◌, [], ℕ, List, length, min, nat_le, ◌-◌, ◌⊎◌, if◌then◌else◌, take, drop, true, false, None, Some, IsTrue, Ok, Err, IfSome, IfOk, IfErr, OnOk, OnErr};
+ghost use Rattle.std.specs.Prelude.{◌≡◌, ◌<◌, ◌≤◌, ◌^◌, ◌+◌, ◌∷◌, [], ℕ, List, length, min, nat_le, ◌-◌, ◌⊎◌, if◌then◌else◌, take, drop, true, false, None, Some, IsTrue, Ok, Err, IsErr, IfSome, IfOk, IfErr, OnErr};
 ghost use Rattle.gd_disk.specs.Disks.{Knows};
-ghost use Rattle.group_terms.specs.Faults.{Rose};
-ghost use Rattle.gd_disk.specs.Moments.{shown, Keeps, LeavesOnly};
+ghost use Rattle.gd_disk.specs.Moments.{shown, LeavesOnly, OnlyReads, ReportsFaults};
 ghost use Rattle.tree_journal.specs.Private.Found.{IsFound, IsNear, IsShort, IsShortRecord, near_octets};
 ghost use Rattle.journal_gates.specs.Heads.{head_in};
 ghost use Rattle.tree_journal.specs.Records.{IsRecordAt, bodies_from, with_front};
@@ -70,11 +69,9 @@ impl<D: Disk> Journal<D> {
             (λ file. LeavesOnly D.Disk self.old.disk self.new.disk (λ c. c ≡ file)) }
         ensures closed { self.old.closed ≡ true → (result ≡ Err Closed) × (self.new ≡ self.old) }
         ensures refused { result ≡ Err Closed → self.old.closed ≡ true }
-        ensures cause { result ≡ Err DiskFault → Rose (D.faults self.old.disk) (D.faults self.new.disk) }
         ensures closes { result ≡ Err DiskFault → self.new.closed ≡ true }
         ensures goes_on { (result ≡ Err DiskFault → ⊥) → self.new.closed ≡ self.old.closed }
-        ensures stands { (result ≡ Err DiskFault → ⊥) → D.faults self.new.disk ≡ D.faults self.old.disk }
-        ensures keeps { Keeps D.Disk self.old.disk self.new.disk }
+        ensures disk { ReportsFaults D.Disk (result ≡ Err DiskFault) self.old.disk self.new.disk }
     {
         if !self.peek(alloc, body)? {
             return Ok(false);
@@ -102,11 +99,9 @@ impl<D: Disk> Journal<D> {
             (λ file. LeavesOnly D.Disk self.old.disk self.new.disk (λ c. c ≡ file)) }
         ensures closed { self.old.closed ≡ true → (result ≡ Err Closed) × (self.new ≡ self.old) }
         ensures refused { result ≡ Err Closed → self.old.closed ≡ true }
-        ensures cause { result ≡ Err DiskFault → Rose (D.faults self.old.disk) (D.faults self.new.disk) }
         ensures closes { result ≡ Err DiskFault → self.new.closed ≡ true }
         ensures goes_on { (result ≡ Err DiskFault → ⊥) → self.new.closed ≡ self.old.closed }
-        ensures stands { (result ≡ Err DiskFault → ⊥) → D.faults self.new.disk ≡ D.faults self.old.disk }
-        ensures keeps { Keeps D.Disk self.old.disk self.new.disk }
+        ensures disk { ReportsFaults D.Disk (result ≡ Err DiskFault) self.old.disk self.new.disk }
     {
         if self.closed {
             return Err(JournalRefusal::Closed);
@@ -149,9 +144,7 @@ impl<D: Disk> Journal<D> {
         ensures ok { (result ≡ Err DiskFault → ⊥) → self.new ≡ record self.old { disk = self.new.disk } }
         ensures closes { result ≡ Err DiskFault → self.new ≡ record self.old { disk = self.new.disk; closed = true } }
         ensures no_other { IfErr result (λ why. (why ≡ DiskFault) ⊎ (why ≡ OutOfMemory)) }
-        ensures stands { (result ≡ Err DiskFault → ⊥) → D.faults self.new.disk ≡ D.faults self.old.disk }
-        ensures cause { result ≡ Err DiskFault → Rose (D.faults self.old.disk) (D.faults self.new.disk) }
-        ensures keeps { Keeps D.Disk self.old.disk self.new.disk }
+        ensures disk { ReportsFaults D.Disk (result ≡ Err DiskFault) self.old.disk self.new.disk }
     {
         let found = found_at(alloc, &mut self.disk, self.at, self.piece.as_mut_slice());
         if matches!(found, Err(JournalRefusal::DiskFault)) {
@@ -174,13 +167,9 @@ fn found_at<D: Disk>(
     ensures memory { result ≡ Err OutOfMemory → Knows (shown D.Disk disk.old) (λ file. (body : List ℕ) × IsRecordAt file at body) }
     ensures short { IfOk result IsShortRecord }
     ensures far { 2 ^ 62 ≤ at → IfOk result (λ found. found ≡ Nothing) }
-    ensures same { shown D.Disk disk.new ≡ shown D.Disk disk.old }
-    ensures any_moment { Knows (shown D.Disk disk.old) (λ _. LeavesOnly D.Disk disk.old disk.new (D.may_leave disk.old)) }
     ensures crash { Knows (shown D.Disk disk.old) (λ _. (c : List ℕ) → D.may_leave disk.new c → D.may_leave disk.old c) }
     ensures no_other { IfErr result (λ why. (why ≡ DiskFault) ⊎ (why ≡ OutOfMemory)) }
-    ensures stands { (result ≡ Err DiskFault → ⊥) → D.faults disk.new ≡ D.faults disk.old }
-    ensures cause { result ≡ Err DiskFault → Rose (D.faults disk.old) (D.faults disk.new) }
-    ensures keeps { Keeps D.Disk disk.old disk.new }
+    ensures reads { OnlyReads D.Disk (result ≡ Err DiskFault) disk.old disk.new }
     ensures size { length room.new ≡ length room.old }
 {
     match near_at(alloc, disk, at, room)? {
@@ -201,13 +190,9 @@ fn near_at<D: Disk>(
     ensures memory { result ≡ Err OutOfMemory → Knows (shown D.Disk disk.old) (λ file. (body : List ℕ) × IsRecordAt file at body) }
     ensures short { IfOk result IsShort }
     ensures far { 2 ^ 62 ≤ at → IfOk result (λ near. near ≡ Whole Nothing) }
-    ensures same { shown D.Disk disk.new ≡ shown D.Disk disk.old }
-    ensures any_moment { Knows (shown D.Disk disk.old) (λ _. LeavesOnly D.Disk disk.old disk.new (D.may_leave disk.old)) }
     ensures crash { Knows (shown D.Disk disk.old) (λ _. (c : List ℕ) → D.may_leave disk.new c → D.may_leave disk.old c) }
     ensures no_other { IfErr result (λ why. (why ≡ DiskFault) ⊎ (why ≡ OutOfMemory)) }
-    ensures stands { (result ≡ Err DiskFault → ⊥) → D.faults disk.new ≡ D.faults disk.old }
-    ensures cause { result ≡ Err DiskFault → Rose (D.faults disk.old) (D.faults disk.new) }
-    ensures keeps { Keeps D.Disk disk.old disk.new }
+    ensures reads { OnlyReads D.Disk (result ≡ Err DiskFault) disk.old disk.new }
     ensures size { length room.new ≡ length room.old }
 {
     let count = read_front(disk, at, room, NEAR)?;
@@ -229,13 +214,9 @@ fn begun_at<D: Disk>(
     ensures found { IfOk result (λ found. Knows (shown D.Disk disk.old) (λ file. IsFound file at found)) }
     ensures memory { result ≡ Err OutOfMemory → Knows (shown D.Disk disk.old) (λ file. (body : List ℕ) × IsRecordAt file at body) }
     ensures short { IfOk result IsShortRecord }
-    ensures same { shown D.Disk disk.new ≡ shown D.Disk disk.old }
-    ensures any_moment { Knows (shown D.Disk disk.old) (λ _. LeavesOnly D.Disk disk.old disk.new (D.may_leave disk.old)) }
     ensures crash { Knows (shown D.Disk disk.old) (λ _. (c : List ℕ) → D.may_leave disk.new c → D.may_leave disk.old c) }
     ensures no_other { IfErr result (λ why. (why ≡ DiskFault) ⊎ (why ≡ OutOfMemory)) }
-    ensures stands { (result ≡ Err DiskFault → ⊥) → D.faults disk.new ≡ D.faults disk.old }
-    ensures cause { result ≡ Err DiskFault → Rose (D.faults disk.old) (D.faults disk.new) }
-    ensures keeps { Keeps D.Disk disk.old disk.new }
+    ensures reads { OnlyReads D.Disk (result ≡ Err DiskFault) disk.old disk.new }
     ensures size { length room.new ≡ length room.old }
 {
     let count = read_front(disk, at + HEAD as u64, room, size)?;
@@ -293,12 +274,8 @@ pub(crate) fn read_front<D: Disk>(
     ensures count { IfOk result (λ n. n ≤ size) }
     ensures far { 2 ^ 62 ≤ at → IfOk result (λ n. n ≡ 0) }
     ensures whole { IfOk result (λ n. Knows (shown D.Disk disk.old) (λ file. n ≡ min size (length file - at))) }
-    ensures same { shown D.Disk disk.new ≡ shown D.Disk disk.old }
-    ensures any_moment { Knows (shown D.Disk disk.old) (λ _. LeavesOnly D.Disk disk.old disk.new (D.may_leave disk.old)) }
     ensures crash { Knows (shown D.Disk disk.old) (λ _. (c : List ℕ) → D.may_leave disk.new c → D.may_leave disk.old c) }
-    ensures stands { OnOk result (D.faults disk.new ≡ D.faults disk.old) }
-    ensures cause { OnErr result (Rose (D.faults disk.old) (D.faults disk.new)) }
-    ensures keeps { Keeps D.Disk disk.old disk.new }
+    ensures reads { OnlyReads D.Disk (IsErr result) disk.old disk.new }
     ensures size { length room.new ≡ length room.old }
 {
     disk.read(at, &mut room[..size])

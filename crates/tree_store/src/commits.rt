@@ -1,12 +1,11 @@
 //! Storing a batch.
 ghost use Rattle.std.specs.Prelude.{◌≡◌, ◌⊎◌, ◌≤◌, ◌++◌, [], ◌∷◌, ℕ, List, length, true, false, Ok, Err, IsSome, IfOk, IfErr, OnOk, OnErr};
 ghost use Rattle.gd_disk.specs.Disks.{Knows};
-ghost use Rattle.gd_disk.specs.Moments.{shown, Keeps, LeavesOnly};
+ghost use Rattle.gd_disk.specs.Moments.{shown, LeavesOnly, ReportsFaults};
 ghost use Rattle.gd_wire.specs.Readings.{octet_at};
 ghost use Rattle.group_records.specs.Texts.{batch_text};
 ghost use Rattle.group_records.specs.declared.batches.Stored.{Stored};
 ghost use Rattle.group_records.specs.declared.heads.Head.{Head};
-ghost use Rattle.group_terms.specs.Faults.{Rose};
 ghost use Rattle.tree_journal.specs.declared.refusals.JournalRefusal.TheVariants.{Closed, DiskFault};
 ghost use Rattle.tree_store.specs.Groups.{IsBatchOf, IsDue, IsGroup, IsGroupTo, HasGroup, IsGroupBeforeOrAfter, batches_of};
 
@@ -62,7 +61,6 @@ impl<D: Disk> TreeStore<D> {
             Knows (shown D.Disk self.new.disk) (IsGroupBeforeOrAfter head list stored) }
         ensures closed { self.old.closed ≡ true → (result ≡ Err Closed) × (self.new ≡ self.old) }
         ensures refused { result ≡ Err Closed → self.old.closed ≡ true }
-        ensures cause { result ≡ Err DiskFault → Rose (D.faults self.old.disk) (D.faults self.new.disk) }
         ensures closes { OnErr result (self.new.closed ≡ true) }
         ensures goes_on { OnOk result (self.new.closed ≡ false) }
         ensures no_other { IfErr result (λ why. (why ≡ Closed) ⊎ (why ≡ DiskFault)) }
@@ -70,8 +68,7 @@ impl<D: Disk> TreeStore<D> {
         ensures place { self.new.at ≡ self.old.at }
         ensures head { self.new.head ≡ self.old.head }
         ensures tree { self.new.tree ≡ self.old.tree }
-        ensures stands { OnOk result (D.faults self.new.disk ≡ D.faults self.old.disk) }
-        ensures keeps { Keeps D.Disk self.old.disk self.new.disk }
+        ensures disk { ReportsFaults D.Disk (result ≡ Err DiskFault) self.old.disk self.new.disk }
     {
         self.journal.append(made.as_slice())
     }

@@ -1,10 +1,10 @@
 //! Making and opening a store.
 ghost use Rattle.std.specs.Prelude.{◌≡◌, ◌⊎◌, ◌≤◌, [], ℕ, List, length, false, true, None, Some, Err, IfSome, IfNone, IfOk, IfErr, OnOk, OnErr};
 ghost use Rattle.gd_disk.specs.Disks.{Knows, Only};
-ghost use Rattle.gd_disk.specs.Moments.{shown, Keeps, LeavesOnly};
+ghost use Rattle.gd_disk.specs.Moments.{shown, LeavesOnly, OnlyReads, ReportsFaults};
 ghost use Rattle.group_model.specs.Present.{StandsFor};
 ghost use Rattle.group_records.specs.declared.heads.Head.{Head};
-ghost use Rattle.group_terms.specs.Faults.{Rose};
+ghost use Rattle.tree_journal.specs.Crashes.{FoundFault};
 ghost use Rattle.tree_journal.specs.Records.{records};
 ghost use Rattle.tree_journal.specs.declared.refusals.JournalRefusal.TheVariants.{Closed, DiskFault, NotAJournal, NoMemory as OutOfMemory};
 ghost use Rattle.tree_store.specs.Groups.{IsHeadOf, HasGroup, IsGroup, IsGroupTo, HasNoHead, MakesGroup};
@@ -33,12 +33,9 @@ impl<D: Disk> TreeStore<D> {
             (λ _. Knows (shown D.Disk store.disk) (λ file. IsGroupTo file head.now [] store.at))) }
         ensures tree { IfOk result (λ store. StandsFor store.tree []) }
         ensures began { IfOk result (λ store. (store.head ≡ head.now) × (store.closed ≡ false) × (store.end ≡ Some store.at)) }
-        ensures cause { IfErr result (λ refused. refused.why ≡ DiskFault → Rose (D.faults disk) (D.faults refused.disk)) }
         ensures no_other { IfErr result (λ refused. (refused.why ≡ DiskFault) ⊎ (refused.why ≡ OutOfMemory)) }
         ensures untouched { IfErr result (λ refused. refused.why ≡ OutOfMemory → refused.disk ≡ disk) }
-        ensures stands { OnOk result (D.faults (store_disk result) ≡ D.faults disk) }
-        ensures faultless { IfErr result (λ refused. (refused.why ≡ DiskFault → ⊥) → D.faults refused.disk ≡ D.faults disk) }
-        ensures keeps { Keeps D.Disk disk (store_disk result) }
+        ensures disk { ReportsFaults D.Disk (FoundFault result) disk (store_disk result) }
     {
         a_crash_may_leave_nothing_or_all();
         let (made, tree) = match begun(alloc, head) {
@@ -72,15 +69,10 @@ impl<D: Disk> TreeStore<D> {
         ensures broken { IfErr result (λ refused. (at : ℕ) → refused.why ≡ NotAJournal at →
             ((at ≡ 0) × Knows (shown D.Disk disk) (λ file. records file ≡ Err 0))
             ⊎ ((at ≡ 9) × Knows (shown D.Disk disk) (λ file. HasNoHead file))) }
-        ensures same { shown D.Disk (store_disk result) ≡ shown D.Disk disk }
-        ensures any_moment { Knows (shown D.Disk disk) (λ _. LeavesOnly D.Disk disk (store_disk result) (D.may_leave disk)) }
-        ensures cause { IfErr result (λ refused. refused.why ≡ DiskFault → Rose (D.faults disk) (D.faults refused.disk)) }
         ensures only { IfErr result (λ refused. (at : ℕ) → refused.why ≡ NotAJournal at →
             Knows (shown D.Disk disk) (λ file. Only file (D.may_leave refused.disk))) }
         ensures no_other { IfErr result (λ refused. refused.why ≡ Closed → ⊥) }
-        ensures stands { OnOk result (D.faults (store_disk result) ≡ D.faults disk) }
-        ensures faultless { IfErr result (λ refused. (refused.why ≡ DiskFault → ⊥) → D.faults refused.disk ≡ D.faults disk) }
-        ensures keeps { Keeps D.Disk disk (store_disk result) }
+        ensures reads { OnlyReads D.Disk (FoundFault result) disk (store_disk result) }
     {
         let mut journal = Journal::open(alloc, disk)?;
         let mut body = Octets::new(alloc);
@@ -111,15 +103,10 @@ impl<D: Disk> TreeStore<D> {
             ⊎ ((at ≡ 9) × Knows (shown D.Disk self.old.disk) (λ file. HasNoHead file))) }
         ensures closes { OnErr result (self.new.closed ≡ true) }
         ensures kept { OnErr result ((self.new.head ≡ self.old.head) × (self.new.tree ≡ self.old.tree)) }
-        ensures same { shown D.Disk self.new.disk ≡ shown D.Disk self.old.disk }
-        ensures any_moment { Knows (shown D.Disk self.old.disk)
-            (λ _. LeavesOnly D.Disk self.old.disk self.new.disk (D.may_leave self.old.disk)) }
         ensures durable { (result ≡ Err DiskFault → ⊥) →
             Knows (shown D.Disk self.new.disk) (λ file. Only file (D.may_leave self.new.disk)) }
-        ensures cause { result ≡ Err DiskFault → Rose (D.faults self.old.disk) (D.faults self.new.disk) }
         ensures no_other { result ≡ Err Closed → ⊥ }
-        ensures stands { (result ≡ Err DiskFault → ⊥) → D.faults self.new.disk ≡ D.faults self.old.disk }
-        ensures keeps { Keeps D.Disk self.old.disk self.new.disk }
+        ensures reads { OnlyReads D.Disk (result ≡ Err DiskFault) self.old.disk self.new.disk }
     {
         self.journal.reopen()?;
         match read_beginning(alloc, &mut self.journal, &mut self.body) {
@@ -171,9 +158,7 @@ fn read_beginning<D: Disk>(
     ensures any_moment { Knows (shown D.Disk journal.old.disk) (λ file. LeavesOnly D.Disk journal.old.disk journal.new.disk (λ c. c ≡ file)) }
     ensures only { Knows (shown D.Disk journal.old.disk) (λ file. Only file (D.may_leave journal.new.disk)) }
     ensures no_other { IfErr result (λ why. why ≡ Closed → ⊥) }
-    ensures cause { result ≡ Err DiskFault → Rose (D.faults journal.old.disk) (D.faults journal.new.disk) }
-    ensures stands { (result ≡ Err DiskFault → ⊥) → D.faults journal.new.disk ≡ D.faults journal.old.disk }
-    ensures keeps { Keeps D.Disk journal.old.disk journal.new.disk }
+    ensures disk { ReportsFaults D.Disk (result ≡ Err DiskFault) journal.old.disk journal.new.disk }
 {
     let head = read_first(alloc, journal, body)?;
     let tree = PresentTree::new(alloc, head.depth)?;
@@ -197,9 +182,7 @@ fn read_first<D: Disk>(
     ensures same { shown D.Disk journal.new.disk ≡ shown D.Disk journal.old.disk }
     ensures any_moment { Knows (shown D.Disk journal.old.disk) (λ file. LeavesOnly D.Disk journal.old.disk journal.new.disk (λ c. c ≡ file)) }
     ensures no_other { IfErr result (λ why. why ≡ Closed → ⊥) }
-    ensures cause { result ≡ Err DiskFault → Rose (D.faults journal.old.disk) (D.faults journal.new.disk) }
-    ensures stands { (result ≡ Err DiskFault → ⊥) → D.faults journal.new.disk ≡ D.faults journal.old.disk }
-    ensures keeps { Keeps D.Disk journal.old.disk journal.new.disk }
+    ensures disk { ReportsFaults D.Disk (result ≡ Err DiskFault) journal.old.disk journal.new.disk }
 {
     journal.prove_at_rest();
     let at = journal.place();

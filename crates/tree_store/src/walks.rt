@@ -1,10 +1,9 @@
 //! Reading the batches.
 ghost use Rattle.std.specs.Prelude.{◌≡◌, ◌⊎◌, ◌<◌, ◌≤◌, ◌^◌, ◌++◌, [], ◌∷◌, ℕ, List, false, true, None, Some, Ok, Err, IfSome, IfOk, IfErr, OnOk};
 ghost use Rattle.gd_disk.specs.Disks.{Knows};
-ghost use Rattle.gd_disk.specs.Moments.{shown, Keeps, LeavesOnly};
+ghost use Rattle.gd_disk.specs.Moments.{shown, LeavesOnly, ReportsFaults};
 ghost use Rattle.gd_wire.specs.Readings.{octet_at};
 ghost use Rattle.group_model.specs.Present.{StandsFor};
-ghost use Rattle.group_terms.specs.Faults.{Rose};
 ghost use Rattle.group_terms.specs.declared.changes.Change.{Change};
 ghost use Rattle.tree_journal.specs.declared.refusals.JournalRefusal.TheVariants.{Closed, DiskFault, NotAJournal};
 ghost use Rattle.group_records.specs.declared.batches.Stored.{Stored};
@@ -44,12 +43,10 @@ impl<D: Disk> TreeStore<D> {
             (λ file. LeavesOnly D.Disk self.old.disk self.new.disk (λ c. c ≡ file)) }
         ensures closed { self.old.closed ≡ true → (result ≡ Err Closed) × (self.new ≡ self.old) }
         ensures refused { result ≡ Err Closed → self.old.closed ≡ true }
-        ensures cause { result ≡ Err DiskFault → Rose (D.faults self.old.disk) (D.faults self.new.disk) }
         ensures closes { result ≡ Err DiskFault → self.new.closed ≡ true }
         ensures goes_on { (result ≡ Err DiskFault → ⊥) → self.new.closed ≡ self.old.closed }
         ensures is_open { OnOk result (self.new.closed ≡ false) }
-        ensures stands { (result ≡ Err DiskFault → ⊥) → D.faults self.new.disk ≡ D.faults self.old.disk }
-        ensures keeps { Keeps D.Disk self.old.disk self.new.disk }
+        ensures disk { ReportsFaults D.Disk (result ≡ Err DiskFault) self.old.disk self.new.disk }
     {
         records_are_the_next_ones();
         a_read_batch_has_a_high_spi();

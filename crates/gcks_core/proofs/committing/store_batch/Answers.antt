@@ -42,7 +42,7 @@ pub returns-in-Ok-clause-at_end : goal.returns-in-Ok-clause-at_end
 returns-in-Ok-clause-at_end g c head list changes at_end storable =
     let before = stored_list head.depth list in
     let after = stored_list head.depth (list ++ made_of_them changes c.args.ready.values ∷ []) in
-    let grows = known_after g.D.Disk c.args.store.now.disk c.commit.new.self.disk c.commit.ensures.keeps head before after at_end.file
+    let grows = known_after g.D.Disk c.args.store.now.disk c.commit.new.self.disk c.commit.ensures.disk.keeps head before after at_end.file
     (λ has.
     let now = c.in-Ok.ensures.ok head before _ has (read_inside c.ready.view_is storable) in
     (now.0, now.1, group_more head c.args.tree.now changes list c.args.ready storable now.0 now.2)) in

@@ -37,7 +37,7 @@ loop-walk-preserved g c =
     reading_next g.D.Disk c.args.store.now head so_far.walk.tree so_far.walk.kept so_far.walk.last so_far.store so_far.invariant next stored
     said.head due further c.go_on.new.self.tree c.go_on.new.self.kept c.go_on.new.self.last
     (c.in_ok-go_on.ensures so_far.invariant.list so_far.invariant.walk is_due)
-    said.is_open said.same said.any_moment (said.stands (λ no. absurd (cc no))) said.keeps
+    said.is_open said.same said.any_moment (said.disk.no_fault (λ no. absurd (cc no))) said.disk.keeps
 
 pub returns-in_err-go_on-clause-broken : goal.returns-in_err-go_on-clause-broken
 returns-in_err-go_on-clause-broken g c = if_error _ _ _ c.from_residual-in_err-go_on.ensures.1 (λ at said. absurd (cc said))

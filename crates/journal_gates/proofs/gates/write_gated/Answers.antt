@@ -21,7 +21,7 @@ returns-in_err-write_through-clause-any_moment g c front shut behind split only 
 
 pub write_through-requires-2 : goal.write_through-requires-2
 write_through-requires-2 g c file is =
-    let was = shown_before g.D.Disk c.args.disk.now c.write_through.new.disk c.write_through.ensures.keeps file is in
+    let was = shown_before g.D.Disk c.args.disk.now c.write_through.new.disk c.write_through.ensures.disk.keeps file is in
     let now = c.in_ok-write_through.ensures.done was.0 was.1 in
     let same : written was.0 (c.args.gate + 1) c.args.piece.now ≡ file = cc (is, now) in
     let long = c.requires.there was.0 was.1 in

@@ -9,5 +9,5 @@ list_store-requires-clause-read c =
     let said = c.in-Ok.ensures in
     record {
       stands = said.tree;
-      read = subst (λ (file : List ℕ). IsGroupTo file store.head [] store.at) (sym (shown_same _ _ said.same)) (said.read c.holding.result.image refl);
+      read = subst (λ (file : List ℕ). IsGroupTo file store.head [] store.at) (sym (shown_same _ _ said.reads.same)) (said.read c.holding.result.image refl);
     }

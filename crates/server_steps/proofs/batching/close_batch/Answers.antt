@@ -1,4 +1,4 @@
-use Rattle.std.proofs.Common.{◌≡◌, ◌∙◌, ◌++◌, ◌∷◌, ◌<◌, ◌^◌, [], Ok, sym, ap, subst, rules}
+use Rattle.std.proofs.Common.{◌≡◌, ◌∙◌, ◌++◌, ◌∷◌, ◌<◌, ◌^◌, [], Ok, Err, sym, ap, subst, rules}
 use Rattle.std.specs.Prelude.{IfSome}
 use Rattle.group_terms.specs.Changes.{joiners}
 use Rattle.group_model.specs.Servers.{Server, coming_batch}
@@ -80,7 +80,8 @@ returns-clause-serves g c rule_list =
     (subst (λ (core : V). Serves g.D.Disk g.G.Signer g.R.Draws Batch (Batched (with_replies ready.output replies))
     (server_of core rule_list sessions) (server_of new rule_list (settled sessions replies))) same
     (is_stored g.D.Disk g.G.Signer g.R.Draws rule_list sessions mid new old.draws prepared.blocks ready prepares prepared.fit (g.met.D.Disk.counts_now new.disk)
-    stored.keeps stored.same stored.any_moment replies are joins prepared.ready stored.step stored.stored stored.durable stored.stands))
+    stored.disk.keeps stored.same stored.any_moment replies are joins prepared.ready stored.step stored.stored stored.durable
+    (stored.disk.no_fault (λ is. cc is))))
 
 pub returns-clause-sound : goal.returns-clause-sound
 returns-clause-sound g c =
@@ -131,7 +132,7 @@ returns-in_err-output-clause-serves g c rule_list =
     c.from_residual-in_err-output.result why c.from_residual-in_err-output.ensures.1
     (subst (λ (core : V). Serves g.D.Disk g.G.Signer g.R.Draws Batch (Refused why) (server_of core rule_list sessions) (server_of new rule_list sessions)) same
     (is_in_doubt g.D.Disk g.G.Signer g.R.Draws rule_list sessions mid new old.draws prepared.blocks ready prepares prepared.fit
-    (g.met.D.Disk.counts_now new.disk) failed.keeps failed.same failed.any_moment why failed.step failed.doubt failed.cause.1))
+    (g.met.D.Disk.counts_now new.disk) failed.disk.keeps failed.same failed.any_moment why failed.step failed.doubt (failed.disk.cause (ap Err failed.no_other))))
 
 pub returns-in_err-output-clause-sound : goal.returns-in_err-output-clause-sound
 returns-in_err-output-clause-sound g c =

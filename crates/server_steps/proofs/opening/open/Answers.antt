@@ -15,10 +15,10 @@ returns-clause-ok g c name limit phases =
       was_there = read.2;
       pair = read.3;
       only = opens.durable;
-      moments = opens.any_moment;
-      same_file = opens.same;
-      unfaulted = opens.stands;
-      keeps = opens.keeps;
+      moments = opens.reads.any_moment;
+      same_file = opens.reads.same;
+      unfaulted = opens.reads.reports.no_fault (λ none. none);
+      keeps = opens.reads.reports.keeps;
     }) opens.others.0 (λ k. ap (λ at. g.R.Draws.block_at at k) opens.others.1)
 
 pub returns-clause-fits : goal.returns-clause-fits
@@ -35,7 +35,8 @@ returns-in_err-opened-clause-err g c =
     let not = c.in_err-opened.ensures in
     if_error _ _ _ c.from_residual.ensures.1
     (λ name limit phases. begins_not g.D.Disk g.G.Signer g.R.Draws c.args.parts name limit phases c.in_err-opened.field-0.0.refusal back
-    (g.met.D.Disk.only_now back.disk) not.cause not.broken not.only not.no_other not.faultless not.any_moment not.same not.keeps not.parts)
+    (g.met.D.Disk.only_now back.disk) not.reads.reports.cause not.broken not.only not.no_other not.reads.reports.no_fault not.reads.any_moment not.reads.same
+    not.reads.reports.keeps not.parts)
 
 pub returns-clause-nothing_waits : goal.returns-clause-nothing_waits
 returns-clause-nothing_waits g c = c.in_ok-opened.ensures.read.1.queue

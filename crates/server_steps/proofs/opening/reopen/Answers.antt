@@ -18,10 +18,10 @@ returns-clause-serves g c rules sessions =
       was_there = read.2;
       pair = read.3;
       only = opens.durable (λ is. cc is);
-      moments = opens.any_moment;
-      same_file = opens.same;
-      unfaulted = opens.stands (λ is. cc is);
-      keeps = opens.keeps;
+      moments = opens.reads.any_moment;
+      same_file = opens.reads.same;
+      unfaulted = opens.reads.reports.no_fault (λ is. cc is);
+      keeps = opens.reads.reports.keeps;
     }) opens.rest
 
 pub returns-in_err-resent-clause-serves : goal.returns-in_err-resent-clause-serves
@@ -34,11 +34,11 @@ returns-in_err-resent-clause-serves g c rules sessions =
     (opens_not_again g.D.Disk g.G.Signer g.R.Draws old new rules sessions c.a_file_has_one_group.ensures.or_none c.in_err-resent.field-0.0 (record {
       no_other = refused.no_other;
       broken = λ file is at said. refused.broken file is at (cc said);
-      cause = λ said. refused.cause (cc said);
-      unfaulted = λ other. refused.stands (λ is. other (cc is));
-      moments = refused.any_moment;
-      same_file = refused.same;
-      keeps = refused.keeps;
+      cause = λ said. refused.reads.reports.cause (cc said);
+      unfaulted = λ other. refused.reads.reports.no_fault (λ is. other (cc is));
+      moments = refused.reads.any_moment;
+      same_file = refused.reads.same;
+      keeps = refused.reads.reports.keeps;
     })
     (g.met.D.Disk.counts_now new.disk) refused.refused (ap (λ (core : V). core.head) refused.err) refused.rest)
 

@@ -64,5 +64,5 @@ returns-clause-there g c file now is new =
 
 pub returns-clause-stands : goal.returns-clause-stands
 returns-clause-stands g c at reached =
-    new_stands g.D.Disk c.args.disk.now c.write_gated.new.disk c.write_gated.ensures.keeps c.args.gate c.args.body.now _ c.put_together.ensures.text
+    new_stands g.D.Disk c.args.disk.now c.write_gated.new.disk c.write_gated.ensures.disk.keeps c.args.gate c.args.body.now _ c.put_together.ensures.text
     c.requires.few c.requires.last c.in_ok-write_gated.ensures.done at reached c.in_ok-write_gated.ensures.durable

@@ -1,29 +1,33 @@
-use Rattle.std.proofs.Common.{◌∙◌}
-use Rattle.gd_disk.specs.MomentLaws.{joined, weaker}
-use Rattle.journal_gates.proofs.CallLemmas.{one_call}
+use Rattle.std.proofs.Common.{refl}
+use Rattle.gd_disk.specs.MomentLaws.{reads_as}
+use Rattle.tree_journal.proofs.SyncLemmas.{synced, then_read}
 use Rattle.tree_journal.proofs.formats.read_name.Goals as goal
 
-pub returns-in_err-sync-clause-any_moment : goal.returns-in_err-sync-clause-any_moment
-returns-in_err-sync-clause-any_moment g c file is =
-    one_call g.D.Disk c.args.disk.now c.sync.new.self (g.D.Disk.may_leave c.args.disk.now) (g.met.D.Disk.only_now c.args.disk.now) (λ k now. now)
-    c.sync.ensures.time (c.sync.ensures.crash file is)
+pub returns-in_err-sync-clause-reads : goal.returns-in_err-sync-clause-reads
+returns-in_err-sync-clause-reads g c =
+    let old = c.args.disk.now in
+    let done = c.sync.ensures in
+    synced g.D.Disk old c.sync.new.self (g.met.D.Disk.only_now old) done.time done.image done.crash _ (record {
+      cause = λ _. c.in_err-sync.ensures.cause;
+      no_fault = λ no. absurd (no c.from_residual.ensures.0);
+      keeps = record { honest = done.honest; exposed = done.exposed; counted = done.counted };
+    })
 
-pub returns-in_err-count-clause-any_moment : goal.returns-in_err-count-clause-any_moment
-returns-in_err-count-clause-any_moment g c file is =
-    let P = g.D.Disk.may_leave c.args.disk.now in
-    let synced =
-    one_call g.D.Disk c.args.disk.now c.sync.new.self P (g.met.D.Disk.only_now c.args.disk.now) (λ k now. now)
-    c.sync.ensures.time (c.sync.ensures.crash file is) in
-    let read = c.read_front.ensures.any_moment file (c.sync.ensures.image ∙ is) in
-    joined g.D.Disk c.args.disk.now c.sync.new.self c.read_front.new.disk P synced
-    (weaker g.D.Disk c.sync.new.self c.read_front.new.disk (g.D.Disk.may_leave c.sync.new.self) P (c.sync.ensures.crash file is) read)
+pub returns-in_err-count-clause-reads : goal.returns-in_err-count-clause-reads
+returns-in_err-count-clause-reads g c =
+    let old = c.args.disk.now in
+    let new = c.read_front.new.disk in
+    let done = c.sync.ensures in
+    let failed = c.from_residual-in_err-count.ensures.0 in
+    then_read g.D.Disk old c.sync.new.self (g.met.D.Disk.only_now old) done.time done.image done.crash _ new
+    (record { honest = done.honest; exposed = done.exposed; counted = done.counted }) c.in_ok-sync.ensures.no_fault
+    (reads_as g.D.Disk c.sync.new.self new _ _ (λ _. failed) (λ _. refl) c.in_err-count.ensures.reads)
 
-pub returns-clause-any_moment : goal.returns-clause-any_moment
-returns-clause-any_moment g c file is =
-    let P = g.D.Disk.may_leave c.args.disk.now in
-    let synced =
-    one_call g.D.Disk c.args.disk.now c.sync.new.self P (g.met.D.Disk.only_now c.args.disk.now) (λ k now. now)
-    c.sync.ensures.time (c.sync.ensures.crash file is) in
-    let read = c.read_front.ensures.any_moment file (c.sync.ensures.image ∙ is) in
-    joined g.D.Disk c.args.disk.now c.sync.new.self c.read_front.new.disk P synced
-    (weaker g.D.Disk c.sync.new.self c.read_front.new.disk (g.D.Disk.may_leave c.sync.new.self) P (c.sync.ensures.crash file is) read)
+pub returns-clause-reads : goal.returns-clause-reads
+returns-clause-reads g c =
+    let old = c.args.disk.now in
+    let new = c.read_front.new.disk in
+    let done = c.sync.ensures in
+    then_read g.D.Disk old c.sync.new.self (g.met.D.Disk.only_now old) done.time done.image done.crash _ new
+    (record { honest = done.honest; exposed = done.exposed; counted = done.counted }) c.in_ok-sync.ensures.no_fault
+    (reads_as g.D.Disk c.sync.new.self new _ _ (λ is. absurd (cc is)) (λ is. absurd (cc is)) c.in_ok-count.ensures.reads)

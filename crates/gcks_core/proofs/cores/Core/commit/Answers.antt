@@ -74,6 +74,6 @@ pub returns-in-Err-clause-doubt : goal.returns-in-Err-clause-doubt
 returns-in-Err-clause-doubt g c server stands on_disk file is =
     let storable = storable_there c.self.view_is c.requires.ready server stands in
     let before = knows_there c.self.view_is c.requires.ready server stands g.D.Disk c.requires.«open» on_disk in
-    let was = shown_before g.D.Disk c.self.inside.store.disk c.store_batch.new.store.disk c.store_batch.ensures.keeps file is in
+    let was = shown_before g.D.Disk c.self.inside.store.disk c.store_batch.new.store.disk c.store_batch.ensures.disk.keeps file is in
     file_in_doubt c.self.inside.head server (coming_batch server c.args.prepared.values) file
     (c.in-Err.ensures.in_doubt c.self.inside.head server.list server.queue (was.0, was.1, before was.0 was.1) storable file is)

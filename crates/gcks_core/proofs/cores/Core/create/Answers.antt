@@ -23,7 +23,7 @@ invariant_of-result g c =
       limited = c.requires.limited;
       fits = subst (Fits c.in-Ok.tree.holders) (sym c.new.ensures) (nothing_waits c.in-Ok.tree.holders);
       at_end = λ _.
-          made_at_end g.D.Disk c.args.parts.disk c.in-Ok-create.store head made.keeps made.made made.began.1 (subst IsSome (sym made.began.2) refl);
+          made_at_end g.D.Disk c.args.parts.disk c.in-Ok-create.store head made.disk.keeps made.made made.began.1 (subst IsSome (sym made.began.2) refl);
     }
 
 pub returns-in-Ok-create-clause-server : goal.returns-in-Ok-create-clause-server

@@ -10,7 +10,7 @@ invariant_of-result g c =
       c.in-Ok.ensures,
       omega arith,
       omega arith,
-      λ goes. begun_stands g.D.Disk c.args.disk c.begin_file.new.disk c.begin_file.ensures.keeps begun.octets begun.durable,
+      λ goes. begun_stands g.D.Disk c.args.disk c.begin_file.new.disk c.begin_file.ensures.disk.keeps begun.octets begun.durable,
     )
 
 pub returns-in_default-clause-moments : goal.returns-in_default-clause-moments

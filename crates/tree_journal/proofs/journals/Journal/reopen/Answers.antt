@@ -12,6 +12,6 @@ invariant_of-self g c =
       omega (arith, c.self.invariant.0, same, read.size, length-append room behind, length-take (length piece) (room ++ behind)),
       omega arith,
       tt,
-      λ goes. opened_stands g.D.Disk c.self.inside.disk c.read_name.new.disk read.same
+      λ goes. opened_stands g.D.Disk c.self.inside.disk c.read_name.new.disk read.reads.same
           (λ file is. sym c.in-Ok-true.field-0-test ∙ read.named file is) read.durable,
     )

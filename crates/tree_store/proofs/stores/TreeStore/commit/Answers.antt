@@ -39,7 +39,7 @@ returns-clause-ahead g c head read begins =
     let P : View g.row.D.Denot → Type 0 = λ store. Knows (shown g.D.Disk store.disk) (λ file. IsGroupTo file head read store.at) in
     let was = subst P (sym c.self.view_is) begins in
     let still = still_to (shown g.D.Disk old.disk) (shown g.D.Disk now.disk) head read old.at
-    (shown_before g.D.Disk old.disk now.disk c.append.ensures.keeps) c.append.result c.append.ensures.before c.append.ensures.named was in
+    (shown_before g.D.Disk old.disk now.disk c.append.ensures.disk.keeps) c.append.result c.append.ensures.before c.append.ensures.named was in
     subst (λ (k : ℕ). OnOk c.append.result (Knows (shown g.D.Disk now.disk) (λ file. IsGroupTo file head read k))) (sym c.append.ensures.place) still
 
 pub returns-clause-any_moment : goal.returns-clause-any_moment
