@@ -1,5 +1,4 @@
-//! The key download payload of GDOI (RFC 6407 section 5.6): traffic keys, and keys of the tree in download and update arrays, read and
-//! written exactly.
+//! The key download payload of GDOI (RFC 6407 section 5.6): traffic keys, and keys of the tree in download and update arrays.
 #![tactic(auto)]
 
 pub use bodies::{KdView, read_kd};

@@ -18,7 +18,7 @@ pub fn traffic_kd_size(traffic: &TrafficValue) -> usize
     4 + TRAFFIC_OCTETS
 }
 
-/// How many octets the body has that gives keys by so many update arrays of one key each.
+/// How many octets the body has that gives keys by update arrays of one key each.
 pub fn update_kd_size(arrays: usize) -> usize
     requires { update_octets * arrays ≤ 65000 }
     ensures octets { result ≡ update_kd_octets arrays }
@@ -40,7 +40,7 @@ pub fn reply_kd_size(keyed: &Keyed) -> usize
     size_with(keys.len())
 }
 
-/// How many octets that body has with so many keys.
+/// How many octets that body has with `keys` keys.
 fn size_with(keys: usize) -> usize
     requires { keys ≤ 16 }
     ensures { result ≡ reply_kd_octets keys }
