@@ -11,19 +11,17 @@ ghost use Rattle.pull_sessions.specs.declared.sas.Sa.{Sa};
 ghost use Rattle.pull_sessions.specs.declared.sas.Session.{Session};
 
 use crate::answers::{Kept, Looked};
-use crate::fits::{are_octets, block_fits};
+use crate::fits::block_fits;
 use crate::looks::look_under;
 use crate::refusals::SessionRefusal;
 use crate::sas::{Sas, Session};
-use gd_wire::{a_header_has_one_text, read_header, what_is_read_can_be_written};
+use gd_wire::kinds::PULL;
+use gd_wire::{a_header_has_one_text, are_octets, read_header, what_is_read_can_be_written};
 use group_terms::{Keyed, MemberName, NoMemory, Octets, Phase1};
 use pull_msgs::{First, Nonce, Third, nonce_fits, write_fourth, write_second};
 use sa_wire::SaPolicy;
 use std::alloc::Global;
 use std::marker::Model;
-
-/// The exchange of a pull (RFC 6407 section 3).
-const PULL: u8 = 32;
 
 /// The phase 1 SAs that were introduced, each with at most one session.
 ///
