@@ -4,8 +4,8 @@ ghost use Rattle.gd_cipher.specs.Bytes.{AreBytes};
 use gd_wire::are_octets;
 
 /// A block has 16 octets.
-pub(crate) fn block_fits(block: &[u8; 16])
+pub(crate) fn prove_block_fits(block: &[u8; 16])
     ensures { AreBytes 16 block.now }
 {
-    are_octets(block);
+    prove_are_octets(block);
 }
