@@ -1,8 +1,7 @@
 -- What members do before an entry that a line gives: they act as they may, and then can ask what is asked.
-use Rattle.std.proofs.Common.{◌≡◌, ℕ, zero, suc, Bool, true, false, cond, List, [], ◌∷◌, ◌++◌, Option, None, Some, refl, sym, ap, ◌∙◌, subst, inl, inr}
+use Rattle.std.proofs.Common.{◌≡◌, ℕ, zero, suc, Bool, true, false, List, [], ◌∷◌, ◌++◌, Option, None, Some, refl, sym, ap, ◌∙◌, subst, inl, inr}
 use Rattle.std.specs.Prelude.{MatchBool, option_and_then, option_map, slice_get}
-use Rattle.std.specs.Cmp.Lexicographic.{nat_list_eq_equiv}
-use Rattle.std.proofs.lemmas.Bool.{cases_Bool, false≢true, cond-true, cond-false}
+use Rattle.std.proofs.lemmas.Bool.{false≢true}
 use Rattle.std.proofs.lemmas.List.{reverse-append}
 use Rattle.std.proofs.lemmas.Option.{none-some, same_Some}
 use Rattle.std.proofs.lemmas.Slice.Eq.{bytes_eq-Decides}
@@ -14,7 +13,7 @@ use Rattle.group_model.specs.declared.entries.Answer.TheVariants.{Done}
 use Rattle.group_model.specs.declared.entries.Asked.{Asked}
 use Rattle.group_model.specs.declared.entries.Asked.TheVariants as requests
 use Rattle.group_model.specs.declared.entries.Entry.{Entry}
-use Rattle.group_peers.specs.Peers.{is_named, is_peer, peer_of, phase_of, put, sent_by, was_introduced}
+use Rattle.group_peers.specs.Peers.{is_peer, peer_of, phase_of, put, sent_by, was_introduced}
 use Rattle.group_peers.specs.declared.members.Peer.{Peer}
 use Rattle.group_run.specs.Reads.{Ask, AsksAt, AsksBy as ReadsBy, AsksOf, ReadsMail}
 use Rattle.group_steps.specs.Runs.{Run}
@@ -23,6 +22,7 @@ use Rattle.member_pull.specs.declared.pulls.Step.{Step}
 use Rattle.member_pull.specs.declared.pulls.Step.TheVariants as steps
 use Rattle.member_steps.specs.Acts.{Acts, AreActs, Ignore, Ignores, IsAct, IsFirstUse, IsReady}
 use Rattle.member_steps.specs.Members.{Mail, Members}
+use Rattle.member_steps.proofs.PeerLemmas.{found_named, peer_put}
 use Rattle.script_text.specs.declared.lines.Line.{Line}
 use Rattle.script_text.specs.declared.lines.Line.TheVariants.{Nothing, Allow, Deny, Join, Again, Lose, Leave, Batch, Deliver, DeliverAll, Key, Derive}
 use Rattle.script_text.specs.declared.lines.Line.TheVariants.{Halt, Reopen, Show}
@@ -50,35 +50,8 @@ reads_from a b next ignored h = (h.0, ignores_then ignored.0 a b h.0 ignored.1 h
 
 -- ---- peers by their names
 
-found_named : (peers : List Peer) (m : Name) (peer : Peer) → peer_of peers m ≡ Some peer → is_named m peer ≡ true
-found_named [] m peer is = absurd (none-some peer is)
-found_named (first ∷ peers) m peer is = elim (cases_Bool (is_named m first)) [
-  | inl here ↦ ap (is_named m) (sym (same_Some first peer (sym (cond-true (is_named m first) (Some first) (peer_of peers m) here) ∙ is))) ∙ here
-  | inr other ↦ found_named peers m peer (sym (cond-false (is_named m first) (Some first) (peer_of peers m) other) ∙ is)
-]
-
 member_is : (peers : List Peer) (m : Name) (peer : Peer) → peer_of peers m ≡ Some peer → m ≡ peer.phase.member
 member_is peers m peer is = (bytes_eq-Decides m peer.phase.member).0 (found_named peers m peer is)
-
--- who is put in place of another is found
-put_found : (peers : List Peer) (after peer : Peer) → peer_of peers after.phase.member ≡ Some peer → peer_of (put peers after) after.phase.member ≡ Some after
-put_found [] after peer is = absurd (none-some peer is)
-put_found (first ∷ peers) after peer is =
-    let m = after.phase.member in
-    let rest = peer_of (put peers after) m in
-    elim (cases_Bool (is_named m first)) [
-      | inl here ↦ ap (λ (head : Peer). cond (is_named m head) (Some head) rest) (cond-true (is_named m first) after first here)
-          ∙ cond-true (is_named m after) (Some after) rest (nat_list_eq_equiv.refl m)
-      | inr other ↦ ap (λ (head : Peer). cond (is_named m head) (Some head) rest) (cond-false (is_named m first) after first other)
-          ∙ cond-false (is_named m first) (Some first) rest other
-          ∙ put_found peers after peer (sym (cond-false (is_named m first) (Some first) (peer_of peers m) other) ∙ is)
-    ]
-
-peer_put : (peers : List Peer) (m : Name) (after peer : Peer) → peer_of peers m ≡ Some peer → after.phase ≡ peer.phase
-    → peer_of (put peers after) m ≡ Some after
-peer_put peers m after peer is same =
-    let named : m ≡ after.phase.member = member_is peers m peer is ∙ ap (λ (phase : Phase1). phase.member) (sym same) in
-    ap (peer_of (put peers after)) named ∙ put_found peers after peer (ap (peer_of peers) (sym named) ∙ is)
 
 pub phase_found : (found : Option Peer) (phase : Phase1) → option_map (λ (peer : Peer). peer.phase) found ≡ Some phase
     → (peer : Peer) × (found ≡ Some peer) × (peer.phase ≡ phase)

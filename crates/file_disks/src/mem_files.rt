@@ -166,7 +166,7 @@ impl FolderFile for MemFile {
 
     ghost only_now = { only_now_in_file };
 
-    fn ends_near(&self) {
+    fn prove_ends_near(&self) {
         self.disk.image();
     }
 

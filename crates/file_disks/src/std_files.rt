@@ -175,7 +175,7 @@ impl<R: Files<File = File>> FolderFile for StdFile<R> {
 
     ghost only_now = { λ file c left. left };
 
-    fn ends_near(&self) {}
+    fn prove_ends_near(&self) {}
 
     fn open(&mut self) -> Result<(), Failed> {
         let answer = self.open_file();

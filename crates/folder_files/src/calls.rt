@@ -32,7 +32,7 @@ pub fn read<F: FolderFile>(
 {
     hold(file, stage)?;
     if at >= FARTHEST {
-        file.ends_near();
+        file.prove_ends_near();
         return Ok(0);
     }
     Ok(read_all(file, at, into)?)

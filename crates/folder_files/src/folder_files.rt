@@ -161,7 +161,7 @@ pub trait FolderFile {
         ensures counted { faults self.old ≤ faults self.new };
 
     /// Does nothing, and says that no file ends past 2^62.
-    fn ends_near(&self)
+    fn prove_ends_near(&self)
         ensures { Knows (known honest image self.now) (λ file. length file ≤ 2 ^ 62) };
 
     /// What a read gives is an image that a loss of power may leave.

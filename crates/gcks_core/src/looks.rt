@@ -37,13 +37,13 @@ impl<D: Disk, G: Signer, R: Draws> Core<D, G, R> {
     }
 
     /// Its head is one that a journal can have, as its type says.
-    pub fn head_fits(&self)
+    pub fn prove_head_fits(&self)
         ensures fits { HeadFits self.now.head }
         ensures octets { AreOctets self.now.head.spi }
     {
         self.tree.depth();
-        head_fits(&self.head);
-        spi_fits(&self.head.spi);
+        prove_head_fits(&self.head);
+        prove_spi_fits(&self.head.spi);
     }
 
     /// The name of the group.

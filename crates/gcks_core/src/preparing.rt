@@ -22,7 +22,7 @@ ghost use Rattle.group_pushes.specs.Fits.{ValuesFit};
 ghost use Rattle.gcks_core.specs.Prepares.{IsReadyFor};
 ghost use Rattle.gcks_core.specs.Private.Cores.{IsGroupOf};
 
-use crate::bounds::{draws_few, renews_few};
+use crate::bounds::{prove_draws_few, prove_renews_few};
 use crate::{CoreOutput, Keyed, MemberName, Prepared, Refusal};
 use gd_disk::Disk;
 use gd_edges::{Draws, Signer};
@@ -155,8 +155,8 @@ fn make_ready<D: Disk, G: Signer>(
         IfOk result (λ ready. IsReadyFor G.Signer signer.now head.now tree.now batch.now list
         (record { values = values.now; text = ready.text; output = ready.output; step = step.now })) }
 {
-    draws_few(tree);
-    renews_few(tree, batch);
+    prove_draws_few(tree);
+    prove_renews_few(tree, batch);
     let text = TreeStore::<D>::make_record(alloc, batch, step.epoch(), step.sequence(), values)?;
     let pushes = write_pair(alloc, tree, step, kept, values, &head.spi, signer)?;
     let told = replies(alloc, tree, step, kept, values, &head.spi, batch)?;

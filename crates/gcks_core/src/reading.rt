@@ -14,7 +14,7 @@ ghost use Rattle.gcks_core.specs.Private.Cores.{IsGroupOf, IsAtEnd};
 ghost use Rattle.gcks_core.specs.Private.Reads.{IsReadTo, IsWalk};
 ghost use Rattle.gcks_core.specs.Stored.{made_of, stored_list};
 
-use crate::bounds::renews_few;
+use crate::bounds::prove_renews_few;
 use crate::{PushPair, Refusal};
 use gd_disk::Disk;
 use gd_edges::Signer;
@@ -174,7 +174,7 @@ fn pair_of<G: Signer>(
 {
     let step = due_step(alloc, tree, stored, head.limit)?;
     prove_values_fit(&stored.values);
-    renews_few(tree, &stored.batch);
+    prove_renews_few(tree, &stored.batch);
     let pair = write_pair(alloc, tree, &step, kept, &stored.values, &head.spi, signer)?;
     tree.advance(step);
     kept.take(&stored.values);

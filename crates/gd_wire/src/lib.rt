@@ -11,7 +11,7 @@ pub use chains::{
     write_payload, write_payload_head,
 };
 pub use faults::fault;
-pub use fits::{are_octets, has_four_octets, has_two_octets};
+pub use fits::{prove_are_octets, prove_has_four_octets, prove_has_two_octets};
 pub use group_terms::{WireFault, WireWhat};
 pub use headers::{Header, read_header, write_header};
 pub use laws::{

@@ -9,7 +9,8 @@ ghost use Rattle.kd_wire.specs.Widths.{update_octets};
 use group_terms::{BatchValues, KeyName, List, NoMemory, Octets, PathKey, Wrap};
 use group_values::KeptValues;
 use kd_wire::{
-    WrapJob, job_fits, texts_of_jobs_are_put_together, write_update, written_texts_have_their_size,
+    WrapJob, prove_job_fits, texts_of_jobs_are_put_together, write_update,
+    written_texts_have_their_size,
 };
 use std::alloc::Global;
 
@@ -63,7 +64,7 @@ fn job(kept: &KeptValues, values: &BatchValues, wrap: &Wrap) -> WrapJob
         by: key_after(kept, values, &wrap.by),
         gives: key_after(kept, values, &wrap.gives),
     };
-    job_fits(&job);
+    prove_job_fits(&job);
     job
 }
 

@@ -4,7 +4,7 @@
 
 pub use batches::{Stored, read_batch, write_batch};
 pub use faults::RecordFault;
-pub use fits::{batch_fits, head_fits};
+pub use fits::{prove_batch_fits, prove_head_fits};
 pub use heads::{Head, read_head, write_head};
 pub use laws::{a_read_batch_has_a_high_spi, a_written_record_is_read};
 

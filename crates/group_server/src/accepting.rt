@@ -18,7 +18,7 @@ use gcks_core::{Core, Keyed};
 use gd_disk::Disk;
 use gd_edges::{Draws, Signer};
 use group_model::{MemberName, NoMemory, Octets, Refusal};
-use pull_msgs::{nonce_fits, policies_fit};
+use pull_msgs::{prove_nonce_fits, prove_policies_fit};
 use pull_sessions::{First, Kept, Nonce, Sessions, Third, copy_of_reply};
 use server_steps::reply_says;
 use std::alloc::Global;
@@ -82,8 +82,8 @@ fn second_message<D: Disk, G: Signer, R: Draws>(
     ensures same { IfOk result (λ second. second.kept ≡ second.sent) }
 {
     let policy = policy_of(core);
-    nonce_fits(nr);
-    policies_fit(&policy);
+    prove_nonce_fits(nr);
+    prove_policies_fit(&policy);
     let sent = sessions.build_second(alloc, member, first, nr, &policy)?;
     let kept = Octets::copy_of(alloc, sent.as_slice())?;
     Ok(Twice { sent, kept })

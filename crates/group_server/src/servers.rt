@@ -115,7 +115,7 @@ impl<D: Disk, G: Signer, R: Draws> GroupServer<D, G, R> {
     pub fn introduce(&mut self, phase: Phase1) -> Result<(), Refusal>
         ensures { Serves D.Disk G.Signer R.Draws (requests.Introduce phase) (answer_done result) self.old self.new }
     {
-        phase_fits(&phase);
+        prove_phase_fits(&phase);
         introduced(self.sessions.introduce(phase))
     }
 
@@ -162,7 +162,7 @@ impl<D: Disk, G: Signer, R: Draws> GroupServer<D, G, R> {
         ensures fits { AllFit self.now.sessions.sas }
         ensures head { IsHead self.now.core.head }
     {
-        self.core.head_fits();
+        self.core.prove_head_fits();
         self.sessions.prove_sound();
     }
 

@@ -1,4 +1,4 @@
--- What is read of an update array hangs on its octets alone.
+-- What is read of an update array depends on its octets alone.
 use Rattle.std.proofs.Common.{◌≡◌, ℕ, zero, suc, ◌+◌, ◌*◌, ◌%◌, List, [], ◌∷◌, ◌++◌, length, Option, Some, Result, Ok, Err, ap, ◌∙◌, subst}
 use Rattle.std.specs.Prelude.{◌==◌, ◌&&◌, nat_le, not}
 use Rattle.std.specs.List.{list_any}
@@ -152,7 +152,7 @@ back_ok mid after value (Ok read) is = let same = same_value (read.0, mid) (valu
     (read.1, (λ i. Ok ((same i).0, read.1)), ap (λ read. read.1) same)
 back_ok mid after value (Err fault) is = absurd (cc)
 
--- a value of its own, read by what hangs on its octets alone
+-- a value of its own, read by what depends on its octets alone
 part_again : {A : Type 0} (reading : Reading A) (text : List ℕ) (value : A) (fault_at : ℕ)
     → ((base at : ℕ) → (end : Cursor) × (reading (cursor base at text) ≡ Ok (value, end)))
     → Reads (part (length text) Short fault_at >>= λ field. inside field reading) text value

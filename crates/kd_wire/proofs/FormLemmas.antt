@@ -30,7 +30,7 @@ both_true false b is = absurd (cc)
 
 -- ---- the keys of a path
 
--- what is given of so many keys after another one, if any
+-- what is given of a number of keys after another one, if any
 IsUp : ℕ → Option ℕ → List PathKey → Type 0
 IsUp zero below path = path ≡ []
 IsUp (suc more) below path = (length path ≡ suc more) × LeadsUp path × AboveFirst below path

@@ -35,7 +35,7 @@ jobs_size [] text same = ap length same
 jobs_size (job ∷ jobs) text (first, rest, update, texts, same) =
     ap length same ∙ length-append first rest ∙ omega (arith, job_size job first update, jobs_size jobs rest texts)
 
--- the jobs of a text with the data that stands sealed there
+-- the jobs of a text with the data that is sealed there
 record Parts (jobs : List WrapJob) (text : List ℕ) : Type 0 where
   updates : List Sealed
   are_jobs : map job_of updates ≡ jobs

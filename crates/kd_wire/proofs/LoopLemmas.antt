@@ -1,4 +1,4 @@
--- Loops over keys and arrays: what is made of all of them, from what is made of those that are left.
+-- Loops over keys and arrays: what is made of all of them, from what is made of the rest.
 use Rattle.std.proofs.Common.{◌≡◌, ℕ, zero, suc, ◌+◌, Bool, true, false, List, [], ◌∷◌, ◌++◌, length, Option, None, Some, Result, Ok}
 use Rattle.std.proofs.Common.{if◌then◌else◌, refl, sym, ap, ◌∙◌, append_assoc, arith}
 use Rattle.std.specs.Prelude.{◌||◌, ◌==◌, option_map}
@@ -72,7 +72,7 @@ given_step seen left more cursor after key one is =
 
 -- ---- the keys of an array
 
--- keys without fault are those that are left to be read
+-- keys without fault are the ones left to be read
 pub keys_are_left : (count : ℕ) (handle : Option ℕ) (cursor after : Cursor) (keys : List UpdateKey) → given_keys count handle cursor
     ≡ Ok (keys, after)
     → keys_left count handle cursor ≡ keys

@@ -1,4 +1,4 @@
--- The next update array is found again, wherever it stands and whatever comes after it.
+-- The next update array is found again, wherever it is and whatever comes after it.
 use Rattle.std.proofs.Common.{◌≡◌, ℕ, zero, suc, ◌+◌, ◌%◌, ◌≤◌, Bool, true, false, List, [], ◌∷◌, ◌++◌, length, Option, None, Some, Result}
 use Rattle.std.proofs.Common.{Ok, if◌then◌else◌, refl, sym, ap, ◌∙◌, subst, append_assoc, length-append, arith}
 use Rattle.std.specs.Prelude.{◌==◌, ◌&&◌, nat_le, not}
@@ -25,7 +25,7 @@ use Rattle.kd_wire.proofs.WrittenArrays.{none_of, and_false}
 
 -- ---- signature keys
 
--- they were passed over, so many of them, and are again before what is no signature key
+-- a number of them was passed over, and is again before what is no signature key
 record KeysTook (before after : Cursor) : Type 0 where
   text : List ℕ
   passed : Passed before after text

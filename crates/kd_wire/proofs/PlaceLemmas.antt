@@ -1,4 +1,4 @@
--- A reading takes octets from the front, and what it gives hangs on these alone: not on the place where they stand, nor on what comes
+-- A reading takes octets from the front, and what it gives depends on these alone: not on the place where they are, nor on what comes
 -- after.
 -- `IsLocal`: what is given depends on the octets that are taken alone; places of faults are its parameter. A span that is read up to the end of its body, in
 -- place of its own, would not need what comes after it.

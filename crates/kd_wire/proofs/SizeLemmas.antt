@@ -14,7 +14,7 @@ use Rattle.kd_wire.specs.Texts.{PathKeyFits, TrafficFits, Sealed, SealedFits}
 use Rattle.kd_wire.specs.Widths.{lkh_key_octets, update_octets, traffic_octets, traffic_kd_octets, update_kd_octets, reply_kd_octets}
 use Rattle.kd_wire.proofs.JobLemmas.{jobs_size}
 
--- pieces of one size, one behind the other
+-- pieces of one size, one after the other
 same_sizes : {X : Type 0} (P : X → Type 0) (size : ℕ) (piece : X → List ℕ) → ((x : X) → P x → length (piece x) ≡ size)
     → (xs : List X) → All P xs → length (flat_map piece xs) ≡ size * length xs
 same_sizes P size piece sized [] all = omega arith

@@ -1,4 +1,4 @@
--- Signature keys that are passed over are passed over again, wherever they stand, and so the arrays that come after them are found.
+-- Signature keys that are passed over are passed over again, wherever they are, and so the arrays that come after them are found.
 use Rattle.std.proofs.Common.{◌≡◌, ℕ, ◌+◌, ◌%◌, ◌≤◌, Bool, true, false, List, [], ◌∷◌, ◌++◌, length, take, Result, Ok, Err, if◌then◌else◌}
 use Rattle.std.proofs.Common.{refl, sym, ap, ◌∙◌, subst, append_assoc, length-append, arith}
 use Rattle.std.specs.Prelude.{◌==◌, ◌&&◌, nat_le}
@@ -23,7 +23,7 @@ use Rattle.kd_wire.proofs.ArrayPlaces.{Nothing, local_attribute_type}
 
 -- ---- an attribute, whose value tells its place
 
--- the reading takes a text, and takes it wherever that stands, though what it gives may differ
+-- the reading takes a text, and takes it wherever that is, though what it gives may differ
 pub record Moves {A : Type 0} (reading : Reading A) (before after : Cursor) : Type 0 where
   pub text : List ℕ
   pub passed : Passed before after text

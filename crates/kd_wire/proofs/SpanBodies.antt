@@ -1,4 +1,4 @@
--- Where the update arrays of a body without fault stand in it, and that their span has them.
+-- Where the update arrays of a body without fault are in it, and that their span has them.
 use Rattle.std.proofs.Common.{◌≡◌, ℕ, ◌+◌, ◌-◌, ◌≤◌, Bool, true, false, List, [], ◌∷◌, ◌++◌, length, Some, Ok, if◌then◌else◌, refl, sym, ap}
 use Rattle.std.proofs.Common.{◌∙◌, subst, append_assoc, append-nil, length-append, arith}
 use Rattle.std.specs.Prelude.{◌==◌, ◌||◌, nat_le}
@@ -22,7 +22,7 @@ use Rattle.gd_wire.proofs.ReadingLemmas.{same_value, and_then_ok, value_ok}
 use Rattle.gd_wire.proofs.ReadsLemmas.{cursor}
 use Rattle.kd_wire.proofs.SpanPlaces.{updates_took, span_has}
 
--- what is left at a cursor stands in this body, at its place
+-- what is left at a cursor is in this body, at its place
 record Stands (body : List ℕ) (c : Cursor) : Type 0 where
   before : List ℕ
   later : List ℕ

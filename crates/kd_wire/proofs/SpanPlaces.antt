@@ -1,4 +1,4 @@
--- The arrays of a span are those that were read where it stands.
+-- A span has the arrays that were read where it is.
 use Rattle.std.proofs.Common.{◌≡◌, ℕ, zero, suc, ◌+◌, ◌-◌, ◌≤◌, true, List, [], ◌∷◌, ◌++◌, length, take, drop, Option, None, Some, Result}
 use Rattle.std.proofs.Common.{Ok, if◌then◌else◌, refl, sym, ap, ◌∙◌, subst, append_assoc, append-nil, length-append, arith}
 use Rattle.std.specs.Prelude.{◌&&◌, nat_le}
@@ -121,7 +121,7 @@ updates_took c after placed is =
 
 -- ---- a span of a body
 
--- where the text of a span stands in a body, its arrays are these
+-- where the text of a span is in a body, its arrays are these
 pub span_has : (body before text later : List ℕ) (span : UpdateSpan) (arrays : List UpdateArray) → length body ≤ 4294967295 → body ≡ before
     ++ (text ++ later)
     → span.start ≡ length before → span.end ≡ span.start + length text → arrays_left span.arrays None (cursor 0 0 (text ++ [])) ≡ arrays

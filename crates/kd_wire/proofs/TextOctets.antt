@@ -22,7 +22,7 @@ module _
     front : (size number : ℕ) (more : List ℕ) → AreOctets more → AreOctets (big_bytes size number ++ more)
     front size number more = both (big_bytes size number) more (number_octets size number)
 
-    -- pieces that are octets, one behind the other
+    -- pieces that are octets, one after the other
     pieces : {X : Type 0} (P : X → Type 0) (piece : X → List ℕ) → ((x : X) → P x → AreOctets (piece x))
         → (xs : List X) → All P xs → AreOctets (flat_map piece xs)
     pieces P piece small [] all = none

@@ -19,7 +19,7 @@ use Rattle.gd_wire.proofs.ReadsLemmas.{cursor, reads_octets, reads_number, reads
 use Rattle.kd_wire.proofs.FormLemmas.{given_of}
 use Rattle.kd_wire.proofs.WrittenUpdates.{placed_of, updates_read, jobs_long, root_same}
 
--- ---- what stands before the packets
+-- ---- what comes before the packets
 
 pub one_of : (packet : List ℕ) (base : ℕ) → kd (cursor base 0 (body_text 1 packet)) ≡ one_packet (cursor base 4 packet)
 unfolding kd
@@ -41,7 +41,7 @@ two_of packets base =
 
 -- ---- packets for keys of the tree
 
--- what stands in one after its header
+-- what is in one after its header
 abbrev pub lkh_body : List ℕ → List ℕ → List ℕ
 lkh_body spi attributes = 16 ∷ spi ++ attributes
 

@@ -23,7 +23,7 @@ use Rattle.kd_wire.proofs.WrittenArrays.{download_read}
 use Rattle.kd_wire.proofs.WrittenBodies.{two_of, lkh_body, lkh_text, lkh_read}
 use Rattle.kd_wire.proofs.WrittenTraffic.{traffic_of, traffic_out}
 
--- what stands in the packet of a traffic key after its header
+-- what is in the packet of a traffic key after its header
 abbrev traffic_body : TrafficValue → List ℕ
 traffic_body value = 4 ∷ value.spi ++ long_text 1 value.cipher_key ++ long_text 2 value.integrity_key
 

@@ -125,7 +125,7 @@ more_updates (suc more) handle = do
     arrays ← more_updates more (handle_after handle array.keys)
     give (record { array = array; end = end } ∷ arrays))
 
--- the arrays of a packet, and where they stand
+-- the arrays of a packet, and where they are
 pub record PlacedUpdates : Type 0 where
   pub arrays : List UpdateArray
   pub span : UpdateSpan

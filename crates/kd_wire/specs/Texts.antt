@@ -41,7 +41,7 @@ data_of value = value.iv ++ value.key
 abbrev pub traffic_text : TrafficValue → List ℕ
 traffic_text traffic = packet_text 1 traffic.spi (long_text 1 traffic.cipher_key ++ long_text 2 traffic.integrity_key)
 
--- the keys of a path, one after the other, as they stand in a download array (section 5.6.3.1)
+-- the keys of a path, one after the other, as a download array has them (section 5.6.3.1)
 abbrev pub path_text : List PathKey → List ℕ
 path_text path = flat_map (λ (key : PathKey). key_text key.id key.made (data_of key.value)) path
 
@@ -169,6 +169,6 @@ pub record AreSealedJobs (jobs : List WrapJob) (text : List ℕ) (updates : List
   pub push : AreOfOnePush updates
   pub is_text : text ≡ updates_text updates
 
--- the key that such a job gives
+-- the key that a job of a push gives
 abbrev pub key_of : Sealed → UpdateKey
 key_of update = record { id = update.job.gives.id; made = update.job.gives.made; sealed = update.octets }

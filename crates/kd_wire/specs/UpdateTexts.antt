@@ -1,4 +1,4 @@
--- Texts of update attributes, and what is read of those that are written for jobs.
+-- Texts of update attributes, and what is read of the texts that are written for jobs.
 use Rattle.std.specs.Prelude.{◌≡◌, ℕ, ◌+◌, true, List, [], ◌∷◌, ◌++◌, length, Option, Some, Ok, All}
 use Rattle.gd_wire.specs.Readings.{mapped}
 use Rattle.kd_wire.specs.declared.sealing.WrapJob.{WrapJob}

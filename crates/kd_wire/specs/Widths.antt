@@ -10,11 +10,11 @@ attribute_head_octets = 4
 abbrev pub lkh_key_octets : ℕ
 lkh_key_octets = 16 + data_octets
 
--- a download array of so many keys (RFC 6407 section 5.6.3.1): its version, their number, a reserved octet, and the keys
+-- a download array of a number of keys (RFC 6407 section 5.6.3.1): its version, that number, a reserved octet, and the keys
 abbrev pub download_array_octets : ℕ → ℕ
 download_array_octets count = 4 + lkh_key_octets * count
 
--- a download array of so many keys, with the header of its attribute
+-- a download array of a number of keys, with the header of its attribute
 abbrev pub download_octets : ℕ → ℕ
 download_octets count = attribute_head_octets + download_array_octets count
 
@@ -39,10 +39,10 @@ traffic_octets = packet_head_octets traffic_spi_octets + (attribute_head_octets 
 abbrev pub traffic_kd_octets : ℕ
 traffic_kd_octets = 4 + traffic_octets
 
--- the body with so many update arrays of one key: the number of packets and a reserved number, and one packet with these arrays
+-- the body with a number of update arrays of one key: the number of packets and a reserved number, and one packet with these arrays
 abbrev pub update_kd_octets : ℕ → ℕ
 update_kd_octets arrays = 4 + packet_head_octets rekey_spi_octets + update_octets * arrays
 
--- the body for a member that registers: the number of packets, a reserved number, the packet of a traffic key, and one with so many keys of a path
+-- the body for a member that registers: the number of packets, a reserved number, the packet of a traffic key, and one with a number of keys of a path
 abbrev pub reply_kd_octets : ℕ → ℕ
 reply_kd_octets keys = 4 + traffic_octets + packet_head_octets rekey_spi_octets + download_octets keys

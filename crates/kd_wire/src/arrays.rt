@@ -31,7 +31,7 @@ pub(crate) enum ArrayKind {
 }
 
 impl ArrayKind {
-    /// How many octets stand before the keys.
+    /// How many octets come before the keys.
     fn head_size(self) -> usize
         ensures { result ≡ head_size self }
     {
@@ -41,7 +41,7 @@ impl ArrayKind {
         }
     }
 
-    /// Whether it may have so many keys.
+    /// Whether it may have `count` keys.
     fn takes(self, count: u16) -> bool
         ensures { result ≡ nat_le (least_keys self) count && nat_le count (most_keys self) }
     {
@@ -80,7 +80,7 @@ pub(crate) fn signature_keys(text: &mut Reader<'_>) -> Result<(), WireFault>
     Ok(())
 }
 
-/// Reads the head of an array whose length stands at this place: the number of its keys.
+/// Reads the head of an array whose length is at this place: the number of its keys.
 #[tactic(auto, unfolding(crate::specs::Arrays::array_head))]
 pub(crate) fn array_head(
     kind: ArrayKind,
@@ -136,7 +136,7 @@ impl Seen {
     }
 }
 
-/// Reads so many keys that an update gives, after what has been seen.
+/// Reads `count` keys that an update gives, after what has been seen.
 fn given_keys(count: u16, before: Seen, text: &mut Reader<'_>) -> Result<Seen, WireFault>
     ensures { Gives result text.new (mapped (seen_after before) (given_keys count before.handle text.old)) }
 {
@@ -155,7 +155,7 @@ pub(crate) struct SeenArray<'a> {
     pub(crate) seen: Seen,
 }
 
-/// Reads an update array whose length stands at this place, and whose keys have this handle, if any.
+/// Reads an update array whose length is at this place, and whose keys have this handle, if any.
 #[tactic(auto, unfolding(crate::specs::Arrays::update_array))]
 fn update_array<'a>(
     handle: Option<u32>,
@@ -228,7 +228,7 @@ impl Found {
     }
 }
 
-/// Reads update arrays up to the end, no more than so many, whose keys have this handle, if any.
+/// Reads update arrays up to the end, no more than this number, whose keys have this handle, if any.
 fn more_updates(
     most: u32,
     handle: Option<u32>,
@@ -250,7 +250,7 @@ fn more_updates(
     Ok(found)
 }
 
-/// Where update arrays stand, and whether one of their keys is that of the root.
+/// Where update arrays are, and whether one of their keys is that of the root.
 #[derive(Clone, Copy)]
 pub(crate) struct SeenUpdates {
     pub(crate) span: UpdateSpan,

@@ -18,7 +18,7 @@ pub(crate) const TEK: u8 = 1;
 
 pub(crate) const LKH: u8 = 3;
 
-/// What a key download payload gives (RFC 6407 section 5.6): a traffic key alone; the SPI of rekey datagrams and where update arrays stand;
+/// What a key download payload gives (RFC 6407 section 5.6): a traffic key alone; the SPI of rekey datagrams and where update arrays are;
 /// or a traffic key, that SPI, and the keys of a path.
 #[derive(Drop)]
 pub struct KdView {
@@ -92,7 +92,7 @@ fn traffic_alone(packet: Reader<'_>, text: &mut Reader<'_>) -> Result<KdView, Wi
     })
 }
 
-/// What stands in a packet with update arrays.
+/// What is in a packet with update arrays.
 #[derive(Clone, Copy)]
 struct UpdatePacket {
     spi_at: u32,

@@ -13,7 +13,7 @@ use crate::widths::{DOWNLOAD_ARRAY_HEAD, DOWNLOAD_HEAD, LKH_KEY_OCTETS, REKEY_SP
 use gd_wire::{Reader, long_value, no_more_attributes};
 use group_terms::{NoMemory, Octets, Path, PathKey, WireFault};
 
-/// Reads a download array whose length stands at this place.
+/// Reads a download array whose length is at this place.
 #[tactic(auto, unfolding(crate::specs::Arrays::download_array))]
 fn download_array(length_at: u32, text: &mut Reader<'_>) -> Result<Path, WireFault>
     ensures { Gives result text.new (download_array length_at text.old) }
@@ -54,7 +54,7 @@ pub(crate) fn append_download(
     Ok(())
 }
 
-/// Appends what stands before so many keys in a download array, with the header of its attribute.
+/// Appends what comes before `count` keys in a download array, with the header of its attribute.
 fn append_download_head(count: u8, out: &mut Octets) -> Result<(), NoMemory>
     requires { count ≤ 16 }
     ensures ok { OnOk result (out.new ≡ out.old ++ download_head count) }

@@ -24,7 +24,7 @@ fn key_type(text: &mut Reader<'_>) -> Result<(), WireFault>
     text.due_octet(0, WireWhat::Reserved)
 }
 
-/// Reads so many keys of a path.
+/// Reads `count` keys of a path.
 pub(crate) fn path_keys(count: u16, text: &mut Reader<'_>) -> Result<Path, WireFault>
     requires { count ≤ LONGEST_PATH }
     ensures { Gives result text.new (path_keys count None text.old) }
@@ -39,7 +39,7 @@ pub(crate) fn path_keys(count: u16, text: &mut Reader<'_>) -> Result<Path, WireF
     Ok(path)
 }
 
-/// Reads a key of a path, before so many more.
+/// Reads a key of a path, before `more` further ones.
 #[tactic(auto, unfolding(crate::specs::Keys::path_key))]
 fn path_key(more: u16, below: Option<LkhId>, text: &mut Reader<'_>) -> Result<PathKey, WireFault>
     ensures { Gives result text.new (path_key more below text.old) }
@@ -109,7 +109,7 @@ fn has_handle(handle: Option<u32>, made: u32) -> bool
     }
 }
 
-/// Appends a key whose data stands in the clear.
+/// Appends a key whose data is in the clear.
 pub(crate) fn append_key(key: &PathKey, out: &mut Octets) -> Result<(), NoMemory>
     ensures ok { OnOk result (out.new ≡ out.old ++ key_text key.now.id key.now.made (data_of key.now.value)) }
     ensures size { OnOk result (length (key_text key.now.id key.now.made (data_of key.now.value)) ≡ lkh_key_octets) }
@@ -120,7 +120,7 @@ pub(crate) fn append_key(key: &PathKey, out: &mut Octets) -> Result<(), NoMemory
     out.extend(&key.value.key)
 }
 
-/// Appends what stands before the data of a key.
+/// Appends what comes before the data of a key.
 pub(crate) fn append_key_head(key: &PathKey, out: &mut Octets) -> Result<(), NoMemory>
     ensures ok { OnOk result (out.new ≡ out.old ++ key_head key.now.id key.now.made) }
     ensures err { OnErr result (take (length out.old) out.new ≡ out.old) }

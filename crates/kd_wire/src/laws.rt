@@ -84,7 +84,7 @@ pub fn a_sealed_key_opens()
     open_undoes_seal();
 }
 
-/// The arrays of the span of a body without fault are those that were read.
+/// The span of a body without fault has the arrays that were read.
 pub fn a_span_has_the_arrays_that_were_read()
     ensures { (base : ℕ) (body : List ℕ) (given : Kd) (span : UpdateSpan) → length body ≤ 4294967295 →
         kd_of base body ≡ Ok given → given.view.updates ≡ Some span →

@@ -1,9 +1,10 @@
-//! The key download payload of GDOI (RFC 6407 section 5.6): traffic keys, and keys of the tree in download and update arrays, read and
-//! written exactly.
+//! The key download payload of GDOI (RFC 6407 section 5.6): traffic keys, and keys of the tree in download and update arrays.
 #![tactic(auto)]
 
 pub use bodies::{KdView, read_kd};
-pub use fits::{job_fits, path_key_fits, path_keys_fit, spi_fits, traffic_fits};
+pub use fits::{
+    prove_job_fits, prove_path_key_fits, prove_path_keys_fit, prove_spi_fits, prove_traffic_fits,
+};
 pub use group_terms::{Keyed, LkhId, NodeValue, Path, PathKey, TrafficValue, WireFault, WireWhat};
 pub use laws::{
     a_body_has_one_of_three_forms, a_sealed_key_opens, a_span_has_the_arrays_that_were_read,

@@ -44,7 +44,7 @@ fn append_update(job: &WrapJob, sealed: &[u8], out: &mut Octets) -> Result<(), N
     Ok(())
 }
 
-/// Appends what stands before the key, and names the one under which that is sealed.
+/// Appends what comes before the key, and names the one under which that is sealed.
 fn append_sealer(by: &PathKey, out: &mut Octets) -> Result<(), NoMemory>
     ensures ok { OnOk result (out.new ≡ out.old ++ sealer_head by.now) }
     ensures err { OnErr result (take (length out.old) out.new ≡ out.old) }

@@ -4,7 +4,7 @@ ghost use Rattle.group_terms.specs.Octets.{rekey_spi_octets};
 ghost use Rattle.kd_wire.specs.Texts.{traffic_kd, update_kd, reply_kd};
 ghost use Rattle.kd_wire.specs.Widths.{update_octets, update_kd_octets, reply_kd_octets};
 
-use crate::fits::{path_keys_fit, spi_fits, traffic_fits};
+use crate::fits::{prove_path_keys_fit, prove_spi_fits, prove_traffic_fits};
 use crate::widths::{
     DOWNLOAD_HEAD, LKH_HEAD_OCTETS, LKH_KEY_OCTETS, TRAFFIC_OCTETS, UPDATE_OCTETS,
 };
@@ -14,11 +14,11 @@ use group_terms::{Keyed, TrafficValue};
 pub fn traffic_kd_size(traffic: &TrafficValue) -> usize
     ensures { result ≡ length (traffic_kd traffic.now) }
 {
-    traffic_fits(traffic);
+    prove_traffic_fits(traffic);
     4 + TRAFFIC_OCTETS
 }
 
-/// How many octets the body has that gives keys by so many update arrays of one key each.
+/// How many octets the body has that gives keys by update arrays of one key each.
 pub fn update_kd_size(arrays: usize) -> usize
     requires { update_octets * arrays ≤ 65000 }
     ensures octets { result ≡ update_kd_octets arrays }
@@ -34,13 +34,13 @@ pub fn reply_kd_size(keyed: &Keyed) -> usize
     ensures size { result ≡ length (reply_kd keyed.now) }
 {
     let keys = keyed.path.keys();
-    path_keys_fit(keys);
-    spi_fits(&keyed.spi);
-    traffic_fits(&keyed.traffic);
+    prove_path_keys_fit(keys);
+    prove_spi_fits(&keyed.spi);
+    prove_traffic_fits(&keyed.traffic);
     size_with(keys.len())
 }
 
-/// How many octets that body has with so many keys.
+/// How many octets that body has with `keys` keys.
 fn size_with(keys: usize) -> usize
     requires { keys ≤ 16 }
     ensures { result ≡ reply_kd_octets keys }

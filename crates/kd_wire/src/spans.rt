@@ -7,7 +7,7 @@ use crate::updates::UpdateArray;
 use gd_wire::Reader;
 use std::marker::Model;
 
-/// Where the update arrays of a body stand: from the first octet of the first one to the place after the last one, counted from the body's
+/// Where the update arrays of a body are: from the first octet of the first one to the place after the last one, counted from the body's
 /// first octet, and how many there are.
 #[derive(Clone, Copy, PartialEq, Eq)]
 pub struct UpdateSpan {
@@ -17,7 +17,7 @@ pub struct UpdateSpan {
 }
 
 impl UpdateSpan {
-    /// The arrays that stand there. In another body than that in which the span was found they end where no array is; a span that leads out
+    /// The arrays that are there. In another body than that in which the span was found they end where no array is; a span that leads out
     /// of the body has none.
     pub fn arrays<'a>(&self, body: &'a [u8]) -> Updates<'a>
         ensures { result ≡ span_arrays self.now body.now }
@@ -29,7 +29,7 @@ impl UpdateSpan {
         }
     }
 
-    /// The octets of the body that stand there.
+    /// The octets of the body that are there.
     fn text<'a>(&self, body: &'a [u8]) -> &'a [u8]
         ensures text { result.now ≡ span_text self.now body.now }
         ensures small { length result.now ≤ 4294967295 }

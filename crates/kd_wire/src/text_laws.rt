@@ -34,7 +34,7 @@ pub fn written_texts_are_octets()
     written_framing_is_octets();
 }
 
-/// The texts of jobs stand one after the other: of none, of one more at the end, and of two lists.
+/// The texts of jobs come one after the other: of none, of one more at the end, and of two lists.
 pub fn texts_of_jobs_are_put_together()
     ensures none { AreUpdateTexts [] [] }
     ensures one_more { (jobs : List WrapJob) (job : WrapJob) (text next : List ℕ) → AreUpdateTexts jobs text → IsUpdate job next →

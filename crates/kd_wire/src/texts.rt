@@ -46,7 +46,7 @@ pub fn write_reply_kd(keyed: &Keyed, out: &mut Octets) -> Result<(), NoMemory>
     out.keep_or_truncate(before, appended)
 }
 
-/// Appends a body's head, for so many packets, and the packet of a traffic key.
+/// Appends a body's head, for `count` packets, and the packet of a traffic key.
 fn append_traffic(count: u8, traffic: &TrafficValue, out: &mut Octets) -> Result<(), NoMemory>
     ensures ok { OnOk result (out.new ≡ out.old ++ body_text count (traffic_text traffic.now)) }
     ensures err { OnErr result (take (length out.old) out.new ≡ out.old) }
@@ -80,7 +80,7 @@ fn append_reply(keyed: &Keyed, out: &mut Octets) -> Result<(), NoMemory>
     append_download(&keyed.spi, keyed.path.keys(), out)
 }
 
-/// Appends what stands before the attributes, of this size, in a packet for keys of the tree.
+/// Appends what comes before the attributes, of this size, in a packet for keys of the tree.
 pub(crate) fn append_lkh_head(
     spi: &[u8; REKEY_SPI_OCTETS],
     size: usize,

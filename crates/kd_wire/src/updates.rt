@@ -54,7 +54,7 @@ impl<'a> Model for SealedKeys<'a> {
 }
 
 impl<'a> SealedKeys<'a> {
-    /// So many keys of a text, after the one that seals the first of them; they have this handle, if any.
+    /// `count` keys of a text, after the one that seals the first of them; they have this handle, if any.
     pub(crate) fn new(
         by: LkhId,
         by_made: u32,

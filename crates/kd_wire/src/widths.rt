@@ -33,7 +33,7 @@ pub(crate) const TRAFFIC_SPI_OCTETS: usize = 4;
 
 pub(crate) const TRAFFIC_SPI_SIZE: u8 = TRAFFIC_SPI_OCTETS as u8;
 
-/// What stands before the attributes of a packet for keys of the tree.
+/// What comes before the attributes of a packet for keys of the tree.
 pub(crate) const LKH_HEAD_OCTETS: usize = PAYLOAD_HEAD_OCTETS + 1 + REKEY_SPI_OCTETS;
 
 /// The packet of a traffic key.

@@ -21,7 +21,7 @@ module _ (holders_stay : HoldersStay) (depth : ℕ) where
       let after = holders_stay depth n (suc epoch) batches early in
       λ i. numbers_stay n epoch batches (omega arith) i + cond (somebody_stayed (before i) (after i)) 2 0
 
-  two_more : (batches : List (List Change)) (epoch : ℕ) → stayed_at depth batches (suc epoch) ≡ true
+  pub two_more : (batches : List (List Change)) (epoch : ℕ) → stayed_at depth batches (suc epoch) ≡ true
       → sequence_at depth batches (suc epoch) ≡ sequence_at depth batches epoch + 2
   unfolding sequence_at
   two_more batches epoch stayed = ap (λ stayed. sequence_at depth batches epoch + cond stayed 2 0) stayed
@@ -35,6 +35,12 @@ module _ (holders_stay : HoldersStay) (depth : ℕ) where
     | inr other ↦ omega (arith, numbers_rise batches from to (omega (arith, before, other)))
   ]
 
+  pub two_more_after : (batches : List (List Change)) (epoch : ℕ) → stayed_at depth batches (epoch + 1) ≡ true
+      → sequence_at depth batches (epoch + 1) ≡ sequence_at depth batches epoch + 2
+  two_more_after batches epoch stayed =
+      subst (λ now. sequence_at depth batches now ≡ sequence_at depth batches epoch + 2) (sym (add-one epoch))
+      (two_more batches epoch (subst (λ now. stayed_at depth batches now ≡ true) (add-one epoch) stayed))
+
   module _ {G : Type 0} (g : SignerGhosts G) (signer : G) (spi : List ℕ) (list : List Made) (pair : PushPair) where
     pub last_number : (epoch : ℕ) → IsPairAt g signer depth spi list epoch pair → pair.first + 1 ≡ sequence_at depth (batches_made list) epoch
     last_number epoch at =
@@ -44,8 +50,4 @@ module _ (holders_stay : HoldersStay) (depth : ℕ) where
         ∙ numbers_stay epoch epoch (batches_made list) (omega arith)
 
     pub first_number : (epoch : ℕ) → IsPairAt g signer depth spi list (epoch + 1) pair → pair.first ≡ sequence_at depth (batches_made list) epoch + 1
-    first_number epoch at =
-        let last = last_number (epoch + 1) at in
-        let more = subst (λ now. sequence_at depth (batches_made list) now ≡ sequence_at depth (batches_made list) epoch + 2) (sym (add-one epoch))
-        (two_more (batches_made list) epoch (subst (λ now. stayed_at depth (batches_made list) now ≡ true) (add-one epoch) at.stayed)) in
-        omega (arith, last, more)
+    first_number epoch at = omega (arith, last_number (epoch + 1) at, two_more_after (batches_made list) epoch at.stayed)

@@ -1,50 +1,24 @@
 -- The numbers of the pushes of a group: those of each epoch are its own.
-use Rattle.std.proofs.Common.{◌≡◌, ◌∙◌, add-one, ap, arith, cond, inl, inr, refl, subst, sym, ℕ, zero, suc, ◌+◌, ◌-◌, ◌<◌, ◌≤◌, true, List, length, take}
-use Rattle.std.specs.List.{take-map}
+use Rattle.std.proofs.Common.{◌≡◌, arith, inl, inr, subst, ℕ, zero, suc, ◌+◌, ◌-◌, ◌<◌, ◌≤◌, true, List}
 use Rattle.std.proofs.lemmas.Bool.{cases_eq, cases_lt}
-use Rattle.std.proofs.lemmas.List.{length-take-le}
 use Rattle.gd_edges.specs.declared.signers.Signer.{Ghosts as SignerGhosts}
 use Rattle.group_terms.specs.declared.changes.Change.{Change}
 use Rattle.group_values.specs.Values.{Made, batches_made}
 use Rattle.group_model.specs.Laws.{HoldersStay}
-use Rattle.group_model.specs.Stayed.{sequence_at, somebody_stayed, stayed_at}
+use Rattle.group_model.specs.Stayed.{sequence_at, stayed_at}
 use Rattle.group_model.specs.declared.entries.PushPair.{PushPair}
 use Rattle.law_member_roots.specs.Groups.{IsPairAt}
+use Rattle.law_member_roots.proofs.NumberLemmas.{last_number, numbers_rise, two_more, two_more_after}
 use Rattle.server_steps.specs.Sent.{SentPush}
 use Rattle.law_store_steps.proofs.SentLemmas.{IsPushAt}
 
 module _ (holders_stay : HoldersStay) (depth : ℕ) where
-  -- the first epochs have the numbers that they have without the later ones
-  numbers_stay : (n epoch : ℕ) (batches : List (List Change)) → epoch ≤ n
-      → sequence_at depth (take n batches) epoch ≡ sequence_at depth batches epoch
-  unfolding sequence_at
-  numbers_stay n zero batches early = refl
-  numbers_stay n (suc epoch) batches early =
-      let before = holders_stay depth n (suc epoch - 1) batches (omega arith) in
-      let after = holders_stay depth n (suc epoch) batches early in
-      λ i. numbers_stay n epoch batches (omega arith) i + cond (somebody_stayed (before i) (after i)) 2 0
-
-  two_more : (batches : List (List Change)) (epoch : ℕ) → stayed_at depth batches (suc epoch) ≡ true
-      → sequence_at depth batches (suc epoch) ≡ sequence_at depth batches epoch + 2
-  unfolding sequence_at
-  two_more batches epoch stayed = ap (λ stayed. sequence_at depth batches epoch + cond stayed 2 0) stayed
-
-  -- numbers never fall
-  numbers_rise : (batches : List (List Change)) (from to : ℕ) → from ≤ to → sequence_at depth batches from ≤ sequence_at depth batches to
-  unfolding sequence_at
-  numbers_rise batches from zero before =
-      let first : from ≡ 0 = omega (arith, before) in omega (arith, ap (sequence_at depth batches) first)
-  numbers_rise batches from (suc to) before = elim (cases_eq from (suc to)) [
-    | inl same ↦ omega (arith, ap (sequence_at depth batches) same)
-    | inr other ↦ omega (arith, numbers_rise batches from to (omega (arith, before, other)))
-  ]
-
   -- an epoch over which somebody stayed has two more than any before it
   greater : (batches : List (List Change)) (from to : ℕ) → from < to → stayed_at depth batches to ≡ true
       → sequence_at depth batches from + 2 ≤ sequence_at depth batches to
   greater batches from zero before stayed = absurd (omega (arith, before))
   greater batches from (suc to) before stayed =
-      omega (arith, numbers_rise batches from to (omega (arith, before)), two_more batches to stayed)
+      omega (arith, numbers_rise holders_stay depth batches from to (omega (arith, before)), two_more holders_stay depth batches to stayed)
 
   -- so no two of these have the same last number
   same_epoch : (batches : List (List Change)) (one two : ℕ) → stayed_at depth batches one ≡ true → stayed_at depth batches two ≡ true
@@ -57,34 +31,15 @@ module _ (holders_stay : HoldersStay) (depth : ℕ) where
     ]
   ]
 
-  two_more_after : (batches : List (List Change)) (epoch : ℕ) → stayed_at depth batches (epoch + 1) ≡ true
-      → sequence_at depth batches (epoch + 1) ≡ sequence_at depth batches epoch + 2
-  two_more_after batches epoch stayed =
-      subst (λ now. sequence_at depth batches now ≡ sequence_at depth batches epoch + 2) (sym (add-one epoch))
-      (two_more batches epoch (subst (λ now. stayed_at depth batches now ≡ true) (add-one epoch) stayed))
-
   module _ {G : Type 0} (g : SignerGhosts G) (signer : G) (spi : List ℕ) (list : List Made) where
-    pub last_number : (epoch : ℕ) (pair : PushPair) → IsPairAt g signer depth spi list epoch pair
-        → pair.first + 1 ≡ sequence_at depth (batches_made list) epoch
-    last_number epoch pair at =
-        at.is_pair.first
-        ∙ ap (sequence_at depth (batches_made (take epoch list))) (length-take-le epoch list at.early)
-        ∙ ap (λ batches. sequence_at depth batches epoch) (sym (take-map (λ (made : Made). made.changes) epoch list))
-        ∙ numbers_stay epoch epoch (batches_made list) (omega arith)
-
-    pub first_number : (epoch : ℕ) (pair : PushPair) → IsPairAt g signer depth spi list (epoch + 1) pair
-        → pair.first ≡ sequence_at depth (batches_made list) epoch + 1
-    first_number epoch pair at =
-        omega (arith, last_number (epoch + 1) pair at, two_more_after (batches_made list) epoch at.stayed)
-
     -- a push of the first number after an epoch is the membership push of the next one
     pub membership_at : (epoch : ℕ) (push : SentPush) → stayed_at depth (batches_made list) (epoch + 1) ≡ true
         → push.number ≡ sequence_at depth (batches_made list) epoch + 1 → IsPushAt g signer depth spi list push
         → (pair : PushPair) × IsPairAt g signer depth spi list (epoch + 1) pair × (push.datagram ≡ pair.membership)
     membership_at epoch push stayed number at =
         let batches = batches_made list in
-        let last = last_number (at.sent + 1) at.pair at.at in
-        let more = two_more_after batches epoch stayed in
+        let last = last_number holders_stay depth g signer spi list at.pair (at.sent + 1) at.at in
+        let more = two_more_after holders_stay depth batches epoch stayed in
         elim at.is [
           | inl first ↦
               let same =
@@ -92,8 +47,8 @@ module _ (holders_stay : HoldersStay) (depth : ℕ) where
               (at.pair, subst (λ epoch. IsPairAt g signer depth spi list epoch at.pair) same at.at, first.1)
           | inr second ↦ elim (cases_lt (at.sent + 1) (epoch + 1)) [
             | inl less ↦
-                absurd (omega (arith, numbers_rise batches (at.sent + 1) epoch (omega (arith, less)), last, number, second.0))
-            | inr past ↦ absurd (omega (arith, numbers_rise batches (epoch + 1) (at.sent + 1) past, more, last, number, second.0))
+                absurd (omega (arith, numbers_rise holders_stay depth batches (at.sent + 1) epoch (omega (arith, less)), last, number, second.0))
+            | inr past ↦ absurd (omega (arith, numbers_rise holders_stay depth batches (epoch + 1) (at.sent + 1) past, more, last, number, second.0))
           ]
         ]
 
@@ -104,12 +59,12 @@ module _ (holders_stay : HoldersStay) (depth : ℕ) where
         × (pair.first + 1 ≡ sequence_at depth (batches_made list) epoch)
     traffic_at epoch push stayed number at =
         let batches = batches_made list in
-        let last = last_number (at.sent + 1) at.pair at.at in
-        let more = two_more_after batches at.sent at.at.stayed in
+        let last = last_number holders_stay depth g signer spi list at.pair (at.sent + 1) at.at in
+        let more = two_more_after holders_stay depth batches at.sent at.at.stayed in
         elim at.is [
           | inl first ↦ elim (cases_lt at.sent epoch) [
             | inl less ↦ absurd (omega (arith, greater batches at.sent epoch less stayed, last, more, number, first.0))
-            | inr past ↦ absurd (omega (arith, numbers_rise batches epoch at.sent past, last, more, number, first.0))
+            | inr past ↦ absurd (omega (arith, numbers_rise holders_stay depth batches epoch at.sent past, last, more, number, first.0))
           ]
           | inr second ↦
               let same = same_epoch batches (at.sent + 1) epoch at.at.stayed stayed (omega (arith, last, number, second.0)) in (

@@ -20,12 +20,13 @@ use Rattle.member_store.specs.Steps.{IsAcceptance, IsRefused}
 use Rattle.member_store.specs.Stores.{Store, leaf_of, root_epoch}
 use Rattle.law_member_roots.specs.Groups.{IsPairAt}
 use Rattle.law_member_roots.specs.Roots.{HasTrafficOf, IsAtRoot, IsStoreOf}
+use Rattle.law_member_roots.proofs.NumberLemmas.{first_number, last_number}
 use Rattle.member_steps.specs.Steps.{answer_of}
 use Rattle.group_steps.specs.Runs.{Run}
 use Rattle.group_steps.specs.TrueSteps.{batches_in}
 use Rattle.law_store_steps.specs.Follow.{HasKeysThen, HasThen, IsMembershipPush, IsOurs, IsTrafficPush, IsWhy, holders_in, number_at}
 use Rattle.law_store_steps.proofs.GivenLemmas.{Known, has_then}
-use Rattle.law_store_steps.proofs.NumberLemmas.{first_number, last_number, membership_at, traffic_at}
+use Rattle.law_store_steps.proofs.NumberLemmas.{membership_at, traffic_at}
 use Rattle.law_store_steps.proofs.StayLemmas.{placed_member, stays_over}
 
 -- it is no text of a push
@@ -89,7 +90,7 @@ module _ {D G V : Type 0} (holders_stay : HoldersStay) (g : SignerGhosts G) (sig
 
   less_first : (pair : PushPair) → IsPairAt g signer depth spi list (root_epoch store + 1) pair → store.sequence < pair.first
   less_first pair at =
-      omega (arith, known.is.sequence, first_number holders_stay depth g signer spi list (root_epoch store) pair at)
+      omega (arith, known.is.sequence, first_number holders_stay depth g signer spi list pair (root_epoch store) at)
 
   -- ---- the push that is due
 
@@ -136,30 +137,30 @@ module _ {D G V : Type 0} (holders_stay : HoldersStay) (g : SignerGhosts G) (sig
 
     refused_membership : known.push.number ≡ known.at.pair.first → known.push.datagram ≡ known.at.pair.membership → IsRefusedHere
     refused_membership first is =
-        let number_of = first_number holders_stay depth g signer spi list in
+        let number_of = first_number holders_stay depth g signer spi list known.at.pair in
         let given = is_given known.at.pair.membership is in
         elim (cases_eq known.at.sent (root_epoch store)) [
           | inl same ↦
               let at = subst (λ sent. IsPairAt g signer depth spi list (sent + 1) known.at.pair) same known.at.at in
-              let due : number ≡ number_at run (root_epoch store) + 1 = sym known.numbered ∙ first ∙ number_of (root_epoch store) known.at.pair at in (
+              let due : number ≡ number_at run (root_epoch store) + 1 = sym known.numbered ∙ first ∙ number_of (root_epoch store) at in (
                 NoPath (leaf_of store.path),
                 inl ((due, at.stayed), refl),
                 refusals.left known.at.pair known.given.now known.given.result at (gone due) (less_first known.at.pair at) given,
               )
           | inr other ↦
               refused_other known.at.sent other
-              (inl (sym known.numbered ∙ first ∙ number_of known.at.sent known.at.pair known.at.at, known.at.at.stayed))
+              (inl (sym known.numbered ∙ first ∙ number_of known.at.sent known.at.at, known.at.at.stayed))
               (refusals.other_membership known.at.sent known.at.pair known.given.now known.given.result known.at.at other given)
         ]
 
     refused_traffic : known.push.number ≡ known.at.pair.first + 1 → known.push.datagram ≡ known.at.pair.traffic → IsRefusedHere
     refused_traffic second is =
-        let number_of = last_number holders_stay depth g signer spi list in
+        let number_of = last_number holders_stay depth g signer spi list known.at.pair in
         let given = is_given known.at.pair.traffic is in
         elim (cases_eq (known.at.sent + 1) (root_epoch store)) [
           | inl same ↦
               let at = subst (λ epoch. IsPairAt g signer depth spi list epoch known.at.pair) same known.at.at in
-              let due : number ≡ number_at run (root_epoch store) = sym known.numbered ∙ second ∙ number_of (root_epoch store) known.at.pair at in (
+              let due : number ≡ number_at run (root_epoch store) = sym known.numbered ∙ second ∙ number_of (root_epoch store) at in (
                 Stale store.sequence number,
                 inr (inl ((due, at.stayed), refl)),
                 subst (λ got. IsRefused store (Stale store.sequence got) known.given.result known.given.now) (sym second ∙ known.numbered)
@@ -168,7 +169,7 @@ module _ {D G V : Type 0} (holders_stay : HoldersStay) (g : SignerGhosts G) (sig
               )
           | inr other ↦
               refused_other (known.at.sent + 1) other
-              (inr (sym known.numbered ∙ second ∙ number_of (known.at.sent + 1) known.at.pair known.at.at, known.at.at.stayed))
+              (inr (sym known.numbered ∙ second ∙ number_of (known.at.sent + 1) known.at.at, known.at.at.stayed))
               (refusals.other_traffic known.at.sent known.at.pair known.given.now known.given.result known.at.at other given)
         ]
 

@@ -5,7 +5,7 @@ ghost use Rattle.member_pull.specs.Pulls.{IsBegun, IsSecond, IsFourth};
 use crate::refusals::PullRefusal;
 use group_terms::{GroupName, Keyed, NoMemory, Octets, Phase1};
 use pull_msgs::{
-    Nonce, next_iv, phase_fits, read_fourth, read_second, write_first, write_third,
+    Nonce, next_iv, prove_phase_fits, read_fourth, read_second, write_first, write_third,
     written_messages_have_their_size,
 };
 use std::alloc::Global;
@@ -75,7 +75,7 @@ impl MemberPull {
     ) -> Result<Begun, NoMemory>
         ensures { IfOk result (λ begun. IsBegun phase message ni group.now begun.pull begun.datagram) }
     {
-        phase_fits(&phase);
+        prove_phase_fits(&phase);
         written_messages_have_their_size();
         let ni = Nonce::read(&ni).unwrap();
         let datagram = write_first(alloc, &phase, &message, &ni, group)?;
@@ -95,7 +95,7 @@ impl MemberPull {
     pub fn second(&mut self, alloc: Global, datagram: &[u8]) -> Result<Octets, PullRefusal>
         ensures { IsSecond self.old datagram.now result self.new }
     {
-        phase_fits(&self.phase);
+        prove_phase_fits(&self.phase);
         written_messages_have_their_size();
         let iv = match &self.step {
             Step::Second { iv } => *iv,

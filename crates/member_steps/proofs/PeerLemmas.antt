@@ -32,7 +32,7 @@ found_is_peer (first ∷ peers) m peer is = elim (cases_Bool (is_named m first))
       ∙ found_is_peer peers m peer (sym (cond-false (is_named m first) (Some first) (peer_of peers m) other) ∙ is)
 ]
 
-found_named : (peers : List Peer) (m : Name) (peer : Peer) → peer_of peers m ≡ Some peer → is_named m peer ≡ true
+pub found_named : (peers : List Peer) (m : Name) (peer : Peer) → peer_of peers m ≡ Some peer → is_named m peer ≡ true
 found_named [] m peer is = absurd (none-some peer is)
 found_named (first ∷ peers) m peer is = elim (cases_Bool (is_named m first)) [
   | inl here ↦ ap (is_named m) (sym (same_Some first peer (sym (cond-true (is_named m first) (Some first) (peer_of peers m) here) ∙ is))) ∙ here

@@ -24,7 +24,7 @@ pub(crate) fn draw_phase<P: Draws>(draws: &mut P, member: &MemberName) -> Phase1
         key: draws.draw(),
         last: draws.draw(),
     };
-    phase_fits(&phase);
+    prove_phase_fits(&phase);
     phase
 }
 
@@ -36,7 +36,7 @@ pub(crate) fn draw_message<P: Draws>(draws: &mut P) -> [u8; 4]
     ensures blocks { (k : ℕ) → P.block_at draws.new k ≡ P.block_at draws.old k }
 {
     let message = number_of(&draws.draw());
-    are_octets(&message);
+    prove_are_octets(&message);
     message
 }
 
@@ -48,11 +48,11 @@ pub(crate) fn draw_nonce<P: Draws>(draws: &mut P) -> [u8; 16]
     ensures blocks { (k : ℕ) → P.block_at draws.new k ≡ P.block_at draws.old k }
 {
     let nonce = draws.draw();
-    are_octets(&nonce);
+    prove_are_octets(&nonce);
     nonce
 }
 
 /// A slice of octets has octets.
-fn are_octets(octets: &[u8])
+fn prove_are_octets(octets: &[u8])
     ensures { AreOctets octets.now }
 {}

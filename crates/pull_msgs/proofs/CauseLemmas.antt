@@ -17,7 +17,7 @@ use Rattle.pull_msgs.specs.Readings.{PullRead}
 module _ (once : (key iv sealed one other : List ℕ) → IsOpened key iv sealed one → IsOpened key iv sealed other → one ≡ other)
     (A B : Type 0) (phase : Phase1) (awaited : Awaited A B) (datagram : List ℕ) (answer : Result B PullFault)
     (is : IsAnswer phase awaited datagram answer) where
-  -- the answer for the text that was opened is the one for every such text
+  -- the answer for the text that was opened is the one for every text as which the datagram is opened
   for_text : (head : Header) (text : List ℕ) (read : Result (PullRead A) WireFault) → Opens A B phase awaited datagram head text
       → payloads_of awaited head text ≡ read
       → OrNoMemory answer (answer_for (hash_of phase head.message awaited.nonces) (awaited.gives head datagram) read)

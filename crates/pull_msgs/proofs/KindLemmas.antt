@@ -1,15 +1,16 @@
 -- A second message is not read as a fourth, and a fourth not as a second: the nonce of the one and the number of the other differ in their length.
-use Rattle.std.proofs.Common.{◌≡◌, ◌≤◌, ◌<◌, ◌+◌, ◌++◌, ℕ, Bool, true, false, List, length, replicate, Result, Ok, Err, refl, arith}
+use Rattle.std.proofs.Common.{◌≡◌, ◌≤◌, ◌<◌, ◌+◌, ◌++◌, ℕ, Bool, true, false, List, length, replicate, Result, Ok, Err, refl}
 use Rattle.std.proofs.lemmas.Bool.{eqb-true, false_from_ne_true, lt-leb}
 use Rattle.std.specs.Prelude.{◌==◌}
 use Rattle.gd_wire.specs.Bodies as bodies
-use Rattle.gd_wire.specs.Chains.{named_first, payload, payload_text}
+use Rattle.gd_wire.specs.Chains.{payload, payload_text}
 use Rattle.gd_wire.specs.Faults.{fault_at}
 use Rattle.gd_wire.specs.Readings.{Cursor, from_start, value_of}
 use Rattle.group_terms.specs.declared.wires.WireFault.{WireFault}
 use Rattle.group_terms.specs.declared.wires.WireWhat.TheVariants.{Kind, Length}
-use Rattle.pull_msgs.specs.Readings.{FourthSaid, PullRead, SecondSaid, fourth, hash_payload, nonce_payload, second}
-use Rattle.pull_msgs.proofs.MessageLemmas.{Laws, body_one, digest_read, text}
+use Rattle.pull_msgs.specs.Readings.{FourthSaid, PullRead, SecondSaid, fourth, nonce_payload, second}
+use Rattle.gd_wire.proofs.ChainLaws.{payload_written}
+use Rattle.pull_msgs.proofs.MessageLemmas.{body_one, hash_read, text}
 
 -- another kind was named than is due
 other_kind : (due kind at : ℕ) (cursor : Cursor) → (kind == due) ≡ false
@@ -31,10 +32,10 @@ no_fault : {A : Type 0} (given : Result A WireFault) (read : A) (fault : WireFau
 no_fault (Ok value) read fault is failed = absurd (cc)
 no_fault (Err other) read fault is failed = absurd (cc)
 
-module _ (laws : Laws) (kind next : ℕ) (digest one two : List ℕ) (zeros : ℕ) (long : length digest ≡ 32) (few : zeros < 16)
+module _ (kind next : ℕ) (digest one two : List ℕ) (zeros : ℕ) (long : length digest ≡ 32) (few : zeros < 16)
     (one_fits : length one ≤ 65531) (two_fits : length two ≤ 65531) where
   abbrev whole : List ℕ
-  whole = text laws kind next digest one two zeros long few one_fits two_fits
+  whole = text kind next digest one two zeros long few one_fits two_fits
 
   abbrev later : List ℕ
   later = payload_text 0 two ++ replicate zeros 0
@@ -48,11 +49,10 @@ module _ (laws : Laws) (kind next : ℕ) (digest one two : List ℕ) (zeros : �
   -- ---- as a fourth message
 
   other_fourth : (spi : List ℕ) → (kind == 18) ≡ false → value_of (fourth spi whole 8 (from_start 28 whole)) ≡ Err (fault_at (Kind kind) 28)
-  unfolding fourth hash_payload
+  unfolding fourth
   other_fourth spi differs =
       rw (
-        laws.payload_is 8 kind 28 0 (named_first 8) digest (payload_text next one ++ later) refl (omega (arith, long)),
-        digest_read laws kind next digest one two zeros long few one_fits two_fits,
+        hash_read kind digest (payload_text next one ++ later) long,
         other_kind 18 kind 28 after_hash differs,
       ) refl
 
@@ -65,13 +65,12 @@ module _ (laws : Laws) (kind next : ℕ) (digest one two : List ℕ) (zeros : �
 
   short_fourth : (spi : List ℕ) → kind ≡ 18 → (length one == 4) ≡ false
       → value_of (fourth spi whole 8 (from_start 28 whole)) ≡ Err (fault_at Length (28 + one_at + 2))
-  unfolding fourth hash_payload
+  unfolding fourth
   short_fourth spi named differs =
       rw (
-        laws.payload_is 8 kind 28 0 (named_first 8) digest (payload_text next one ++ later) refl (omega (arith, long)),
-        digest_read laws kind next digest one two zeros long few one_fits two_fits,
-        laws.payload_is 18 next 28 one_at (record { kind = kind; at = 28 + 0 }) one later named one_fits,
-        body_one laws kind next digest one two zeros long few one_fits two_fits 18,
+        hash_read kind digest (payload_text next one ++ later) long,
+        payload_written 18 next 28 one_at (record { kind = kind; at = 28 + 0 }) one later named one_fits,
+        body_one kind next digest one two zeros long few one_fits two_fits 18,
         no_number (28 + one_at + 4) (28 + one_at + 2) one differs,
       ) refl
 
@@ -83,11 +82,10 @@ module _ (laws : Laws) (kind next : ℕ) (digest one two : List ℕ) (zeros : �
   -- ---- as a second message
 
   other_second : (kind == 10) ≡ false → value_of (second whole 8 (from_start 28 whole)) ≡ Err (fault_at (Kind kind) 28)
-  unfolding second hash_payload nonce_payload
+  unfolding second nonce_payload
   other_second differs =
       rw (
-        laws.payload_is 8 kind 28 0 (named_first 8) digest (payload_text next one ++ later) refl (omega (arith, long)),
-        digest_read laws kind next digest one two zeros long few one_fits two_fits,
+        hash_read kind digest (payload_text next one ++ later) long,
         other_kind 10 kind 28 after_hash differs,
       ) refl
 
@@ -99,13 +97,12 @@ module _ (laws : Laws) (kind next : ℕ) (digest one two : List ℕ) (zeros : �
       by_test false differs = absurd (no_fault _ read _ is (other_second differs))
 
   short_second : kind ≡ 10 → length one < 8 → value_of (second whole 8 (from_start 28 whole)) ≡ Err (fault_at Length (28 + one_at + 2))
-  unfolding second hash_payload nonce_payload
+  unfolding second nonce_payload
   short_second named short =
       rw (
-        laws.payload_is 8 kind 28 0 (named_first 8) digest (payload_text next one ++ later) refl (omega (arith, long)),
-        digest_read laws kind next digest one two zeros long few one_fits two_fits,
-        laws.payload_is 10 next 28 one_at (record { kind = kind; at = 28 + 0 }) one later named one_fits,
-        body_one laws kind next digest one two zeros long few one_fits two_fits 10,
+        hash_read kind digest (payload_text next one ++ later) long,
+        payload_written 10 next 28 one_at (record { kind = kind; at = 28 + 0 }) one later named one_fits,
+        body_one kind next digest one two zeros long few one_fits two_fits 10,
         no_nonce (28 + one_at + 4) (28 + one_at + 2) one short,
       ) refl
 

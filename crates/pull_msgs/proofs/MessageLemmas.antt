@@ -3,12 +3,13 @@ use Rattle.std.proofs.Common.{◌≡◌, ◌≤◌, ◌<◌, ◌+◌, ◌-◌, �
 use Rattle.std.proofs.lemmas.List.{take_at, drop_at, drop-drop}
 use Rattle.std.specs.Prelude.{Bool, true, false, IsSome}
 use Rattle.std.specs.Str.{bytes_eq}
-use Rattle.gd_wire.specs.declared.chains.Named.{Named}
 use Rattle.gd_wire.specs.declared.chains.Part.{Part}
 use Rattle.gd_wire.specs.Bodies as bodies
 use Rattle.gd_wire.specs.Bodies.{sequence_text, identification_text}
-use Rattle.gd_wire.specs.Chains.{payload, payload_text, chain_end, body_of, named_first}
+use Rattle.gd_wire.specs.Chains.{payload, payload_text, body_of, named_first}
 use Rattle.gd_wire.specs.Readings.{Cursor, Reading, ◌>>◌, check, give, from_start, value_of}
+use Rattle.gd_wire.proofs.BodyLemmas.{hash_written, identification_written, nonce_written, sequence_written}
+use Rattle.gd_wire.proofs.ChainLaws.{end_written, payload_written, written_body}
 use Rattle.gd_wire.proofs.OctetLemmas.{same_octets}
 use Rattle.group_terms.specs.declared.paths.Keyed.{Keyed}
 use Rattle.group_terms.specs.declared.wires.WireWhat.TheVariants.{Value}
@@ -23,47 +24,40 @@ use Rattle.sa_wire.proofs.PlacedLemmas.{placed_from}
 use Rattle.pull_msgs.specs.Readings.{FourthSaid, PullRead, hash_payload, nonce_payload, covered, both_policies, policies, maybe_gap}
 use Rattle.pull_msgs.specs.Readings.{first, second, third, fourth}
 
--- what the framing promises of payloads that are written
-pub record Laws : Type 0 where
-  pub payload_is : (kind next base at : ℕ) (named : Named) (body later : List ℕ) → named.kind ≡ kind → length body ≤ 65531 →
-      payload kind named (record { base = base; at = at; left = payload_text next body ++ later })
-      ≡ Ok (
-        (record { kind = kind; at = base + at; start = at + 4; length = length body }, record { kind = next; at = base + at }),
-        record { base = base; at = at + 4 + length body; left = later },
-      )
-  pub body_is : (text : List ℕ) (kind next base at : ℕ) (body later : List ℕ) → drop at text ≡ payload_text next body ++ later →
-      body_of text (record { kind = kind; at = base + at; start = at + 4; length = length body }) ≡ body
-  pub end_is : (zeros base at named_at : ℕ) → zeros < 16 →
-      value_of (chain_end (record { kind = 0; at = named_at }) (record { base = base; at = at; left = replicate zeros 0 })) ≡ Ok tt
-  pub hash_is : (base at : ℕ) (octets : List ℕ) → length octets ≡ 32 → value_of (bodies.hash at (from_start base octets)) ≡ Ok octets
-  pub nonce_is : (base at : ℕ) (octets : List ℕ) → 8 ≤ length octets → length octets ≤ 128 → value_of (bodies.nonce at (from_start base octets)) ≡ Ok octets
-  pub number_is : (number base at : ℕ) → number < 4294967296 → value_of (bodies.sequence at (from_start base (sequence_text number))) ≡ Ok number
-  pub identification_is : (type base : ℕ) (octets : List ℕ) → value_of (bodies.identification (from_start base (identification_text type octets))) ≡ Ok (type, octets)
+-- ---- the HASH
+
+-- it is read, whatever comes after it
+pub hash_read : (kind : ℕ) (digest later : List ℕ) → length digest ≡ 32
+    → hash_payload (payload_text kind digest ++ later) 8 (from_start 28 (payload_text kind digest ++ later)) ≡ Ok (
+      (digest, 0 + 4 + length digest, record { kind = kind; at = 28 + 0 }),
+      record { base = 28; at = 0 + 4 + length digest; left = later },
+    )
+unfolding hash_payload
+hash_read kind digest later long =
+    let text : List ℕ = payload_text kind digest ++ later in
+    rw (
+      payload_written 8 kind 28 0 (named_first 8) digest later refl (omega (arith, long)),
+      ap (λ octets. value_of (bodies.hash 30 (from_start 32 octets))) (written_body text 8 kind 28 0 digest later refl) ∙ hash_written 32 30 digest long,
+    ) refl
 
 -- ---- a HASH alone
 
-module _ (laws : Laws) (digest : List ℕ) (zeros : ℕ) (long : length digest ≡ 32) (few : zeros < 16) where
+module _ (digest : List ℕ) (zeros : ℕ) (long : length digest ≡ 32) (few : zeros < 16) where
   abbrev alone : List ℕ
   alone = payload_text 0 digest ++ replicate zeros 0
 
-  alone_read : value_of (bodies.hash 30 (from_start 32 (body_of alone (record { kind = 8; at = 28 + 0; start = 0 + 4; length = length digest })))) ≡ Ok digest
-  alone_read =
-      ap (λ octets. value_of (bodies.hash 30 (from_start 32 octets))) (laws.body_is alone 8 0 28 0 digest (replicate zeros 0) refl)
-      ∙ laws.hash_is 32 30 digest long
-
   pub third_is_read : value_of (third alone 8 (from_start 28 alone)) ≡ Ok (record { hash = digest; covered = []; said = tt })
-  unfolding third hash_payload maybe_gap covered
+  unfolding third maybe_gap covered
   third_is_read =
       let none : (0 + 4 + length digest) - (0 + 4 + length digest) ≡ 0 = omega arith in
       rw (
-        laws.payload_is 8 0 28 0 (named_first 8) digest (replicate zeros 0) refl (omega (arith, long)),
-        alone_read,
-        laws.end_is zeros 28 (0 + 4 + length digest) 28 few,
+        hash_read 0 digest (replicate zeros 0) long,
+        end_written zeros (record { kind = 0; at = 28 }) (record { base = 28; at = 0 + 4 + length digest; left = replicate zeros 0 }) few refl refl,
       ) (ap (λ size. Ok (record { hash = digest; covered = take size (drop (0 + 4 + length digest) alone); said = tt })) none)
 
 -- ---- a HASH and two payloads
 
-module _ (laws : Laws) (kind next : ℕ) (digest one two : List ℕ) (zeros : ℕ) (long : length digest ≡ 32) (few : zeros < 16)
+module _ (kind next : ℕ) (digest one two : List ℕ) (zeros : ℕ) (long : length digest ≡ 32) (few : zeros < 16)
     (one_fits : length one ≤ 65531) (two_fits : length two ≤ 65531) where
   abbrev end : List ℕ
   end = replicate zeros 0
@@ -98,16 +92,11 @@ module _ (laws : Laws) (kind next : ℕ) (digest one two : List ℕ) (zeros : �
       sym (drop-drop (4 + length one) one_at text ∙ ap (λ place. drop place text) (omega arith))
       ∙ ap (drop (4 + length one)) rest_one ∙ drop_at (payload_text next one) from_two (4 + length one) (omega arith)
 
-  pub digest_read : value_of (bodies.hash 30 (from_start 32 (body_of text (part 8 0 (length digest))))) ≡ Ok digest
-  digest_read =
-      ap (λ octets. value_of (bodies.hash 30 (from_start 32 octets))) (laws.body_is text 8 kind 28 0 digest from_one refl)
-      ∙ laws.hash_is 32 30 digest long
-
   pub body_one : (kind : ℕ) → body_of text (part kind one_at (length one)) ≡ one
-  body_one named = laws.body_is text named next 28 one_at one from_two rest_one
+  body_one named = written_body text named next 28 one_at one from_two rest_one
 
   body_two : (kind : ℕ) → body_of text (part kind two_at (length two)) ≡ two
-  body_two named = laws.body_is text named 0 28 two_at two end rest_two
+  body_two named = written_body text named 0 28 two_at two end rest_two
 
   -- what the HASH covers
   covered_is : take (end_at - one_at) (drop one_at text) ≡ payload_text next one ++ payload_text 0 two
@@ -116,38 +105,60 @@ module _ (laws : Laws) (kind next : ℕ) (digest one two : List ℕ) (zeros : �
       ∙ take_at (payload_text next one ++ payload_text 0 two) end (end_at - one_at)
       (omega (arith, length-append (payload_text next one) (payload_text 0 two)))
 
-  nonce_read : 8 ≤ length one → length one ≤ 128
-      → value_of (bodies.nonce (28 + one_at + 2) (from_start (28 + one_at + 4) (body_of text (part 10 one_at (length one))))) ≡ Ok one
-  nonce_read least most =
-      ap (λ octets. value_of (bodies.nonce (28 + one_at + 2) (from_start (28 + one_at + 4) octets))) (body_one 10)
-      ∙ laws.nonce_is (28 + one_at + 4) (28 + one_at + 2) one least most
+  -- the payloads, one after the other
+  one_read : payload kind (record { kind = kind; at = 28 + 0 }) (record { base = 28; at = one_at; left = from_one }) ≡ Ok (
+    (part kind one_at (length one), record { kind = next; at = 28 + one_at }),
+    record { base = 28; at = two_at; left = from_two },
+  )
+  one_read = payload_written kind next 28 one_at (record { kind = kind; at = 28 + 0 }) one from_two refl one_fits
 
-module _ (laws : Laws) (digest ni id : List ℕ) (type zeros : ℕ) (long : length digest ≡ 32) (few : zeros < 16)
+  nonce_read : 8 ≤ length one → length one ≤ 128
+      → nonce_payload text (record { kind = 10; at = 28 + 0 }) (record { base = 28; at = one_at; left = from_one })
+      ≡ Ok ((one, record { kind = next; at = 28 + one_at }), record { base = 28; at = two_at; left = from_two })
+  unfolding nonce_payload
+  nonce_read least most =
+      rw (
+        payload_written 10 next 28 one_at (record { kind = 10; at = 28 + 0 }) one from_two refl one_fits,
+        body_one 10,
+        nonce_written (28 + one_at + 4) (28 + one_at + 2) one least most,
+      ) refl
+
+  two_read : payload next (record { kind = next; at = 28 + one_at }) (record { base = 28; at = two_at; left = from_two }) ≡ Ok (
+    (part next two_at (length two), record { kind = 0; at = 28 + two_at }),
+    record { base = 28; at = end_at; left = end },
+  )
+  two_read = payload_written next 0 28 two_at (record { kind = next; at = 28 + one_at }) two end refl two_fits
+
+  covered_read : covered text one_at (record { kind = 0; at = 28 + two_at }) (record { base = 28; at = end_at; left = end })
+      ≡ Ok (payload_text next one ++ payload_text 0 two, record { base = 28; at = end_at; left = end })
+  unfolding covered
+  covered_read =
+      rw (
+        end_written zeros (record { kind = 0; at = 28 + two_at }) (record { base = 28; at = end_at; left = end }) few refl refl,
+        covered_is,
+      ) refl
+
+module _ (digest ni id : List ℕ) (type zeros : ℕ) (long : length digest ≡ 32) (few : zeros < 16)
     (least : 8 ≤ length ni) (most : length ni ≤ 128) (small : length id ≤ 65000) where
   abbrev named : List ℕ
   named = identification_text type id
 
   abbrev first_text : List ℕ
-  first_text = text laws 10 5 digest ni named zeros long few (omega (arith, most)) (omega (arith, small))
+  first_text = text 10 5 digest ni named zeros long few (omega (arith, most)) (omega (arith, small))
 
   pub first_is_read : value_of (first first_text 8 (from_start 28 first_text))
       ≡ Ok (record { hash = digest; covered = payload_text 5 ni ++ payload_text 0 named; said = record { ni = ni; id_type = type; id = id } })
-  unfolding first hash_payload nonce_payload covered
+  unfolding first
   first_is_read =
       let one_fits : length ni ≤ 65531 = omega (arith, most) in
       let two_fits : length named ≤ 65531 = omega (arith, small) in
-      let one_at : ℕ = 0 + 4 + length digest in
-      let two_at : ℕ = one_at + 4 + length ni in
       rw (
-        laws.payload_is 8 10 28 0 (named_first 8) digest (payload_text 5 ni ++ (payload_text 0 named ++ replicate zeros 0)) refl (omega (arith, long)),
-        digest_read laws 10 5 digest ni named zeros long few one_fits two_fits,
-        laws.payload_is 10 5 28 one_at (record { kind = 10; at = 28 + 0 }) ni (payload_text 0 named ++ replicate zeros 0) refl one_fits,
-        nonce_read laws 10 5 digest ni named zeros long few one_fits two_fits least most,
-        laws.payload_is 5 0 28 two_at (record { kind = 5; at = 28 + one_at }) named (replicate zeros 0) refl two_fits,
-        body_two laws 10 5 digest ni named zeros long few one_fits two_fits 5,
-        laws.identification_is type (28 + two_at + 4) id,
-        laws.end_is zeros 28 (two_at + 4 + length named) (28 + two_at) few,
-        covered_is laws 10 5 digest ni named zeros long few one_fits two_fits,
+        hash_read 10 digest (payload_text 5 ni ++ (payload_text 0 named ++ replicate zeros 0)) long,
+        nonce_read 10 5 digest ni named zeros long few one_fits two_fits least most,
+        two_read 10 5 digest ni named zeros long few one_fits two_fits,
+        body_two 10 5 digest ni named zeros long few one_fits two_fits 5,
+        identification_written type (28 + (0 + 4 + length digest + 4 + length ni) + 4) id,
+        covered_read 10 5 digest ni named zeros long few one_fits two_fits,
       ) refl
 
 -- ---- the policies
@@ -167,30 +178,26 @@ policies_read policy body base cursor has_kek has_tek is =
     rw placed.1 (both_read placed.0.kek placed.0.tek policy base cursor (ap (λ (policy : SaPolicy). policy.kek) placed.2)
     (ap (λ (policy : SaPolicy). policy.tek) placed.2) has_kek has_tek)
 
-module _ (laws : Laws) (digest nr body : List ℕ) (policy : SaPolicy) (zeros : ℕ) (long : length digest ≡ 32) (few : zeros < 16)
+module _ (digest nr body : List ℕ) (policy : SaPolicy) (zeros : ℕ) (long : length digest ≡ 32) (few : zeros < 16)
     (least : 8 ≤ length nr) (most : length nr ≤ 128) (small : length body ≤ 65000)
     (are_policies : (base : ℕ) (cursor : Cursor) → policies base body cursor ≡ Ok (policy, cursor)) where
   abbrev second_text : List ℕ
-  second_text = text laws 10 1 digest nr body zeros long few (omega (arith, most)) (omega (arith, small))
+  second_text = text 10 1 digest nr body zeros long few (omega (arith, most)) (omega (arith, small))
 
   pub second_is_read : value_of (second second_text 8 (from_start 28 second_text))
       ≡ Ok (record { hash = digest; covered = payload_text 1 nr ++ payload_text 0 body; said = record { nr = nr; policy = policy } })
-  unfolding second hash_payload nonce_payload covered
+  unfolding second
   second_is_read =
       let one_fits : length nr ≤ 65531 = omega (arith, most) in
       let two_fits : length body ≤ 65531 = omega (arith, small) in
-      let one_at : ℕ = 0 + 4 + length digest in
-      let two_at : ℕ = one_at + 4 + length nr in
+      let two_at : ℕ = 0 + 4 + length digest + 4 + length nr in
       rw (
-        laws.payload_is 8 10 28 0 (named_first 8) digest (payload_text 1 nr ++ (payload_text 0 body ++ replicate zeros 0)) refl (omega (arith, long)),
-        digest_read laws 10 1 digest nr body zeros long few one_fits two_fits,
-        laws.payload_is 10 1 28 one_at (record { kind = 10; at = 28 + 0 }) nr (payload_text 0 body ++ replicate zeros 0) refl one_fits,
-        nonce_read laws 10 1 digest nr body zeros long few one_fits two_fits least most,
-        laws.payload_is 1 0 28 two_at (record { kind = 1; at = 28 + one_at }) body (replicate zeros 0) refl two_fits,
-        body_two laws 10 1 digest nr body zeros long few one_fits two_fits 1,
+        hash_read 10 digest (payload_text 1 nr ++ (payload_text 0 body ++ replicate zeros 0)) long,
+        nonce_read 10 1 digest nr body zeros long few one_fits two_fits least most,
+        two_read 10 1 digest nr body zeros long few one_fits two_fits,
+        body_two 10 1 digest nr body zeros long few one_fits two_fits 1,
         are_policies (28 + two_at + 4) (record { base = 28; at = two_at + 4 + length body; left = replicate zeros 0 }),
-        laws.end_is zeros 28 (two_at + 4 + length body) (28 + two_at) few,
-        covered_is laws 10 1 digest nr body zeros long few one_fits two_fits,
+        covered_read 10 1 digest nr body zeros long few one_fits two_fits,
       ) refl
 
 -- ---- the keys
@@ -207,7 +214,7 @@ checked_same : {A : Type 0} (holds : Bool) (at : ℕ) (value read : A) (cursor :
 checked_same true at value read cursor is = cc
 checked_same false at value read cursor is = absurd (cc)
 
-module _ (laws : Laws) (digest : List ℕ) (keyed : Keyed) (zeros : ℕ) (long : length digest ≡ 32) (few : zeros < 16)
+module _ (digest : List ℕ) (keyed : Keyed) (zeros : ℕ) (long : length digest ≡ 32) (few : zeros < 16)
     (small : keyed.sequence < 4294967296) (keys_fit : length (reply_kd keyed) ≤ 65000) (places : ℕ → SpiPlaces) (spi_at : ℕ → ℕ)
     (placed : (base : ℕ) → (places base).lkh ≡ Some (spi_at base))
     (are_keys : (base : ℕ) → kd_view base (reply_kd keyed) ≡ Ok (record {
@@ -221,7 +228,7 @@ module _ (laws : Laws) (digest : List ℕ) (keyed : Keyed) (zeros : ℕ) (long :
   number = sequence_text keyed.sequence
 
   abbrev fourth_text : List ℕ
-  fourth_text = text laws 18 17 digest number (reply_kd keyed) zeros long few (omega arith) (omega (arith, keys_fit))
+  fourth_text = text 18 17 digest number (reply_kd keyed) zeros long few (omega arith) (omega (arith, keys_fit))
 
   abbrev pub fourth_said : PullRead FourthSaid
   fourth_said = record {
@@ -234,25 +241,22 @@ module _ (laws : Laws) (digest : List ℕ) (keyed : Keyed) (zeros : ℕ) (long :
   fourth_checked : (spi : List ℕ) → value_of (fourth spi fourth_text 8 (from_start 28 fourth_text))
       ≡ value_of (checked (bytes_eq keyed.spi spi) (spi_at (28 + (0 + 4 + length digest + 4 + 4) + 4)) fourth_said
       (record { base = 28; at = 0 + 4 + length digest + 4 + 4 + 4 + length (reply_kd keyed); left = replicate zeros 0 }))
-  unfolding fourth hash_payload covered
+  unfolding fourth
   fourth_checked spi =
       let one_fits : length number ≤ 65531 = omega arith in
       let two_fits : length (reply_kd keyed) ≤ 65531 = omega (arith, keys_fit) in
       let one_at : ℕ = 0 + 4 + length digest in
       let two_at : ℕ = one_at + 4 + 4 in
       rw (
-        laws.payload_is 8 18 28 0 (named_first 8) digest (payload_text 17 number ++ (payload_text 0 (reply_kd keyed) ++ replicate zeros 0)) refl
-            (omega (arith, long)),
-        digest_read laws 18 17 digest number (reply_kd keyed) zeros long few one_fits two_fits,
-        laws.payload_is 18 17 28 one_at (record { kind = 18; at = 28 + 0 }) number (payload_text 0 (reply_kd keyed) ++ replicate zeros 0) refl one_fits,
-        body_one laws 18 17 digest number (reply_kd keyed) zeros long few one_fits two_fits 18,
-        laws.number_is keyed.sequence (28 + one_at + 4) (28 + one_at + 2) small,
-        laws.payload_is 17 0 28 two_at (record { kind = 17; at = 28 + one_at }) (reply_kd keyed) (replicate zeros 0) refl two_fits,
-        body_two laws 18 17 digest number (reply_kd keyed) zeros long few one_fits two_fits 17,
+        hash_read 18 digest (payload_text 17 number ++ (payload_text 0 (reply_kd keyed) ++ replicate zeros 0)) long,
+        one_read 18 17 digest number (reply_kd keyed) zeros long few one_fits two_fits,
+        body_one 18 17 digest number (reply_kd keyed) zeros long few one_fits two_fits 18,
+        sequence_written keyed.sequence (28 + one_at + 4) (28 + one_at + 2) small,
+        two_read 18 17 digest number (reply_kd keyed) zeros long few one_fits two_fits,
+        body_two 18 17 digest number (reply_kd keyed) zeros long few one_fits two_fits 17,
         are_keys (28 + two_at + 4),
         placed (28 + two_at + 4),
-        laws.end_is zeros 28 (two_at + 4 + length (reply_kd keyed)) (28 + two_at) few,
-        covered_is laws 18 17 digest number (reply_kd keyed) zeros long few one_fits two_fits,
+        covered_read 18 17 digest number (reply_kd keyed) zeros long few one_fits two_fits,
       ) refl
 
   pub fourth_is_read : value_of (fourth keyed.spi fourth_text 8 (from_start 28 fourth_text)) ≡ Ok fourth_said

@@ -50,10 +50,10 @@ module _ (A B : Type 0) (phase : Phase1) (awaited : Awaited A B) (datagram : Lis
     payload_fault fault answer reads is = of_text (Err fault) answer reads (only_error answer (Malformed fault) is)
 
     -- the HASH of what was read was tested
-    module _ (read : PullRead A) (nonces : List ℕ) (tested : Result (Unit {0}) PullFault)
+    module _ (read : PullRead A) (nonces expected : List ℕ) (tested : Result (Unit {0}) PullFault)
         (reads : value_of (awaited.payloads text head.next (from_start 28 text)) ≡ Ok read) (after : nonces ≡ awaited.nonces)
-        (test : tested ≡ (if bytes_eq read.hash (hash_of phase head.message nonces read.covered) then Ok (tt {0})
-        else Err (BadHash read.hash (hash_of phase head.message nonces read.covered)))) where
+        (made : expected ≡ hash_of phase head.message nonces read.covered)
+        (test : tested ≡ (if bytes_eq read.hash expected then Ok (tt {0}) else Err (BadHash read.hash expected))) where
       abbrev due : List ℕ
       due = hash_of phase head.message awaited.nonces read.covered
 
@@ -61,7 +61,7 @@ module _ (A B : Type 0) (phase : Phase1) (awaited : Awaited A B) (datagram : Lis
       is_due =
           test
           ∙ ap (λ (expected : List ℕ). if bytes_eq read.hash expected then Ok (tt {0}) else Err (BadHash read.hash expected))
-          (ap (λ before. hash_of phase head.message before read.covered) after)
+          (made ∙ ap (λ before. hash_of phase head.message before read.covered) after)
 
       pub other_hash : (fault : PullFault) (answer : Result B PullFault) → tested ≡ Err fault
           → IsErrAnd answer (λ error. error ≡ fault) → IsAnswer phase awaited datagram answer

@@ -1,10 +1,10 @@
 -- A message of one pull, opened in another pull under the same phase 1 SA: but for the first block it is the text that was written.
-use Rattle.std.proofs.Common.{◌≡◌, ◌<◌, ◌+◌, ◌-◌, ◌%◌, ◌∙◌, ◌++◌, [], ◌∷◌, ℕ, Bool, true, false, List, length, drop, replicate, All, Result, Ok, Err}
+use Rattle.std.proofs.Common.{◌≡◌, ◌<◌, ◌+◌, ◌-◌, ◌%◌, ◌∙◌, ◌++◌, [], ◌∷◌, ℕ, Bool, true, false, List, length, drop, replicate, Result, Ok, Err}
 use Rattle.std.proofs.Common.{refl, sym, ap, subst, inl, inr, arith}
 use Rattle.std.proofs.lemmas.List.{drop-drop, drop_at}
 use Rattle.std.specs.Prelude.{if◌then◌else◌}
-use Rattle.gd_cipher.specs.Bytes.{IsByte, IsKey}
-use Rattle.gd_cipher.specs.Chains.{IsOpened, IsSealed}
+use Rattle.gd_cipher.specs.Chains.{IsOpened}
+use Rattle.gd_cipher.proofs.SealLemmas.{opened-but_first}
 use Rattle.gd_wire.specs.declared.headers.Header.{Header}
 use Rattle.gd_wire.specs.Chains.{payload_text}
 use Rattle.gd_wire.specs.Readings.{Reading, from_start, value_of}
@@ -68,12 +68,6 @@ module _ (A B : Type 0) (phase : Phase1) (awaited : Awaited A B) (datagram : Lis
 
 -- ---- a message with two payloads after the HASH
 
--- what the laws below this crate promise
-pub record Laws : Type 0 where
-  pub octets_of : (next : ℕ) (body : List ℕ) → IsOctet next → AreOctets body → AreOctets (payload_text next body)
-  pub opens_but_first : (key iv other_iv text sealed opened : List ℕ) → IsKey key → length iv ≡ 16 → length other_iv ≡ 16 → All IsByte text
-      → IsSealed key iv text sealed → IsOpened key other_iv sealed opened → drop 16 opened ≡ drop 16 text
-
 -- Some payloads as which a reading takes a text: a HASH and two more, with fewer than 16 zeros after them.
 pub record IsReadAs (A : Type 0) (payloads : List ℕ → ℕ → Reading (PullRead A)) (kind next : ℕ) (digest one two : List ℕ) (read : PullRead A) : Type 0 where
   pub zeros : ℕ
@@ -85,7 +79,7 @@ abbrev two_said : List ℕ → List ℕ → ℕ → ℕ → List ℕ → List �
 two_said message nonces kind next one two =
     record { message = message; nonces = nonces; payloads = payload_of kind one ∷ payload_of next two ∷ [] }
 
-module _ (laws : Laws) (phase : Phase1) (iv message nonces : List ℕ) (kind next : ℕ) (one two datagram : List ℕ) (phase_fits : PhaseFits phase)
+module _ (phase : Phase1) (iv message nonces : List ℕ) (kind next : ℕ) (one two datagram : List ℕ) (phase_fits : PhaseFits phase)
     (message_long : length message ≡ 4) (iv_long : length iv ≡ 16) (kind_small : IsOctet kind) (next_small : IsOctet next) (one_octets : AreOctets one)
     (second_octets : AreOctets two) (is : IsPullText phase iv (two_said message nonces kind next one two) datagram) where
   abbrev said : Message
@@ -106,9 +100,9 @@ module _ (laws : Laws) (phase : Phase1) (iv message nonces : List ℕ) (kind nex
   -- after the HASH the opened text is the one that was written
   rest_is : (reader text : List ℕ) → length reader ≡ 16 → IsOpened phase.key reader (drop 28 datagram) text → drop 36 text ≡ after_hash
   rest_is reader text reader_long opened =
-      let plain = plain_octets laws.octets_of phase said kind_small (two_octets laws.octets_of next one two next_small one_octets second_octets) in
+      let plain = plain_octets phase said kind_small (two_octets next one two next_small one_octets second_octets) in
       let sealed = subst (λ octets. IsOpened phase.key reader octets text) (sealed_is phase iv said datagram phase_fits.cookies message_long is) opened in
-      let same = laws.opens_but_first phase.key iv reader (plain_text phase said) is.sealed text (inl phase_fits.key) iv_long reader_long plain is.is_sealed
+      let same = opened-but_first phase.key iv reader (plain_text phase said) is.sealed text (inl phase_fits.key) iv_long reader_long plain is.is_sealed
       sealed in
       sym (drop-drop 20 16 text) ∙ ap (drop 20) same ∙ drop-drop 20 16 (plain_text phase said)
       ∙ ap (drop 36) (two_flat kind next digest one two (replicate zeros 0))

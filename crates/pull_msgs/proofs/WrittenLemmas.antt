@@ -1,17 +1,18 @@
 -- A message that was written: its octets, its size, and the answer when it is read.
-use Rattle.std.proofs.Common.{◌≡◌, ◌≤◌, ◌<◌, ◌+◌, ◌-◌, ◌%◌, ◌∙◌, ◌⊎◌, ℕ, List, [], ◌++◌, length, drop, replicate, All, Option, Some, None, Result, Ok, Err, refl, ap, sym, subst, inl, inr, arith, append_assoc, length-append}
+use Rattle.std.proofs.Common.{◌≡◌, ◌≤◌, ◌<◌, ◌+◌, ◌-◌, ◌%◌, ◌∙◌, ◌⊎◌, ℕ, List, [], ◌++◌, length, drop, replicate, Option, Some, None, Result, Ok, Err, refl, ap, sym, subst, inl, inr, arith, append_assoc, length-append}
 use Rattle.std.proofs.lemmas.List.{drop_at, append-nil}
 use Rattle.std.proofs.lemmas.List.Elements.{All-append, All-nil}
 use Rattle.std.specs.Prelude.{IsSome}
 use Rattle.std.specs.Str.{bytes_eq}
-use Rattle.gd_cipher.specs.Bytes.{IsByte, AreBytes, IsKey}
-use Rattle.gd_cipher.specs.Chains.{IsSealed, IsOpened}
+use Rattle.gd_cipher.specs.Bytes.{AreBytes}
+use Rattle.gd_cipher.specs.Chains.{IsOpened}
 use Rattle.gd_wire.specs.declared.headers.Header.{Header}
 use Rattle.gd_wire.specs.Chains.{filled, payload_text, payloads_text, first_kind}
-use Rattle.gd_wire.specs.Headers.{header, header_text, HeaderFits}
+use Rattle.gd_wire.specs.Headers.{HeaderFits}
 use Rattle.gd_wire.specs.Readings.{Cursor, from_start, value_of}
-use Rattle.gd_wire.proofs.HeaderLemmas.{header_long}
-use Rattle.gd_wire.proofs.OctetLemmas.{same_octets, zeros_are_octets}
+use Rattle.gd_cipher.proofs.SealLemmas.{same_opened, sealed-opens}
+use Rattle.gd_wire.proofs.HeaderLemmas.{header_long, header_written}
+use Rattle.gd_wire.proofs.OctetLemmas.{payload_octets, same_octets, zeros_are_octets}
 use Rattle.group_terms.specs.Octets.{IsOctet, AreOctets}
 use Rattle.group_terms.specs.declared.phases.Phase1.{Phase1}
 use Rattle.sa_wire.specs.Texts.{sa_size, sa_text}
@@ -56,11 +57,11 @@ two_flat kind next digest one two end =
     ∙ ap (λ octets. payload_text kind digest ++ octets) (append_assoc (payload_text next one) (payload_text 0 two ++ []) end
     ∙ ap (λ octets. payload_text next one ++ (octets ++ end)) (append-nil (payload_text 0 two)))
 
-pub two_octets : ((next : ℕ) (body : List ℕ) → IsOctet next → AreOctets body → AreOctets (payload_text next body)) → (next : ℕ) (one two : List ℕ)
-    → IsOctet next → AreOctets one → AreOctets two → AreOctets (payload_text next one ++ (payload_text 0 two ++ []))
-two_octets octets_of next one two small first second =
-    All-append IsOctet (payload_text next one) (payload_text 0 two ++ []) (octets_of next one small first)
-    (All-append IsOctet (payload_text 0 two) [] (octets_of 0 two (omega arith) second) (All-nil IsOctet))
+pub two_octets : (next : ℕ) (one two : List ℕ) → IsOctet next → AreOctets one → AreOctets two
+    → AreOctets (payload_text next one ++ (payload_text 0 two ++ []))
+two_octets next one two small first second =
+    All-append IsOctet (payload_text next one) (payload_text 0 two ++ []) (payload_octets next one small first)
+    (All-append IsOctet (payload_text 0 two) [] (payload_octets 0 two (omega arith) second) (All-nil IsOctet))
 
 pub two_long : (next : ℕ) (one two : List ℕ) → length (payload_text next one ++ (payload_text 0 two ++ [])) ≡ 8 + length one + length two
 two_long next one two =
@@ -78,16 +79,16 @@ policies_long policy fits sized = sized ∙ both policy.kek policy.tek fits.kek 
 -- ---- what is sealed
 
 -- the payloads of a message are octets, where what they are written of is
-pub plain_octets : ((next : ℕ) (body : List ℕ) → IsOctet next → AreOctets body → AreOctets (payload_text next body)) → (phase : Phase1) (said : Message)
-    → first_kind said.payloads < 256 → AreOctets (payloads_text said.payloads) → AreOctets (plain_text phase said)
-plain_octets octets_of phase said kind_small payload_octets =
+pub plain_octets : (phase : Phase1) (said : Message) → first_kind said.payloads < 256 → AreOctets (payloads_text said.payloads)
+    → AreOctets (plain_text phase said)
+plain_octets phase said kind_small rest_octets =
     let digest : List ℕ = message_hash phase said in
     let rest : List ℕ = payloads_text said.payloads in
     let before : List ℕ = payload_text (first_kind said.payloads) digest ++ rest in
     let zeros : ℕ = (16 - length before % 16) % 16 in
     All-append IsOctet before (replicate zeros 0)
     (All-append IsOctet (payload_text (first_kind said.payloads) digest) rest
-    (octets_of (first_kind said.payloads) digest kind_small (octets-hash_of phase said.message said.nonces rest)) payload_octets)
+    (payload_octets (first_kind said.payloads) digest kind_small (octets-hash_of phase said.message said.nonces rest)) rest_octets)
     (zeros_are_octets zeros)
 
 -- they are sealed after the header
@@ -98,22 +99,14 @@ sealed_is phase iv said datagram cookies message is =
 
 -- ---- what is read
 
--- what the laws below this crate promise
-pub record Laws : Type 0 where
-  pub octets_of : (next : ℕ) (body : List ℕ) → IsOctet next → AreOctets body → AreOctets (payload_text next body)
-  pub header_reads : (found : Header) (body : List ℕ) → HeaderFits found body →
-      header found.exchange (from_start 0 (header_text found ++ body)) ≡ Ok (found, record { base = 0; at = 28; left = body })
-  pub opens_as : (key iv text sealed : List ℕ) → IsKey key → AreBytes 16 iv → All IsByte text → IsSealed key iv text sealed → IsOpened key iv sealed text
-  pub once : (key iv sealed one other : List ℕ) → IsOpened key iv sealed one → IsOpened key iv sealed other → one ≡ other
-
 -- this is an answer for a datagram where a message is awaited, and the only one but for out of memory
 pub record IsRead {A B : Type 0} (phase : Phase1) (awaited : Awaited A B) (datagram : List ℕ) (gives : B) : Type 0 where
   pub can_be : IsAnswer phase awaited datagram (Ok gives)
   pub alone : (answer : Result B PullFault) → IsAnswer phase awaited datagram answer → (answer ≡ Err NoMemory) ⊎ (answer ≡ Ok gives)
 
-module _ (laws : Laws) (phase : Phase1) (iv : List ℕ) (said : Message) (datagram : List ℕ)
+module _ (phase : Phase1) (iv : List ℕ) (said : Message) (datagram : List ℕ)
     (phase_fits : PhaseFits phase) (message_fits : MessageFits said.message) (iv_fits : AreBytes 16 iv)
-    (kind_small : first_kind said.payloads < 256) (payload_octets : AreOctets (payloads_text said.payloads))
+    (kind_small : first_kind said.payloads < 256) (rest_octets : AreOctets (payloads_text said.payloads))
     (payloads_small : length (payloads_text said.payloads) ≤ 65000) (is : IsPullText phase iv said datagram) where
   abbrev digest : List ℕ
   digest = message_hash phase said
@@ -152,12 +145,12 @@ module _ (laws : Laws) (phase : Phase1) (iv : List ℕ) (said : Message) (datagr
   unfolding head
   has_head known due =
       ap (λ octets. value_of (head phase known (from_start 0 octets))) is.is_text
-      ∙ rw (laws.header_reads top is.sealed top_fits, same_octets phase.cookies, due (record { base = 0; at = 28; left = is.sealed })) refl
+      ∙ rw (header_written top is.sealed top_fits, same_octets phase.cookies, due (record { base = 0; at = 28; left = is.sealed })) refl
 
   is_opened : IsOpened phase.key iv (drop 28 datagram) plain
   is_opened =
       subst (λ octets. IsOpened phase.key iv octets plain) (sym (sealed_is phase iv said datagram phase_fits.cookies message_fits.size is))
-      (laws.opens_as phase.key iv plain is.sealed (inl phase_fits.key) iv_fits (plain_octets laws.octets_of phase said kind_small payload_octets) is.is_sealed)
+      (sealed-opens phase.key iv plain is.sealed (inl phase_fits.key) iv_fits (plain_octets phase said kind_small rest_octets) is.is_sealed)
 
   -- where that message is awaited, and its payloads are read
   module _ (A B : Type 0) (awaited : Awaited A B) (read : PullRead A)
@@ -177,7 +170,7 @@ module _ (laws : Laws) (phase : Phase1) (iv : List ℕ) (said : Message) (datagr
     of_text : (answer : Result B PullFault) (found : IsOfText A B phase awaited datagram top answer) → answer ≡ Ok (awaited.gives top datagram read.said)
     of_text answer found =
         let opened = subst (λ iv. IsOpened phase.key iv (drop 28 datagram) found.text) same_iv found.opened in
-        let same : found.text ≡ plain = laws.once phase.key iv (drop 28 datagram) found.text plain opened is_opened in
+        let same : found.text ≡ plain = same_opened phase.key iv (drop 28 datagram) found.text plain opened is_opened in
         found.is
         ∙ ap (λ text. answer_for (hash_of phase said.message awaited.nonces) (awaited.gives top datagram) (value_of (awaited.payloads text 8 (from_start 28 text)))) same
         ∙ ap (answer_for (hash_of phase said.message awaited.nonces) (awaited.gives top datagram)) reads

@@ -106,7 +106,7 @@ fourth_awaited message iv ni nr spi = record {
 
 -- ---- the answer
 
--- For payloads that were read, where this HASH of those that are covered is due: the first fault; else the HASH that is carried and the one
+-- For payloads that were read, where this HASH of the covered ones is due: the first fault; else the HASH that is carried and the one
 -- that is due, where they differ; else what the message gives.
 abbrev pub answer_for : {A B : Type 0} → (List ℕ → List ℕ) → (A → B) → Result (PullRead A) WireFault → Result B PullFault
 answer_for due gives (Err fault) = Err (Malformed fault)

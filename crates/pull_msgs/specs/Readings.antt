@@ -113,7 +113,7 @@ abbrev pub reply_of : ℕ → Option TrafficValue → Option (List ℕ) → Opti
 reply_of base (Some traffic) (Some spi) (Some at) = give (traffic, spi, at)
 reply_of base traffic spi at = fail (Kind kd_kind) base
 
--- the epoch in which a key was made; 0 stands for none, though a path that was read has two keys at least
+-- the epoch in which a key was made; 0 where there is none, though a path that was read has two keys at least
 abbrev pub epoch_of_key : Option PathKey → ℕ
 epoch_of_key (Some key) = key.made
 epoch_of_key None = 0

@@ -30,7 +30,7 @@ pub(crate) fn begin(
     ensures text { IfOk result (λ out. out ≡ before_covered phase.now message.now next size) }
     ensures long { IfOk result (λ out. length out ≡ 64) }
 {
-    phase_fits(phase);
+    prove_phase_fits(phase);
     let payloads = PAYLOAD_HEAD_OCTETS + HASH_OCTETS + size;
     let size = payloads + (BLOCK_OCTETS - payloads % BLOCK_OCTETS) % BLOCK_OCTETS;
     let header = Header {
@@ -59,7 +59,7 @@ pub(crate) fn finish(
     ensures { IfOk result (λ datagram. (said : Message) → said.message ≡ message.now → said.nonces ≡ ni.now ++ nr.now →
         out ≡ draft_text phase.now said → IsPullText phase.now iv.now said datagram) }
 {
-    phase_fits(phase);
+    prove_phase_fits(phase);
     let mut out = out;
     let (_, covered) = out.as_slice().split_at(COVERED_AT);
     let hash = hash_of(phase, message, ni, nr, covered);

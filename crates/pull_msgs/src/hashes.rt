@@ -26,19 +26,10 @@ pub(crate) fn hash_of(
     hash.finish()
 }
 
-/// The HASH that is carried is that one.
-pub(crate) fn due_hash(
-    carried: [u8; 32],
-    phase: &Phase1,
-    message: &[u8; 4],
-    ni: &[u8],
-    nr: &[u8],
-    payloads: &[u8],
-) -> Result<(), PullFault>
-    ensures { result ≡ (if bytes_eq carried (hash_of phase.now message.now (ni.now ++ nr.now) payloads.now) then Ok tt
-        else Err (BadHash carried (hash_of phase.now message.now (ni.now ++ nr.now) payloads.now))) }
+/// Finds that a message carries the HASH that is due; else `BadHash`.
+pub(crate) fn due_hash(carried: [u8; 32], expected: [u8; 32]) -> Result<(), PullFault>
+    ensures { result ≡ (if bytes_eq carried expected then Ok tt else Err (BadHash carried expected)) }
 {
-    let expected = hash_of(phase, message, ni, nr, payloads);
     if carried != expected {
         return Err(PullFault::BadHash { carried, expected });
     }

@@ -19,13 +19,7 @@ ghost use Rattle.pull_msgs.specs.Texts.{IsPullText, first_iv, next_iv, key_id_ty
 ghost use Rattle.pull_msgs.specs.Texts.{first_message, second_message, third_message, fourth_message};
 ghost use Rattle.sa_wire.specs.declared.policies.SaPolicy.{SaPolicy};
 
-use gd_cipher::{
-    a_text_is_opened_in_one_way, an_iv_matters_for_the_first_block_alone, what_was_sealed_opens,
-};
-use gd_wire::{
-    a_written_body_is_read, a_written_header_is_read, a_written_payload_is_read,
-    written_framing_is_octets,
-};
+use gd_cipher::a_text_is_opened_in_one_way;
 use kd_wire::{
     a_body_has_one_of_three_forms, a_written_reply_is_read, written_texts_are_octets,
     written_texts_have_their_size,
@@ -68,12 +62,6 @@ pub fn a_written_message_is_read()
         IsPullText phase iv (fourth_message message ni nr keyed) datagram →
         IsAnswer phase (fourth_awaited message iv ni nr keyed.spi) datagram (Ok keyed) }
 {
-    a_text_is_opened_in_one_way();
-    what_was_sealed_opens();
-    a_written_body_is_read();
-    a_written_header_is_read();
-    a_written_payload_is_read();
-    written_framing_is_octets();
     a_written_reply_is_read();
     written_texts_are_octets();
     written_texts_have_their_size();
@@ -99,10 +87,6 @@ pub fn a_message_is_taken_as_it_was_written()
         PhaseFits phase → length iv ≡ 16 → IsSomeFourth phase keyed datagram →
         IsAnswer phase (second_awaited message iv ni) datagram (Ok taken) → ⊥ }
 {
-    an_iv_matters_for_the_first_block_alone();
-    a_written_body_is_read();
-    a_written_payload_is_read();
-    written_framing_is_octets();
     a_written_reply_is_read();
     written_texts_are_octets();
     written_texts_have_their_size();

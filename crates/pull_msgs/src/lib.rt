@@ -2,7 +2,7 @@
 #![tactic(auto)]
 
 pub use faults::PullFault;
-pub use fits::{nonce_fits, phase_fits, policies_fit};
+pub use fits::{prove_nonce_fits, prove_phase_fits, prove_policies_fit};
 pub use group_terms::{GroupName, Keyed, Octets, Phase1};
 pub use laws::{
     a_message_is_taken_as_it_was_written, a_taken_message_has_its_sizes, a_taken_reply_is_a_path,

@@ -1,11 +1,10 @@
-//! Reading the messages of a pull. What is read of a text borrows from it, and may hold a nonce by value: a `match` takes it apart, for the prover does not follow such a
-//! value through `?`.
+//! Reading the messages of a pull. A `match` takes apart what was read: the prover does not follow through `?` what borrows and holds a nonce.
 ghost use Rattle.std.specs.Prelude.{◌≡◌, IfOk, IsSome};
 ghost use Rattle.pull_msgs.specs.Readings as readings;
 ghost use Rattle.pull_msgs.specs.Pulls.{IsAnswer, first_awaited, second_awaited, third_awaited, fourth_awaited};
 
 use crate::faults::PullFault;
-use crate::hashes::due_hash;
+use crate::hashes::{due_hash, hash_of};
 use crate::messages::{First, Second, Third};
 use crate::nonces::Nonce;
 use crate::opening::{next_iv, open, pull_header};
@@ -28,7 +27,8 @@ pub fn read_first(alloc: Global, datagram: &[u8], phase: &Phase1) -> Result<Firs
         Ok(read) => read,
         Err(fault) => return Err(PullFault::Malformed { fault }),
     };
-    due_hash(read.hash, phase, &head.message, &[], &[], read.covered)?;
+    let due = hash_of(phase, &head.message, &[], &[], read.covered);
+    due_hash(read.hash, due)?;
     let id = Octets::copy_of(alloc, read.said.id.octets)?;
     Ok(First {
         message: head.message,
@@ -58,14 +58,8 @@ pub fn read_second(
         Ok(read) => read,
         Err(fault) => return Err(PullFault::Malformed { fault }),
     };
-    due_hash(
-        read.hash,
-        phase,
-        &head.message,
-        ni.octets(),
-        &[],
-        read.covered,
-    )?;
+    let due = hash_of(phase, &head.message, ni.octets(), &[], read.covered);
+    due_hash(read.hash, due)?;
     Ok(Second {
         nr: read.said.nr,
         policy: read.said.policy,
@@ -91,14 +85,8 @@ pub fn read_third(
         Ok(read) => read,
         Err(fault) => return Err(PullFault::Malformed { fault }),
     };
-    due_hash(
-        read.hash,
-        phase,
-        &head.message,
-        ni.octets(),
-        nr.octets(),
-        read.covered,
-    )?;
+    let due = hash_of(phase, &head.message, ni.octets(), nr.octets(), read.covered);
+    due_hash(read.hash, due)?;
     Ok(Third {
         next_iv: next_iv(datagram),
     })
@@ -124,14 +112,8 @@ pub fn read_fourth(
         Ok(read) => read,
         Err(fault) => return Err(PullFault::Malformed { fault }),
     };
-    due_hash(
-        read.hash,
-        phase,
-        &head.message,
-        ni.octets(),
-        nr.octets(),
-        read.covered,
-    )?;
+    let due = hash_of(phase, &head.message, ni.octets(), nr.octets(), read.covered);
+    due_hash(read.hash, due)?;
     let said = read.said;
     Ok(Keyed {
         epoch: root_made(&said.path),

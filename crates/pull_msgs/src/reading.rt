@@ -186,7 +186,7 @@ fn maybe_gap(payloads: &mut Reader<'_>, named: Named) -> Result<Named, WireFault
     Ok(last)
 }
 
-/// Finds the end of the payloads; gives those that the HASH covers, which begin at a place.
+/// Finds the end of the payloads; gives the payloads that the HASH covers, which begin at a place.
 #[tactic(auto, unfolding(crate::specs::Readings::covered))]
 fn covered<'a>(
     payloads: &Reader<'_>,

@@ -14,7 +14,7 @@ use gd_wire::{
     write_sequence,
 };
 use group_terms::{GroupName, Keyed, NoMemory, Octets, Phase1};
-use kd_wire::{path_keys_fit, reply_kd_size, write_reply_kd};
+use kd_wire::{prove_path_keys_fit, reply_kd_size, write_reply_kd};
 use sa_wire::{SaPolicy, sa_size, write_sa, written_policies_have_their_size};
 use std::alloc::Global;
 
@@ -62,7 +62,7 @@ pub fn write_second(
 {
     a_payload_is_its_head_and_its_body();
     written_policies_have_their_size();
-    policies_fit(policy);
+    prove_policies_fit(policy);
     let size = 2 * PAYLOAD_HEAD_OCTETS + nr.octets().len() + sa_size(policy);
     let mut out = begin(alloc, phase, message, NONCE, size)?;
     write_payload(SA, nr.octets(), &mut out)?;
@@ -100,7 +100,7 @@ pub fn write_fourth(
         (fourth_message message.now ni.now nr.now keyed.now) datagram) }
 {
     a_payload_is_its_head_and_its_body();
-    path_keys_fit(keyed.path.keys());
+    prove_path_keys_fit(keyed.path.keys());
     let keys = reply_kd_size(keyed);
     let size = 2 * PAYLOAD_HEAD_OCTETS + SEQUENCE_OCTETS + keys;
     let mut out = begin(alloc, phase, message, SEQUENCE, size)?;

@@ -8,7 +8,7 @@ ghost use Rattle.pull_sessions.specs.Sessions.{AreApart, sessions_ended, has_coo
 use crate::answers::{Kept, Step};
 use group_terms::{MemberName, NoMemory, Octets, Phase1};
 use indexmap::IndexSet;
-use pull_msgs::{Nonce, phase_fits};
+use pull_msgs::{Nonce, prove_phase_fits};
 use std::alloc::Global;
 use std::marker::Model;
 use std::mem;
@@ -89,7 +89,7 @@ impl Sas {
         ensures ok { OnOk result (self.new ≡ self.old ++ new_sa phase ∷ []) }
         ensures err { OnErr result (self.new ≡ self.old) }
     {
-        phase_fits(&phase);
+        prove_phase_fits(&phase);
         self.list.reserve(1)?;
         self.cookies.reserve(1)?;
         self.members.reserve(1)?;

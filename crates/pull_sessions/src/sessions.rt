@@ -11,19 +11,17 @@ ghost use Rattle.pull_sessions.specs.declared.sas.Sa.{Sa};
 ghost use Rattle.pull_sessions.specs.declared.sas.Session.{Session};
 
 use crate::answers::{Kept, Looked};
-use crate::fits::{are_octets, block_fits};
+use crate::fits::block_fits;
 use crate::looks::look_under;
 use crate::refusals::SessionRefusal;
 use crate::sas::{Sas, Session};
-use gd_wire::{a_header_has_one_text, read_header, what_is_read_can_be_written};
+use gd_wire::kinds::PULL;
+use gd_wire::{a_header_has_one_text, prove_are_octets, read_header, what_is_read_can_be_written};
 use group_terms::{Keyed, MemberName, NoMemory, Octets, Phase1};
-use pull_msgs::{First, Nonce, Third, nonce_fits, write_fourth, write_second};
+use pull_msgs::{First, Nonce, Third, prove_nonce_fits, write_fourth, write_second};
 use sa_wire::SaPolicy;
 use std::alloc::Global;
 use std::marker::Model;
-
-/// The exchange of a pull (RFC 6407 section 3).
-const PULL: u8 = 32;
 
 /// The phase 1 SAs that were introduced, each with at most one session.
 ///
@@ -167,13 +165,13 @@ impl Sessions {
         requires kept { IsKeptSecond self.old.sas member.now first nr kept }
         ensures { self.new ≡ with_session self.old member.now (begun_session first nr datagram kept) }
     {
-        are_octets(datagram.as_slice());
+        prove_are_octets(datagram.as_slice());
         a_header_has_one_text();
         what_is_read_can_be_written();
-        nonce_fits(&first.ni);
-        nonce_fits(&nr);
+        prove_nonce_fits(&first.ni);
+        prove_nonce_fits(&nr);
         let session = Session::begin(first, nr, datagram, kept);
-        block_fits(&session.iv);
+        prove_block_fits(&session.iv);
         self.sas.put(member, session);
     }
 
@@ -183,12 +181,12 @@ impl Sessions {
         ensures { (sa : Sa) (session : Session) → HasSession self.old.sas member.now sa session →
             self.new ≡ with_session self.old member.now (session_after_third session third datagram kept) }
     {
-        are_octets(datagram.as_slice());
+        prove_are_octets(datagram.as_slice());
         a_header_has_one_text();
         what_is_read_can_be_written();
         if let Some(session) = self.sas.take(member) {
             let after = session.take_third(third, datagram, kept);
-            block_fits(&after.iv);
+            prove_block_fits(&after.iv);
             self.sas.put(member, after);
         }
     }

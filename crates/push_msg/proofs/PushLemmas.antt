@@ -1,34 +1,19 @@
 -- The payloads of a push that was written are read.
--- The list of payloads is read by one `rw`, an equation for each line, with `unfolding` of the block alone; what framing promises comes as `Laws`. The text is
--- written with its brackets to the right.
+-- The list of payloads is read by one `rw`, an equation for each line, with `unfolding` of the block alone. The text is written with its brackets to the right.
 use Rattle.std.proofs.Common.{◌≡◌, ◌≤◌, ◌<◌, ◌+◌, ◌∙◌, ℕ, List, [], ◌∷◌, ◌++◌, length, take, drop, replicate, Result, Ok, Err, refl, ap, sym, arith}
 use Rattle.std.proofs.lemmas.List.{drop_at, drop-drop}
-use Rattle.gd_wire.specs.declared.chains.Named.{Named}
 use Rattle.gd_wire.specs.declared.chains.Part.{Part}
 use Rattle.gd_wire.specs.Bodies.{sequence, sequence_text, signature, body_cursor}
-use Rattle.gd_wire.specs.Chains.{payload, payload_text, chain_end, ends, body_of, named_first}
+use Rattle.gd_wire.specs.Chains.{payload_text, ends, body_of, named_first}
 use Rattle.gd_wire.specs.Readings.{Cursor, from_start, value_of}
+use Rattle.gd_wire.proofs.BodyLemmas.{sequence_written, signature_written}
+use Rattle.gd_wire.proofs.ChainLaws.{end_written, payload_written, written_body}
 use Rattle.group_terms.specs.declared.signatures.SignKind.{SignKind}
 use Rattle.push_msg.specs.declared.bodies.OpenBody.{OpenBody}
 use Rattle.push_msg.specs.declared.rows.Row.{Row}
 use Rattle.push_msg.specs.Readings.{PushRead, push, row, key_download, number_in, signature_in}
 
--- what the framing promises of payloads that are written
-pub record Laws : Type 0 where
-  pub payload_is : (kind next base at : ℕ) (named : Named) (body later : List ℕ) → named.kind ≡ kind → length body ≤ 65531 →
-      payload kind named (record { base = base; at = at; left = payload_text next body ++ later })
-      ≡ Ok (
-        (record { kind = kind; at = base + at; start = at + 4; length = length body }, record { kind = next; at = base + at }),
-        record { base = base; at = at + 4 + length body; left = later },
-      )
-  pub body_is : (text : List ℕ) (kind next base at : ℕ) (body later : List ℕ) → drop at text ≡ payload_text next body ++ later →
-      body_of text (record { kind = kind; at = base + at; start = at + 4; length = length body }) ≡ body
-  pub end_is : (zeros base at named_at : ℕ) → zeros < 16 →
-      value_of (chain_end (record { kind = 0; at = named_at }) (record { base = base; at = at; left = replicate zeros 0 })) ≡ Ok tt
-  pub number_is : (number base at : ℕ) → number < 4294967296 → value_of (sequence at (from_start base (sequence_text number))) ≡ Ok number
-  pub signature_is : (base at : ℕ) (octets : List ℕ) → 1 ≤ length octets → length octets ≤ 512 → value_of (signature at (from_start base octets)) ≡ Ok octets
-
-module _ (laws : Laws) (spi : List ℕ) (sign : SignKind) (number : ℕ) (policy_body keys_body signed_by : List ℕ) (which : Row) (body : OpenBody) (zeros : ℕ)
+module _ (spi : List ℕ) (sign : SignKind) (number : ℕ) (policy_body keys_body signed_by : List ℕ) (which : Row) (body : OpenBody) (zeros : ℕ)
     (few : zeros < 16) (small : number < 4294967296) (policy_fits : length policy_body ≤ 65531) (keys_fit : length keys_body ≤ 65531)
     (some : 1 ≤ length signed_by) (short : length signed_by ≤ 512)
     (is_row : (base : ℕ) (cursor : Cursor) → row spi sign base policy_body cursor ≡ Ok (which, cursor))
@@ -75,15 +60,18 @@ module _ (laws : Laws) (spi : List ℕ) (sign : SignKind) (number : ℕ) (policy
       ∙ ap (drop (4 + length keys_body)) rest_keys ∙ drop_at (payload_text 9 keys_body) from_signature (4 + length keys_body) (omega arith)
 
   number_read : number_in text (part 18 0 4) ≡ Ok number
-  number_read = ap (λ octets. value_of (sequence 30 (from_start 32 octets))) (laws.body_is text 18 1 28 0 (sequence_text number) from_policy refl) ∙ laws.number_is number 32 30 small
+  number_read =
+      ap (λ octets. value_of (sequence 30 (from_start 32 octets))) (written_body text 18 1 28 0 (sequence_text number) from_policy refl)
+      ∙ sequence_written number 32 30 small
 
   pub signature_read : signature_in text (part 9 signature_at (length signed_by)) ≡ Ok signed_by
   signature_read =
-      ap (λ octets. value_of (signature (28 + signature_at + 2) (from_start (28 + signature_at + 4) octets))) (laws.body_is text 9 0 28 signature_at signed_by end rest_signature)
-      ∙ laws.signature_is (28 + signature_at + 4) (28 + signature_at + 2) signed_by some short
+      ap (λ octets. value_of (signature (28 + signature_at + 2) (from_start (28 + signature_at + 4) octets)))
+      (written_body text 9 0 28 signature_at signed_by end rest_signature)
+      ∙ signature_written (28 + signature_at + 4) (28 + signature_at + 2) signed_by some short
 
   pub keys_are : body_of text (part 17 keys_at (length keys_body)) ≡ keys_body
-  keys_are = laws.body_is text 17 9 28 keys_at keys_body from_signature rest_keys
+  keys_are = written_body text 17 9 28 keys_at keys_body from_signature rest_keys
 
   abbrev pub read : PushRead
   read = record { number = number; body = body; keys = keys_body; signed = take signature_at text; signature = signed_by }
@@ -91,17 +79,18 @@ module _ (laws : Laws) (spi : List ℕ) (sign : SignKind) (number : ℕ) (policy
   pub push_is_read : value_of (push spi sign text 18 (from_start 28 text)) ≡ Ok read
   unfolding push
   push_is_read =
-      let policy_is = laws.body_is text 1 17 28 policy_at policy_body from_keys rest_policy in
+      let policy_is = written_body text 1 17 28 policy_at policy_body from_keys rest_policy in
       rw (
-        laws.payload_is 18 1 28 0 (named_first 18) (sequence_text number) from_policy refl (omega arith),
+        payload_written 18 1 28 0 (named_first 18) (sequence_text number) from_policy refl (omega arith),
         number_read,
-        laws.payload_is 1 17 28 policy_at (record { kind = 1; at = 28 + 0 }) policy_body from_keys refl policy_fits,
+        payload_written 1 17 28 policy_at (record { kind = 1; at = 28 + 0 }) policy_body from_keys refl policy_fits,
         policy_is,
         is_row (28 + policy_at + 4) (record { base = 28; at = keys_at; left = from_keys }),
-        laws.payload_is 17 9 28 keys_at (record { kind = 17; at = 28 + policy_at }) keys_body from_signature refl keys_fit,
+        payload_written 17 9 28 keys_at (record { kind = 17; at = 28 + policy_at }) keys_body from_signature refl keys_fit,
         keys_are,
         are_keys (record { base = 28; at = signature_at; left = from_signature }),
-        laws.payload_is 9 0 28 signature_at (record { kind = 9; at = 28 + keys_at }) signed_by end refl (omega (arith, short)),
+        payload_written 9 0 28 signature_at (record { kind = 9; at = 28 + keys_at }) signed_by end refl (omega (arith, short)),
         signature_read,
-        laws.end_is zeros 28 (signature_at + 4 + length signed_by) (28 + signature_at) few,
+        end_written zeros (record { kind = 0; at = 28 + signature_at })
+            (record { base = 28; at = signature_at + 4 + length signed_by; left = end }) few refl refl,
       ) refl

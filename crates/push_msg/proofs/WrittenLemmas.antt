@@ -1,16 +1,16 @@
 -- A push that was written: its octets, its size, and what is read of it.
-use Rattle.std.proofs.Common.{◌≡◌, ◌≤◌, ◌<◌, ◌+◌, ◌-◌, ◌%◌, ◌∙◌, ℕ, true, List, [], ◌∷◌, ◌++◌, length, take, drop, replicate, All, Ok, refl, ap, ap₂, sym, subst, inl, arith, append_assoc, length-append}
+use Rattle.std.proofs.Common.{◌≡◌, ◌≤◌, ◌<◌, ◌+◌, ◌-◌, ◌%◌, ◌∙◌, ℕ, true, List, [], ◌∷◌, ◌++◌, length, take, drop, replicate, Ok, refl, ap, ap₂, sym, subst, inl, arith, append_assoc, length-append}
 use Rattle.std.proofs.lemmas.List.{take_at, drop_at, length-replicate}
 use Rattle.std.proofs.lemmas.List.Elements.{All-append}
-use Rattle.byteorder.specs.Endian.{big_bytes}
-use Rattle.gd_cipher.specs.Bytes.{IsByte, AreBytes, IsKey}
-use Rattle.gd_cipher.specs.Chains.{IsSealed, IsOpened}
+use Rattle.gd_cipher.specs.Chains.{IsOpened}
 use Rattle.gd_wire.specs.declared.headers.Header.{Header}
 use Rattle.gd_wire.specs.Bodies.{sequence_text}
 use Rattle.gd_wire.specs.Chains.{payload_text, padded, filled}
 use Rattle.gd_wire.specs.Headers.{header, header_text, HeaderFits}
 use Rattle.gd_wire.specs.Readings.{Cursor, from_start, value_of}
-use Rattle.gd_wire.proofs.OctetLemmas.{zeros_are_octets}
+use Rattle.gd_cipher.proofs.SealLemmas.{sealed-opens}
+use Rattle.gd_wire.proofs.HeaderLemmas.{header_written}
+use Rattle.gd_wire.proofs.OctetLemmas.{number_octets, payload_octets, zeros_are_octets}
 use Rattle.group_terms.specs.Octets.{IsOctet, AreOctets}
 use Rattle.group_terms.specs.declared.signatures.SignKind.{SignKind}
 use Rattle.group_terms.specs.declared.values.NodeValue.{NodeValue}
@@ -23,7 +23,7 @@ use Rattle.push_msg.specs.Texts.{Push, signed_text, plain_text, push_header, hea
 use Rattle.push_msg.specs.Pushes.{Opens, Reads, digest_of, header_of}
 use Rattle.push_msg.specs.Written.{KekFits, IsReadAs}
 use Rattle.push_msg.proofs.DraftLemmas.{head_long}
-use Rattle.push_msg.proofs.PushLemmas.{Laws, push_is_read, read, signature_at}
+use Rattle.push_msg.proofs.PushLemmas.{push_is_read, read, signature_at}
 
 -- how many octets the payloads have, filled up
 pub plain_long : (told : Push) (signature : List ℕ) → length (plain_text told signature) ≡ filled (20 + length (sa_text told.policy) + length told.keys + length signature)
@@ -54,12 +54,7 @@ datagram_long sign size kek told datagram long is =
           ∙ ap (λ many. filled (20 + length (sa_text told.policy) + length told.keys + many)) is.has_size,
     )
 
-module _ (laws : Laws)
-    (octets_of : (next : ℕ) (body : List ℕ) → IsOctet next → AreOctets body → AreOctets (payload_text next body))
-    (number_octets : (size number : ℕ) → AreOctets (big_bytes size number))
-    (header_reads : (found : Header) (body : List ℕ) → HeaderFits found body → header found.exchange (from_start 0 (header_text found ++ body)) ≡ Ok (found, record { base = 0; at = 28; left = body }))
-    (opens_as : (key iv text sealed : List ℕ) → IsKey key → AreBytes 16 iv → All IsByte text → IsSealed key iv text sealed → IsOpened key iv sealed text)
-    (sign : List ℕ → List ℕ) (size : ℕ) (kind : SignKind) (kek : NodeValue) (told : Push) (which : Row) (body : OpenBody) (datagram : List ℕ)
+module _ (sign : List ℕ → List ℕ) (size : ℕ) (kind : SignKind) (kek : NodeValue) (told : Push) (which : Row) (body : OpenBody) (datagram : List ℕ)
     (kek_fits : KekFits kek) (spi_long : length told.spi ≡ 16) (spi_octets : AreOctets told.spi) (number_small : told.number < 4294967296)
     (policy_octets : AreOctets (sa_text told.policy)) (policy_long : length (sa_text told.policy) ≤ 85)
     (keys_octets : AreOctets told.keys) (keys_long : length told.keys ≤ 64025)
@@ -95,10 +90,11 @@ module _ (laws : Laws)
 
   plain_octets : AreOctets plain
   plain_octets =
-      let signed_octets = All-append IsOctet one (two ++ three) (octets_of 1 (sequence_text told.number) (omega arith) (number_octets 4 told.number))
-      (All-append IsOctet two three (octets_of 17 (sa_text told.policy) (omega arith) policy_octets) (octets_of 9 told.keys (omega arith) keys_octets)) in
+      let signed_octets = All-append IsOctet one (two ++ three) (payload_octets 1 (sequence_text told.number) (omega arith) (number_octets 4 told.number))
+      (All-append IsOctet two three (payload_octets 17 (sa_text told.policy) (omega arith) policy_octets)
+      (payload_octets 9 told.keys (omega arith) keys_octets)) in
       All-append IsOctet (signed_text told ++ four) (replicate zeros 0)
-      (All-append IsOctet (signed_text told) four signed_octets (octets_of 0 is.signature (omega arith) is.octets)) (zeros_are_octets zeros)
+      (All-append IsOctet (signed_text told) four signed_octets (payload_octets 0 is.signature (omega arith) is.octets)) (zeros_are_octets zeros)
 
   plain_is : length plain ≡ filled (20 + length (sa_text told.policy) + length told.keys + size)
   plain_is = plain_long told is.signature ∙ ap (λ many. filled (20 + length (sa_text told.policy) + length told.keys + many)) is.has_size
@@ -125,25 +121,26 @@ module _ (laws : Laws)
         small = omega (arith, same, plain_is, policy_long, keys_long, few);
       }
 
-  pub reads_push : value_of (push told.spi kind flat 18 (from_start 28 flat)) ≡ Ok (read laws told.spi kind told.number (sa_text told.policy) told.keys is.signature which body zeros
+  pub reads_push : value_of (push told.spi kind flat 18 (from_start 28 flat)) ≡ Ok (
+      read told.spi kind told.number (sa_text told.policy) told.keys is.signature which body zeros
       (omega arith) number_small (omega (arith, policy_long)) (omega (arith, keys_long)) (omega (arith, is.has_size, is.some)) (omega (arith, is.has_size, is.few)) is_row gives_keys)
-  reads_push = push_is_read laws told.spi kind told.number (sa_text told.policy) told.keys is.signature which body zeros
+  reads_push = push_is_read told.spi kind told.number (sa_text told.policy) told.keys is.signature which body zeros
       (omega arith) number_small (omega (arith, policy_long)) (omega (arith, keys_long)) (omega (arith, is.has_size, is.some)) (omega (arith, is.has_size, is.few)) is_row gives_keys
 
   -- the header is read
   has_header : header_of datagram ≡ Ok head
-  has_header = ap (λ octets. value_of (header 33 (from_start 0 octets))) is.is_text ∙ ap value_of (header_reads head is.sealed head_fits)
+  has_header = ap (λ octets. value_of (header 33 (from_start 0 octets))) is.is_text ∙ ap value_of (header_written head is.sealed head_fits)
 
   opens : Opens datagram told.spi kek head plain
   opens = record {
     has_header = has_header;
     for_spi = refl;
     opened = subst (λ octets. IsOpened kek.key kek.iv octets plain) (sym (ap (drop 28) is.is_text ∙ drop_at (header_text head) is.sealed 28 (head_long told (length plain) spi_long)))
-        (opens_as kek.key kek.iv plain is.sealed (inl kek_fits.key) kek_fits.iv plain_octets is.is_sealed);
+        (sealed-opens kek.key kek.iv plain is.sealed (inl kek_fits.key) kek_fits.iv plain_octets is.is_sealed);
   }
 
   -- what is read as signed is what was signed
-  same_signed : take (signature_at laws told.spi kind told.number (sa_text told.policy) told.keys is.signature which body zeros
+  same_signed : take (signature_at told.spi kind told.number (sa_text told.policy) told.keys is.signature which body zeros
       (omega arith) number_small (omega (arith, policy_long)) (omega (arith, keys_long)) (omega (arith, is.has_size, is.some)) (omega (arith, is.has_size, is.few)) is_row gives_keys) flat ≡ signed_text told
   same_signed =
       ap (take _) (sym (append_assoc one (two ++ three) (four ++ replicate zeros 0) ∙ ap (λ rest. one ++ rest) (append_assoc two three (four ++ replicate zeros 0))))

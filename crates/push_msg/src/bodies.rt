@@ -12,7 +12,7 @@ pub struct OpenPush {
 /// What a push gives.
 #[derive(Clone, Copy, PartialEq, Eq)]
 pub enum OpenBody {
-    /// New keys of the tree, all made in one epoch: where their update arrays stand in the body of the key download.
+    /// New keys of the tree, all made in one epoch: where their update arrays are in the body of the key download.
     Membership { root_made: u32, span: UpdateSpan },
     /// The traffic key.
     Traffic { traffic: TrafficValue },

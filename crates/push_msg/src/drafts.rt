@@ -17,7 +17,7 @@ use gd_wire::kinds::{
     SIGNATURE,
 };
 use gd_wire::{
-    Header, a_payload_is_its_head_and_its_body, are_octets, write_header, write_padding,
+    Header, a_payload_is_its_head_and_its_body, prove_are_octets, write_header, write_padding,
     write_payload, write_payload_head, write_sequence,
 };
 use group_terms::{NoMemory, NodeValue, Octets};
@@ -98,7 +98,7 @@ fn append_signature(signature: &[u8], out: &mut Octets) -> Result<(), NoMemory>
     ensures ok { OnOk result (out.new ≡ out.old ++ payload_text 0 signature.now) }
     ensures octets { AreOctets signature.now }
 {
-    are_octets(signature);
+    prove_are_octets(signature);
     write_payload(0, signature, out)
 }
 

@@ -18,11 +18,6 @@ ghost use Rattle.push_msg.specs.Readings.{epoch_of};
 ghost use Rattle.push_msg.specs.Texts.{membership_push, traffic_push, IsPushText};
 ghost use Rattle.push_msg.specs.Written.{HeadFits, KekFits, KindFits, IsReadAs};
 
-use gd_cipher::what_was_sealed_opens;
-use gd_wire::{
-    a_written_body_is_read, a_written_header_is_read, a_written_payload_is_read,
-    written_framing_is_octets,
-};
 use kd_wire::{
     a_span_has_the_arrays_that_were_read, a_written_text_of_updates_is_read,
     a_written_traffic_key_is_read, written_texts_are_octets, written_texts_have_their_size,
@@ -46,11 +41,6 @@ pub fn a_written_push_is_read()
         IsPushText sign size kek (traffic_push head traffic) datagram →
         IsReadAs sign kind kek (traffic_push head traffic) (Traffic traffic) datagram }
 {
-    what_was_sealed_opens();
-    a_written_body_is_read();
-    a_written_header_is_read();
-    a_written_payload_is_read();
-    written_framing_is_octets();
     a_span_has_the_arrays_that_were_read();
     a_written_text_of_updates_is_read();
     a_written_traffic_key_is_read();

@@ -1,5 +1,4 @@
-//! The pushes of GDOI (RFC 6407 section 4), by which a group gets new keys: the membership push and the traffic push, written and opened
-//! exactly.
+//! The pushes of GDOI (RFC 6407 section 4), by which a group gets new keys: the membership push and the traffic push.
 #![tactic(auto)]
 
 pub use bodies::{OpenBody, OpenPush};

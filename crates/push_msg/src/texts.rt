@@ -1,5 +1,4 @@
-//! The texts that were opened last. Each is kept with what it was opened from, so that all stores under one root open it once. With it stays the root key,
-//! until another text takes its place or the room is dropped.
+//! The texts that were opened last, each with what it was opened from: all stores under one root open it once. The root key stays as long as the text.
 ghost use Rattle.std.specs.Prelude.{◌≡◌, ◌%◌, ◌<◌, ◌≤◌, [], length, slice_index_or, IfSome, true};
 ghost use Rattle.gd_cipher.specs.Chains.{IsOpened};
 

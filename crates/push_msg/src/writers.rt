@@ -7,7 +7,8 @@ use crate::drafts::{begin, finish, plain_size};
 use gd_edges::Signer;
 use group_terms::{NoMemory, NodeValue, Octets, TrafficValue};
 use kd_wire::{
-    spi_fits, traffic_fits, traffic_kd_size, update_kd_size, write_traffic_kd, write_update_kd,
+    prove_spi_fits, prove_traffic_fits, traffic_kd_size, update_kd_size, write_traffic_kd,
+    write_update_kd,
 };
 use sa_wire::{KekPolicy, SaPolicy, TekPolicy};
 use std::alloc::Global;
@@ -33,7 +34,7 @@ pub fn write_membership<G: Signer>(
         (membership_push head.now (G.kind_of signer.now) arrays.now) datagram) }
     ensures kind { IfOk result (λ datagram. KindFits (G.kind_of signer.now)) }
 {
-    spi_fits(&head.spi);
+    prove_spi_fits(&head.spi);
     let policy = SaPolicy {
         kek: Some(KekPolicy {
             spi: head.spi,
@@ -59,8 +60,8 @@ pub fn write_traffic<G: Signer>(
     ensures { IfOk result (λ datagram. IsPushText (G.signature signer.now) (G.size_of signer.now) kek.now
         (traffic_push head.now traffic.now) datagram) }
 {
-    spi_fits(&head.spi);
-    traffic_fits(traffic);
+    prove_spi_fits(&head.spi);
+    prove_traffic_fits(traffic);
     let policy = SaPolicy {
         kek: None,
         tek: Some(TekPolicy { spi: traffic.spi }),

@@ -51,7 +51,7 @@ attributes rules = attributes_after [] (length rules) rules
 abbrev pub no_attribute : Found
 no_attribute = record { kind = 0; number = 0; at = 0 }
 
--- the attribute at this place among those that were found, or no attribute where there is no such place
+-- the attribute at this place of a list, or no attribute where the list has no such place
 abbrev pub found_at : Option ℕ → List Found → Found
 found_at None found = no_attribute
 found_at (Some place) found = slice_index_or found place no_attribute

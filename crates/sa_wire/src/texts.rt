@@ -16,7 +16,7 @@ use crate::{KekPolicy, SaPolicy, SignKind, TekPolicy};
 use gd_wire::{write_long, write_short};
 use group_terms::{NoMemory, Octets};
 
-/// The sizes of what stands before the payloads, and of these with their headers.
+/// The sizes of what comes before the payloads, and of these with their headers.
 const HEAD_SIZE: usize = 12;
 
 const SAK_SIZE: u8 = 73;
@@ -83,7 +83,7 @@ fn append_sa(policy: &SaPolicy, out: &mut Octets) -> Result<(), NoMemory>
     }
 }
 
-/// Appends what stands before the first payload, and names the kind of that.
+/// Appends what comes before the first payload, and names the kind of that.
 fn append_head(first: u8, out: &mut Octets) -> Result<(), NoMemory>
     ensures ok { OnOk result (out.new ≡ out.old ++ head_text first) }
     ensures err { OnErr result (out.new ≡ out.old) }

@@ -44,7 +44,7 @@ pub fn create<D: Disk, G: Signer, R: Draws>(
         opening.refusal opening.parts) }
 {
     let core = Core::create(alloc, parts, group)?;
-    core.head_fits();
+    core.prove_head_fits();
     Ok(core)
 }
 
@@ -61,8 +61,8 @@ pub fn open<D: Disk, G: Signer, R: Draws>(
         requests.Begin (no_host parts.disk name limit (R.place_of parts.draws) phases) parts opening.refusal opening.parts) }
 {
     let opened = Core::open(alloc, parts)?;
-    opened.core.head_fits();
-    last_pair_fits(&opened.core);
+    opened.core.prove_head_fits();
+    prove_last_pair_fits(&opened.core);
     Ok(opened)
 }
 
@@ -80,8 +80,8 @@ pub fn reopen<D: Disk, G: Signer, R: Draws>(
 {
     a_file_has_one_group();
     let resent = core.reopen(alloc)?;
-    core.head_fits();
-    last_pair_fits(core);
+    core.prove_head_fits();
+    prove_last_pair_fits(core);
     Ok(resent)
 }
 
@@ -103,7 +103,7 @@ pub fn show_opened<D: Disk, G: Signer, R: Draws>(
 }
 
 /// Both numbers of the pair of the last batch have 32 bits, for the number of the last push has.
-fn last_pair_fits<D: Disk, G: Signer, R: Draws>(core: &Core<D, G, R>)
+fn prove_last_pair_fits<D: Disk, G: Signer, R: Draws>(core: &Core<D, G, R>)
     ensures { (signer : G) (server : Server) (spi : List ℕ) (pair : Option PairSeen) → Stands R.Draws core.now server →
         IsPairIfStayed G.Signer signer server.depth spi server.list pair → IfSome pair (λ sent. sent.first + 1 < 2 ^ 32) }
 {

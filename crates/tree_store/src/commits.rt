@@ -11,7 +11,7 @@ ghost use Rattle.tree_store.specs.Groups.{IsBatchOf, IsDue, IsGroup, IsGroupTo, 
 
 use crate::stores::TreeStore;
 use gd_disk::Disk;
-use group_records::{a_written_record_is_read, batch_fits, write_batch};
+use group_records::{a_written_record_is_read, prove_batch_fits, write_batch};
 use group_terms::{Batch, BatchValues, NoMemory, Octets};
 use std::alloc::Global;
 use tree_journal::JournalRefusal;
@@ -32,7 +32,7 @@ impl<D: Disk> TreeStore<D> {
         ensures read { 128 ≤ octet_at values.now.traffic.spi 0 → IfOk result (λ made.
             IsBatchOf made (record { batch = batch.now; epoch = epoch; sequence = sequence; values = values.now })) }
     {
-        batch_fits(batch, epoch, sequence, values);
+        prove_batch_fits(batch, epoch, sequence, values);
         a_written_record_is_read();
         write_batch(alloc, batch, epoch, sequence, values)
     }

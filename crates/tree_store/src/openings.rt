@@ -13,7 +13,7 @@ ghost use Rattle.tree_store.specs.Views.{store_disk};
 use crate::stores::TreeStore;
 use gd_disk::{Disk, a_crash_may_leave_nothing_or_all};
 use group_model::PresentTree;
-use group_records::{Head, a_written_record_is_read, head_fits, read_head, write_head};
+use group_records::{Head, a_written_record_is_read, prove_head_fits, read_head, write_head};
 use group_terms::{NoMemory, Octets};
 use std::alloc::Global;
 use tree_journal::{FormatRefusal, Journal, JournalRefusal};
@@ -133,7 +133,7 @@ fn begun(alloc: Global, head: &Head) -> Result<(Octets, PresentTree), NoMemory>
     ensures depth { IfOk result (λ both. both.1.depth ≡ head.now.depth) }
     ensures tree { IfOk result (λ both. StandsFor both.1 []) }
 {
-    head_fits(head);
+    prove_head_fits(head);
     a_written_record_is_read();
     let made = write_head(alloc, head)?;
     let tree = PresentTree::new(alloc, head.depth)?;

@@ -4,7 +4,7 @@ use Rattle.byteorder.specs.Endian.{big_bytes}
 use Rattle.group_terms.specs.declared.paths.PathKey.{PathKey}
 use Rattle.kd_wire.specs.Widths.{download_array_octets, update_array_octets}
 
--- a download array of so many keys
+-- a download array of this number of keys
 abbrev pub download_head : ℕ → List ℕ
 download_head count = 0 ∷ 1 ∷ big_bytes 2 (download_array_octets count) ++ (1 ∷ big_bytes 2 count ++ (0 ∷ []))
 

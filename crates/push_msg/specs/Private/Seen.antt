@@ -1,4 +1,4 @@
--- How contracts see what was read of the payloads of a push, in the text in which they stand.
+-- How contracts see what was read of the payloads of a push, in the text in which they are.
 use Rattle.std.specs.Prelude.{ℕ, List, take}
 use Rattle.gd_wire.specs.Chains.{body_of}
 use Rattle.push_msg.specs.declared.reading.PushRead.{PushRead as Borrowed}

@@ -7,11 +7,11 @@ use Rattle.gcks_core.proofs.preparing.make_ready.Goals as goal
 pub make_record-requires : goal.make_record-requires
 make_record-requires g c =
     let group = c.requires.group in
-    let drawn = c.draws_few.ensures (batches_made group.0) c.args.batch.now c.args.head.now.limit c.args.step.now group.1.tree c.requires.step in
+    let drawn = c.prove_draws_few.ensures (batches_made group.0) c.args.batch.now c.args.head.now.limit c.args.step.now group.1.tree c.requires.step in
     omega (arith, nodes_few c.args.values.now.nodes c.args.step.now.drawn c.requires.drawn drawn)
 
 pub write_pair-requires-clause-few : goal.write_pair-requires-clause-few
-write_pair-requires-clause-few g c = c.renews_few.ensures c.args.head.now.limit c.args.step.now c.requires.step
+write_pair-requires-clause-few g c = c.prove_renews_few.ensures c.args.head.now.limit c.args.step.now c.requires.step
 
 pub returns : goal.returns
 returns g c = record {
@@ -23,7 +23,7 @@ returns g c = record {
       let step = c.args.step.now in
       let values = c.args.values.now in
       let few = nodes_few values.nodes step.drawn c.requires.drawn
-      (c.draws_few.ensures (batches_made list) batch head.limit step group.tree c.requires.step) in
+      (c.prove_draws_few.ensures (batches_made list) batch head.limit step group.tree c.requires.step) in
       let drawn = drawn_all g.G.Signer c.args.signer.now head tree kept batch step values list group c.requires.step c.requires.fits c.requires.drawn in
       let read : IsBatchOf c.in_ok-text.text (record { batch = batch; epoch = step.epoch; sequence = step.sequence; values = values }) =
       subst (IsBatchOf c.in_ok-text.text) (λ i. record { batch = batch; epoch = c.epoch.ensures i; sequence = c.sequence.ensures i; values = values })

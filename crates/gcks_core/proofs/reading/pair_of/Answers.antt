@@ -7,7 +7,7 @@ use Rattle.gcks_core.proofs.GroupLemmas.{drawn_next, taken_in_stored, values_wit
 use Rattle.gcks_core.proofs.reading.pair_of.Goals as goal
 
 pub write_pair-requires-clause-few : goal.write_pair-requires-clause-few
-write_pair-requires-clause-few g c = c.renews_few.ensures c.args.head.now.limit c.in_ok-step.step c.in_ok-step.ensures
+write_pair-requires-clause-few g c = c.prove_renews_few.ensures c.args.head.now.limit c.in_ok-step.step c.in_ok-step.ensures
 
 pub take-requires : goal.take-requires
 take-requires g c =

@@ -14,33 +14,16 @@ use Rattle.pull_msgs.specs.Pulls.{Awaited, fourth_awaited, second_awaited}
 use Rattle.pull_msgs.specs.Readings.{FourthSaid, PullRead, SecondSaid, fourth, root_made, second}
 use Rattle.pull_msgs.specs.Sent.{IsSomeFourth, IsSomeSecond}
 use Rattle.pull_msgs.specs.Texts.{next_iv}
+use Rattle.gd_wire.proofs.OctetLemmas.{number_octets}
 use Rattle.gd_wire.proofs.ReadingLemmas.{same_value}
 use Rattle.pull_msgs.proofs.FrontLemmas.{Front, fourth_front, second_front}
 use Rattle.pull_msgs.proofs.KindLemmas.{fourth_kind, no_fourth, no_second, second_kind}
 use Rattle.pull_msgs.proofs.MessageLemmas as messages
 use Rattle.pull_msgs.proofs.MessageLemmas.{fourth_gives, policies_read, second_is_read}
-use Rattle.pull_msgs.proofs.SentLemmas as sent
 use Rattle.pull_msgs.proofs.SentLemmas.{IsReadAs, Taken, read_as, what_was_taken}
 use Rattle.pull_msgs.proofs.WrittenLemmas.{policies_long}
 use Rattle.pull_msgs.proofs.laws.a_message_is_taken_as_it_was_written.Goals as goal
 use Rattle.pull_msgs.proofs.laws.a_message_is_taken_as_it_was_written.Goals.{After-written_policies_have_their_size}
-
-reading : After-written_policies_have_their_size → messages.Laws
-reading c = record {
-  payload_is = c.a_written_payload_is_read.ensures.payload;
-  body_is = c.a_written_payload_is_read.ensures.body;
-  end_is = c.a_written_payload_is_read.ensures.end;
-  hash_is = c.a_written_body_is_read.ensures.hash;
-  nonce_is = c.a_written_body_is_read.ensures.nonce;
-  number_is = c.a_written_body_is_read.ensures.sequence;
-  identification_is = c.a_written_body_is_read.ensures.identification;
-}
-
-opening : After-written_policies_have_their_size → sent.Laws
-opening c = record {
-  octets_of = c.written_framing_is_octets.ensures.payload;
-  opens_but_first = c.an_iv_matters_for_the_first_block_alone.ensures;
-}
 
 -- the keys of a message that was written have few octets
 keys_small : After-written_policies_have_their_size → (phase : Phase1) (keyed : Keyed) (datagram : List ℕ) → IsSomeFourth phase keyed datagram
@@ -62,8 +45,8 @@ fourth_as : (c : After-written_policies_have_their_size) (phase : Phase1) (keyed
     → length (awaited.iv found.head.message) ≡ 16 → (front : Front found.text found.head.next)
     → IsReadAs A awaited.payloads front.kind 17 front.digest (sequence_text keyed.sequence) (reply_kd keyed) found.read
 fourth_as c phase keyed datagram phase_fits is =
-    read_as (opening c) phase is.iv is.message (is.ni ++ is.nr) 18 17 (sequence_text keyed.sequence) (reply_kd keyed) datagram phase_fits
-    is.message_size is.iv_size (omega arith) (omega arith) (c.written_framing_is_octets.ensures.number 4 keyed.sequence)
+    read_as phase is.iv is.message (is.ni ++ is.nr) 18 17 (sequence_text keyed.sequence) (reply_kd keyed) datagram phase_fits
+    is.message_size is.iv_size (omega arith) (omega arith) (number_octets 4 keyed.sequence)
     (c.written_texts_are_octets.ensures.reply_kd keyed is.keys_fit.fits) is.is_text
 
 second_as : (c : After-written_policies_have_their_size) (phase : Phase1) (nr : List ℕ) (policy : SaPolicy) (datagram : List ℕ) → PhaseFits phase
@@ -71,7 +54,7 @@ second_as : (c : After-written_policies_have_their_size) (phase : Phase1) (nr : 
     → length (awaited.iv found.head.message) ≡ 16 → (front : Front found.text found.head.next)
     → IsReadAs A awaited.payloads front.kind 1 front.digest nr (sa_text policy) found.read
 second_as c phase nr policy datagram phase_fits is =
-    read_as (opening c) phase is.iv is.message is.ni 10 1 nr (sa_text policy) datagram phase_fits
+    read_as phase is.iv is.message is.ni 10 1 nr (sa_text policy) datagram phase_fits
     is.message_size is.iv_size (omega arith) (omega arith) is.nr_fits.octets (c.written_policies_are_octets.ensures policy is.policies_fit.fits) is.is_text
 
 abbrev keyed_of : FourthSaid → Keyed
@@ -97,11 +80,11 @@ returns-clause-second c phase message iv ni nr datagram policy taken phase_fits 
     let most = is.nr_fits.most in
     let one_fits : length nr ≤ 65531 = omega (arith, most) in
     let two_fits : length body ≤ 65531 = omega (arith, small) in
-    let kind = second_kind (reading c) front.kind 1 front.digest nr body parts.zeros front.long parts.few one_fits two_fits found.read parts.reads in
+    let kind = second_kind front.kind 1 front.digest nr body parts.zeros front.long parts.few one_fits two_fits found.read parts.reads in
     let reads = subst (λ kind.
-    let octets : List ℕ = messages.text (reading c) kind 1 front.digest nr body parts.zeros front.long parts.few one_fits two_fits in
+    let octets : List ℕ = messages.text kind 1 front.digest nr body parts.zeros front.long parts.few one_fits two_fits in
     value_of (second octets 8 (from_start 28 octets)) ≡ Ok found.read) kind parts.reads in
-    let written = second_is_read (reading c) front.digest nr body policy parts.zeros front.long parts.few least most small
+    let written = second_is_read front.digest nr body policy parts.zeros front.long parts.few least most small
     (λ base cursor. policies_read policy body base cursor is.policies_fit.kek is.policies_fit.tek
     (c.written_policies_are_read.ensures policy base is.policies_fit.fits)) in
     found.gives ∙ ap (λ (read : PullRead SecondSaid). second_of datagram read.said) (same_value found.read _ (sym reads ∙ written))
@@ -117,11 +100,11 @@ returns-clause-fourth c phase message iv ni nr spi datagram keyed taken phase_fi
     let small = keys_small c phase keyed datagram is in
     let one_fits : length number ≤ 65531 = omega arith in
     let two_fits : length body ≤ 65531 = omega (arith, small) in
-    let kind = fourth_kind (reading c) front.kind 17 front.digest number body parts.zeros front.long parts.few one_fits two_fits spi found.read parts.reads in
+    let kind = fourth_kind front.kind 17 front.digest number body parts.zeros front.long parts.few one_fits two_fits spi found.read parts.reads in
     let reads = subst (λ kind.
-    let octets : List ℕ = messages.text (reading c) kind 17 front.digest number body parts.zeros front.long parts.few one_fits two_fits in
+    let octets : List ℕ = messages.text kind 17 front.digest number body parts.zeros front.long parts.few one_fits two_fits in
     value_of (fourth spi octets 8 (from_start 28 octets)) ≡ Ok found.read) kind parts.reads in
-    let given = fourth_gives (reading c) front.digest keyed parts.zeros front.long parts.few is.keys_fit.sequence small
+    let given = fourth_gives front.digest keyed parts.zeros front.long parts.few is.keys_fit.sequence small
     (λ base. record { tek = Some (base + 9); lkh = Some (base + (traffic_kd_octets + 5)) }) (λ base. base + (traffic_kd_octets + 5)) (λ base. refl)
     (λ base. c.a_written_reply_is_read.ensures keyed base is.keys_fit.fits) spi found.read reads in
     found.gives ∙ ap (λ (read : PullRead FourthSaid). keyed_of read.said) given ∙ with_epoch keyed (root_made keyed.path) is.keys_fit.epoch
@@ -135,7 +118,7 @@ returns-clause-second_as_fourth c phase message iv ni nr spi server_nr datagram 
     let small = policies_small c policy is.policies_fit in
     let least = is.nr_fits.least in
     let most = is.nr_fits.most in
-    no_fourth (reading c) front.kind 1 front.digest server_nr (sa_text policy) parts.zeros front.long parts.few (omega (arith, most)) (omega (arith, small)) spi
+    no_fourth front.kind 1 front.digest server_nr (sa_text policy) parts.zeros front.long parts.few (omega (arith, most)) (omega (arith, small)) spi
     found.read (λ same. omega (arith, same, least)) parts.reads
 
 pub returns-clause-fourth_as_second : goal.returns-clause-fourth_as_second
@@ -145,5 +128,5 @@ returns-clause-fourth_as_second c phase message iv ni datagram keyed taken phase
     let front = second_front found.text found.head.next found.read found.reads in
     let parts = fourth_as c phase keyed datagram phase_fits is _ _ awaited taken found iv_long front in
     let small = keys_small c phase keyed datagram is in
-    no_second (reading c) front.kind 17 front.digest (sequence_text keyed.sequence) (reply_kd keyed) parts.zeros front.long parts.few (omega arith)
+    no_second front.kind 17 front.digest (sequence_text keyed.sequence) (reply_kd keyed) parts.zeros front.long parts.few (omega arith)
     (omega (arith, small)) found.read (omega arith) parts.reads

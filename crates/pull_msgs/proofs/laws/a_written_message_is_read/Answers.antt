@@ -5,7 +5,7 @@ use Rattle.gd_cipher.specs.Bytes.{AreBytes}
 use Rattle.gd_wire.specs.Bodies.{sequence_text, identification_text}
 use Rattle.gd_wire.specs.Chains.{payload_text}
 use Rattle.gd_wire.specs.Readings.{Cursor, from_start, value_of}
-use Rattle.gd_wire.proofs.OctetLemmas.{same_octets}
+use Rattle.gd_wire.proofs.OctetLemmas.{number_octets, same_octets}
 use Rattle.group_terms.specs.Octets.{IsOctet, AreOctets}
 use Rattle.group_terms.specs.declared.paths.Keyed.{Keyed}
 use Rattle.group_terms.specs.declared.phases.Phase1.{Phase1}
@@ -17,31 +17,10 @@ use Rattle.pull_msgs.specs.Pulls.{due_message, first_awaited, second_awaited, th
 use Rattle.pull_msgs.specs.Readings.{root_made, first, second, third, fourth}
 use Rattle.pull_msgs.specs.Texts.{IsPullText, message_hash, first_iv, first_message, second_message, third_message, fourth_message}
 use Rattle.pull_msgs.proofs.HashLemmas.{length-hash_of, first_iv_fits}
-use Rattle.pull_msgs.proofs.MessageLemmas as messages
 use Rattle.pull_msgs.proofs.MessageLemmas.{first_is_read, second_is_read, third_is_read, fourth_is_read, policies_read}
-use Rattle.pull_msgs.proofs.WrittenLemmas as written
 use Rattle.pull_msgs.proofs.WrittenLemmas.{IsRead, is_read, policies_long, two_flat, two_octets, two_long}
 use Rattle.pull_msgs.proofs.laws.a_written_message_is_read.Goals as goal
 use Rattle.pull_msgs.proofs.laws.a_written_message_is_read.Goals.{After-written_policies_have_their_size}
-
-reading : After-written_policies_have_their_size → messages.Laws
-reading c = record {
-  payload_is = c.a_written_payload_is_read.ensures.payload;
-  body_is = c.a_written_payload_is_read.ensures.body;
-  end_is = c.a_written_payload_is_read.ensures.end;
-  hash_is = c.a_written_body_is_read.ensures.hash;
-  nonce_is = c.a_written_body_is_read.ensures.nonce;
-  number_is = c.a_written_body_is_read.ensures.sequence;
-  identification_is = c.a_written_body_is_read.ensures.identification;
-}
-
-opening : After-written_policies_have_their_size → written.Laws
-opening c = record {
-  octets_of = c.written_framing_is_octets.ensures.payload;
-  header_reads = c.a_written_header_is_read.ensures;
-  opens_as = c.what_was_sealed_opens.ensures;
-  once = c.a_text_is_opened_in_one_way.ensures;
-}
 
 known_is_due : (message : List ℕ) (cursor : Cursor) → due_message (Some message) message cursor ≡ Ok (tt, cursor)
 known_is_due message cursor = rw (same_octets message) refl
@@ -52,10 +31,10 @@ returns-clause-third c phase message iv ni nr datagram answer phase_fits message
     let digest = message_hash phase said in
     let long = length-hash_of phase message (ni ++ nr) [] in
     let zeros : ℕ = (16 - length (payload_text 0 digest ++ []) % 16) % 16 in
-    (is_read (opening c) phase iv said datagram phase_fits message_fits iv_fits (omega arith) (All-nil IsOctet) (omega arith) is _ _
+    (is_read phase iv said datagram phase_fits message_fits iv_fits (omega arith) (All-nil IsOctet) (omega arith) is _ _
     (third_awaited message iv ni nr) _ (known_is_due message) refl refl
     (ap (λ text. value_of (third text 8 (from_start 28 text))) (ap (λ octets. octets ++ replicate zeros 0) (append-nil (payload_text 0 digest)))
-    ∙ third_is_read (reading c) digest zeros long (omega arith))
+    ∙ third_is_read digest zeros long (omega arith))
     refl refl).alone answer answered
 
 pub returns-clause-first : goal.returns-clause-first
@@ -69,12 +48,12 @@ returns-clause-first c phase message ni group datagram answer phase_fits message
     let rest_long = two_long 5 ni named in
     let long = length-hash_of phase message [] (payload_text 5 ni ++ (payload_text 0 named ++ [])) in
     let zeros : ℕ = (16 - length (payload_text 10 digest ++ (payload_text 5 ni ++ (payload_text 0 named ++ []))) % 16) % 16 in
-    (is_read (opening c) phase (first_iv phase message) said datagram phase_fits message_fits (first_iv_fits phase.last message) (omega arith)
-    (two_octets c.written_framing_is_octets.ensures.payload 5 ni named (omega arith) ni_fits.octets named_octets)
+    (is_read phase (first_iv phase message) said datagram phase_fits message_fits (first_iv_fits phase.last message) (omega arith)
+    (two_octets 5 ni named (omega arith) ni_fits.octets named_octets)
     (omega (arith, rest_long, most, group_short)) is _ _
     (first_awaited phase) _ (λ cursor. refl) refl refl
     (ap (λ text. value_of (first text 8 (from_start 28 text))) (two_flat 10 5 digest ni named (replicate zeros 0))
-    ∙ first_is_read (reading c) digest ni group 11 zeros long (omega arith) ni_fits.least most (omega (arith, group_short)))
+    ∙ first_is_read digest ni group 11 zeros long (omega arith) ni_fits.least most (omega (arith, group_short)))
     refl (ap (λ octets. payload_text 5 ni ++ octets) (sym (append-nil (payload_text 0 named))))).alone answer answered
 
 pub returns-clause-second : goal.returns-clause-second
@@ -89,12 +68,12 @@ returns-clause-second c phase message iv ni nr datagram policy answer phase_fits
     let small : length body ≤ 65000 = omega (arith, exact) in
     let long = length-hash_of phase message ni (payload_text 1 nr ++ (payload_text 0 body ++ [])) in
     let zeros : ℕ = (16 - length (payload_text 10 digest ++ (payload_text 1 nr ++ (payload_text 0 body ++ []))) % 16) % 16 in
-    (is_read (opening c) phase iv said datagram phase_fits message_fits iv_fits (omega arith)
-    (two_octets c.written_framing_is_octets.ensures.payload 1 nr body (omega arith) nr_fits.octets (c.written_policies_are_octets.ensures policy policies.fits))
+    (is_read phase iv said datagram phase_fits message_fits iv_fits (omega arith)
+    (two_octets 1 nr body (omega arith) nr_fits.octets (c.written_policies_are_octets.ensures policy policies.fits))
     (omega (arith, rest_long, most, small)) is _ _
     (second_awaited message iv ni) _ (known_is_due message) refl refl
     (ap (λ text. value_of (second text 8 (from_start 28 text))) (two_flat 10 1 digest nr body (replicate zeros 0))
-    ∙ second_is_read (reading c) digest nr body policy zeros long (omega arith) nr_fits.least most small
+    ∙ second_is_read digest nr body policy zeros long (omega arith) nr_fits.least most small
     (λ base cursor. policies_read policy body base cursor policies.kek policies.tek (c.written_policies_are_read.ensures policy base policies.fits)))
     refl (ap (λ octets. payload_text 1 nr ++ octets) (sym (append-nil (payload_text 0 body))))).alone answer answered
 
@@ -115,13 +94,13 @@ fourth_read c phase message iv ni nr datagram keyed phase_fits message_fits iv_f
     let zeros : ℕ = (16 - length (payload_text 18 digest ++ (payload_text 17 number ++ (payload_text 0 body ++ []))) % 16) % 16 in
     subst (λ epoch. IsRead phase (fourth_awaited message iv ni nr keyed.spi) datagram
     (record { epoch = epoch; sequence = keyed.sequence; spi = keyed.spi; path = keyed.path; traffic = keyed.traffic })) (sym keyed_fits.epoch)
-    (is_read (opening c) phase iv said datagram phase_fits message_fits iv_fits (omega arith)
-    (two_octets c.written_framing_is_octets.ensures.payload 17 number body (omega arith) (c.written_framing_is_octets.ensures.number 4 keyed.sequence)
+    (is_read phase iv said datagram phase_fits message_fits iv_fits (omega arith)
+    (two_octets 17 number body (omega arith) (number_octets 4 keyed.sequence)
     (c.written_texts_are_octets.ensures.reply_kd keyed keyed_fits.fits))
     (omega (arith, rest_long, small)) is _ _
     (fourth_awaited message iv ni nr keyed.spi) _ (known_is_due message) refl refl
     (ap (λ text. value_of (fourth keyed.spi text 8 (from_start 28 text))) (two_flat 18 17 digest number body (replicate zeros 0))
-    ∙ fourth_is_read (reading c) digest keyed zeros long (omega arith) keyed_fits.sequence small
+    ∙ fourth_is_read digest keyed zeros long (omega arith) keyed_fits.sequence small
     (λ base. record { tek = Some (base + 9); lkh = Some (base + (traffic_kd_octets + 5)) }) (λ base. base + (traffic_kd_octets + 5)) (λ base. refl)
     (λ base. c.a_written_reply_is_read.ensures keyed base keyed_fits.fits))
     refl (ap (λ octets. payload_text 17 number ++ octets) (sym (append-nil (payload_text 0 body)))))

@@ -30,9 +30,9 @@ pub returns-in_err-due_hash : goal.returns-in_err-due_hash
 returns-in_err-due_hash c =
     other_hash _ _ c.args.phase.now (first_awaited c.args.phase.now) c.args.datagram.now
     c.in_ok-head.head c.in_ok-text.text (sym c.in_ok-head.was ∙ c.pull_header.ensures.answer) (subst (λ iv. IsOpened c.args.phase.now.key iv (drop 28 c.args.datagram.now) c.in_ok-text.text) c.phase2_iv-iv.ensures c.in_ok-text.ensures.opened)
-    (seen_first c.in-Ok.read) _ c.due_hash.result
+    (seen_first c.in-Ok.read) _ _ c.due_hash.result
     (ap (λ text. value_of (readings.first text c.in_ok-head.head.next (from_start 28 text))) (sym c.as_slice.ensures) ∙ c.in-Ok.ensures)
-    refl c.due_hash.ensures
+    refl c.hash_of-due.ensures c.due_hash.ensures
     c.in_err-due_hash.field-0.0 c.from_residual-in_err-due_hash.result c.in_err-due_hash.was c.from_residual-in_err-due_hash.ensures.1
 
 pub returns-in_err-id : goal.returns-in_err-id
@@ -44,7 +44,7 @@ pub returns : goal.returns
 returns c =
     due_hash _ _ c.args.phase.now (first_awaited c.args.phase.now) c.args.datagram.now
     c.in_ok-head.head c.in_ok-text.text (sym c.in_ok-head.was ∙ c.pull_header.ensures.answer) (subst (λ iv. IsOpened c.args.phase.now.key iv (drop 28 c.args.datagram.now) c.in_ok-text.text) c.phase2_iv-iv.ensures c.in_ok-text.ensures.opened)
-    (seen_first c.in-Ok.read) _ c.due_hash.result
+    (seen_first c.in-Ok.read) _ _ c.due_hash.result
     (ap (λ text. value_of (readings.first text c.in_ok-head.head.next (from_start 28 text))) (sym c.as_slice.ensures) ∙ c.in-Ok.ensures)
-    refl c.due_hash.ensures
+    refl c.hash_of-due.ensures c.due_hash.ensures
     _ c.in_ok-due_hash.was (λ i. record { message = c.in_ok-head.head.message; ni = c.in-Ok.read.said.ni; id_type = c.in-Ok.read.said.id.id_type; id = c.in_ok-id.ensures i; next_iv = c.next_iv.ensures i })

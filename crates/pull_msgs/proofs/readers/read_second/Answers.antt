@@ -30,16 +30,16 @@ pub returns-in_err-due_hash-clause-answer : goal.returns-in_err-due_hash-clause-
 returns-in_err-due_hash-clause-answer c =
     other_hash _ _ c.args.phase.now (second_awaited c.args.message.now c.args.iv.now c.args.ni.now) c.args.datagram.now
     c.in_ok-head.head c.in_ok-text.text (sym c.in_ok-head.was ∙ c.pull_header.ensures.answer) c.in_ok-text.ensures.opened
-    (seen_second c.in-Ok.read) _ c.due_hash.result
+    (seen_second c.in-Ok.read) _ _ c.due_hash.result
     (ap (λ text. value_of (readings.second text c.in_ok-head.head.next (from_start 28 text))) (sym c.as_slice.ensures) ∙ c.in-Ok.ensures.answer)
-    (ap (λ octets. octets ++ []) c.octets.ensures.octets ∙ append-nil c.args.ni.now) c.due_hash.ensures
+    (ap (λ octets. octets ++ []) c.octets.ensures.octets ∙ append-nil c.args.ni.now) c.hash_of-due.ensures c.due_hash.ensures
     c.in_err-due_hash.field-0.0 c.from_residual-in_err-due_hash.result c.in_err-due_hash.was c.from_residual-in_err-due_hash.ensures.1
 
 pub returns-clause-answer : goal.returns-clause-answer
 returns-clause-answer c =
     due_hash _ _ c.args.phase.now (second_awaited c.args.message.now c.args.iv.now c.args.ni.now) c.args.datagram.now
     c.in_ok-head.head c.in_ok-text.text (sym c.in_ok-head.was ∙ c.pull_header.ensures.answer) c.in_ok-text.ensures.opened
-    (seen_second c.in-Ok.read) _ c.due_hash.result
+    (seen_second c.in-Ok.read) _ _ c.due_hash.result
     (ap (λ text. value_of (readings.second text c.in_ok-head.head.next (from_start 28 text))) (sym c.as_slice.ensures) ∙ c.in-Ok.ensures.answer)
-    (ap (λ octets. octets ++ []) c.octets.ensures.octets ∙ append-nil c.args.ni.now) c.due_hash.ensures
+    (ap (λ octets. octets ++ []) c.octets.ensures.octets ∙ append-nil c.args.ni.now) c.hash_of-due.ensures c.due_hash.ensures
     _ c.in_ok-due_hash.was (λ i. record { nr = c.in-Ok.read.said.nr; policy = c.in-Ok.read.said.policy; next_iv = c.next_iv.ensures i })

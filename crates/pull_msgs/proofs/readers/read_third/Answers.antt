@@ -29,16 +29,16 @@ pub returns-in_err-due_hash : goal.returns-in_err-due_hash
 returns-in_err-due_hash c =
     other_hash _ _ c.args.phase.now (third_awaited c.args.message.now c.args.iv.now c.args.ni.now c.args.nr.now) c.args.datagram.now
     c.in_ok-head.head c.in_ok-text.text (sym c.in_ok-head.was ∙ c.pull_header.ensures.answer) c.in_ok-text.ensures.opened
-    (seen_third c.in-Ok.read) _ c.due_hash.result
+    (seen_third c.in-Ok.read) _ _ c.due_hash.result
     (ap (λ text. value_of (readings.third text c.in_ok-head.head.next (from_start 28 text))) (sym c.as_slice.ensures) ∙ c.in-Ok.ensures)
-    (ap₂ (λ ni nr. ni ++ nr) c.octets.ensures.octets c.octets-2.ensures.octets) c.due_hash.ensures
+    (ap₂ (λ ni nr. ni ++ nr) c.octets.ensures.octets c.octets-2.ensures.octets) c.hash_of-due.ensures c.due_hash.ensures
     c.in_err-due_hash.field-0.0 c.from_residual-in_err-due_hash.result c.in_err-due_hash.was c.from_residual-in_err-due_hash.ensures.1
 
 pub returns : goal.returns
 returns c =
     due_hash _ _ c.args.phase.now (third_awaited c.args.message.now c.args.iv.now c.args.ni.now c.args.nr.now) c.args.datagram.now
     c.in_ok-head.head c.in_ok-text.text (sym c.in_ok-head.was ∙ c.pull_header.ensures.answer) c.in_ok-text.ensures.opened
-    (seen_third c.in-Ok.read) _ c.due_hash.result
+    (seen_third c.in-Ok.read) _ _ c.due_hash.result
     (ap (λ text. value_of (readings.third text c.in_ok-head.head.next (from_start 28 text))) (sym c.as_slice.ensures) ∙ c.in-Ok.ensures)
-    (ap₂ (λ ni nr. ni ++ nr) c.octets.ensures.octets c.octets-2.ensures.octets) c.due_hash.ensures
+    (ap₂ (λ ni nr. ni ++ nr) c.octets.ensures.octets c.octets-2.ensures.octets) c.hash_of-due.ensures c.due_hash.ensures
     _ c.in_ok-due_hash.was (λ i. record { next_iv = c.next_iv.ensures i })

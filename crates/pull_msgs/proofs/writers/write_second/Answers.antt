@@ -11,7 +11,7 @@ returns c =
     let ni = c.args.ni.now in
     let nr = c.args.nr.now in
     let policy = c.args.policy.now in
-    let sized = c.written_policies_have_their_size.ensures policy c.policies_fit.ensures.fits in
+    let sized = c.written_policies_have_their_size.ensures policy c.prove_policies_fit.ensures.fits in
     c.in_ok-finish.ensures (second_message c.args.message.now ni nr policy) refl
     (sym (append-nil ni) ∙ ap (λ octets. octets ++ []) (sym c.octets-3.ensures.octets))
     (two_drafted c.args.phase.now c.args.message.now ni 10 1 _ _ nr (sa_text policy) c.in_ok-out.out c.write_payload.new.out c.write_payload_head.new.out

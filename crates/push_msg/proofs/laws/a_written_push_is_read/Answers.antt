@@ -6,20 +6,12 @@ use Rattle.push_msg.specs.declared.rows.Row.TheVariants as rows
 use Rattle.push_msg.specs.Readings.{epoch_of}
 use Rattle.push_msg.specs.Written.{IsReadAs}
 use Rattle.push_msg.proofs.DraftLemmas.{kek_policy_fits, tek_policy_fits, updates_long}
-use Rattle.push_msg.proofs.PushLemmas.{Laws}
 use Rattle.push_msg.proofs.RowLemmas.{membership_row, traffic_row, membership_keys, traffic_keys, view_from}
 use Rattle.push_msg.proofs.WrittenLemmas.{is_read}
 use Rattle.push_msg.proofs.laws.a_written_push_is_read.Goals as goal
 
 pub returns-clause-membership : goal.returns-clause-membership
 returns-clause-membership c sign size kind head kek given arrays datagram head_fits kek_fits kind_fits octets few updates is =
-    let laws : Laws = record {
-      payload_is = c.a_written_payload_is_read.ensures.payload;
-      body_is = c.a_written_payload_is_read.ensures.body;
-      end_is = c.a_written_payload_is_read.ensures.end;
-      number_is = c.a_written_body_is_read.ensures.sequence;
-      signature_is = c.a_written_body_is_read.ensures.signature;
-    } in
     let told = membership_push head kind arrays in
     let fits = kek_policy_fits head.spi kind head_fits.spi head_fits.octets kind_fits.algorithm kind_fits.key_bits in
     let long = c.written_policies_have_their_size.ensures told.policy fits in
@@ -28,8 +20,7 @@ returns-clause-membership c sign size kind head kek given arrays datagram head_f
     let keys = updates_long head.spi arrays head_fits.spi in
     let same = c.a_span_has_the_arrays_that_were_read.ensures base told.keys _ read.0 (omega (arith, keys, few)) read.1 refl in
     let gives = subst (λ arrays. IsReadAs sign kind kek told (Membership (epoch_of arrays) read.0) datagram) same
-    (is_read laws c.written_framing_is_octets.ensures.payload c.written_framing_is_octets.ensures.number c.a_written_header_is_read.ensures c.what_was_sealed_opens.ensures
-    sign size kind kek told (rows.Membership head.spi) _ datagram kek_fits head_fits.spi head_fits.octets head_fits.sequence
+    (is_read sign size kind kek told (rows.Membership head.spi) _ datagram kek_fits head_fits.spi head_fits.octets head_fits.sequence
     (c.written_policies_are_octets.ensures told.policy fits) (omega (arith, long))
     (c.written_texts_are_octets.ensures.update_kd head.spi arrays head_fits.spi head_fits.octets octets) (omega (arith, keys, few))
     (λ place cursor. membership_row head.spi (sa_text told.policy) kind place cursor (c.written_policies_are_read.ensures told.policy place fits))
@@ -38,20 +29,12 @@ returns-clause-membership c sign size kind head kek given arrays datagram head_f
 
 pub returns-clause-traffic : goal.returns-clause-traffic
 returns-clause-traffic c sign size kind head kek traffic datagram head_fits kek_fits traffic_fits is =
-    let laws : Laws = record {
-      payload_is = c.a_written_payload_is_read.ensures.payload;
-      body_is = c.a_written_payload_is_read.ensures.body;
-      end_is = c.a_written_payload_is_read.ensures.end;
-      number_is = c.a_written_body_is_read.ensures.sequence;
-      signature_is = c.a_written_body_is_read.ensures.signature;
-    } in
     let told = traffic_push head traffic in
     let fits = tek_policy_fits traffic traffic_fits in
     let long = c.written_policies_have_their_size.ensures told.policy fits in
     let keys = c.written_texts_have_their_size.ensures.traffic_kd traffic traffic_fits in
     let base : ℕ = 28 + (0 + 4 + 4 + 4 + length (sa_text told.policy)) + 4 in
-    is_read laws c.written_framing_is_octets.ensures.payload c.written_framing_is_octets.ensures.number c.a_written_header_is_read.ensures c.what_was_sealed_opens.ensures
-    sign size kind kek told (rows.Traffic traffic.spi) (Traffic traffic) datagram kek_fits head_fits.spi head_fits.octets head_fits.sequence
+    is_read sign size kind kek told (rows.Traffic traffic.spi) (Traffic traffic) datagram kek_fits head_fits.spi head_fits.octets head_fits.sequence
     (c.written_policies_are_octets.ensures told.policy fits) (omega (arith, long))
     (c.written_texts_are_octets.ensures.traffic_kd traffic traffic_fits) (omega (arith, keys))
     (λ place cursor. traffic_row head.spi traffic.spi (sa_text told.policy) kind place cursor (c.written_policies_are_read.ensures told.policy place fits))

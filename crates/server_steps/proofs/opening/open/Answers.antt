@@ -10,7 +10,7 @@ returns-clause-ok g c name limit phases =
     let opens = c.in_ok-opened.ensures in
     let read = opens.read in
     begins g.D.Disk g.G.Signer g.R.Draws c.args.parts name limit phases opened.core read.0 opened.resent (g.met.D.Disk.only_now opened.core.disk) (record {
-      head = record { fits = c.head_fits.ensures.fits; octets = c.head_fits.ensures.octets };
+      head = record { fits = c.prove_head_fits.ensures.fits; octets = c.prove_head_fits.ensures.octets };
       stands = read.1;
       was_there = read.2;
       pair = read.3;
@@ -26,7 +26,7 @@ returns-clause-fits g c =
     let opened = c.in_ok-opened.opened in
     let read = c.in_ok-opened.ensures.read in
     let head = opened.core.head in
-    c.last_pair_fits.ensures c.args.parts.signer (opened_server head.depth head.limit read.0 (g.R.Draws.place_of c.args.parts.draws)) head.spi opened.resent read.1
+    c.prove_last_pair_fits.ensures c.args.parts.signer (opened_server head.depth head.limit read.0 (g.R.Draws.place_of c.args.parts.draws)) head.spi opened.resent read.1
     read.3
 
 pub returns-in_err-opened-clause-err : goal.returns-in_err-opened-clause-err

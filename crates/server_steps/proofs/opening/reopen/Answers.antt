@@ -13,7 +13,7 @@ returns-clause-serves g c rules sessions =
     let opens = c.in_ok-resent.ensures in
     let read = opens.read in
     opens_again g.D.Disk g.G.Signer g.R.Draws old new rules sessions c.a_file_has_one_group.ensures.one read.0 c.in_ok-resent.resent (record {
-      head = record { fits = c.head_fits.ensures.fits; octets = c.head_fits.ensures.octets };
+      head = record { fits = c.prove_head_fits.ensures.fits; octets = c.prove_head_fits.ensures.octets };
       stands = read.1;
       was_there = read.2;
       pair = read.3;
@@ -49,7 +49,7 @@ pub returns-clause-fits : goal.returns-clause-fits
 returns-clause-fits g c =
     let new = c.reopen.new.self in
     let read = c.in_ok-resent.ensures.read in
-    c.last_pair_fits.ensures c.args.core.now.signer (opened_server new.head.depth new.head.limit read.0 (g.R.Draws.place_of c.args.core.now.draws)) new.head.spi
+    c.prove_last_pair_fits.ensures c.args.core.now.signer (opened_server new.head.depth new.head.limit read.0 (g.R.Draws.place_of c.args.core.now.draws)) new.head.spi
     c.in_ok-resent.resent read.1 read.3
 
 pub returns-in_err-resent-clause-waits : goal.returns-in_err-resent-clause-waits

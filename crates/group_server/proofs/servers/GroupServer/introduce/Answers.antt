@@ -17,4 +17,4 @@ returns g c =
     let new = server_of c.self.inside.core c.self.inside.rules c.introduce.new.self in
     subst (λ answer. Serves g.D.Disk g.G.Signer g.R.Draws (Introduce c.args.phase) answer c.args.self.now new) (sym c.introduced.ensures)
     (subst (λ (view : View g.row.D.Denot g.row.G.Denot g.row.R.Denot). Serves g.D.Disk g.G.Signer g.R.Draws (Introduce c.args.phase) (answer_introduced c.introduce.result) view new) c.self.view_is
-    (introduced g.D.Disk g.G.Signer g.R.Draws old c.args.phase c.introduce.result new c.phase_fits.ensures c.introduce.ensures refl refl))
+    (introduced g.D.Disk g.G.Signer g.R.Draws old c.args.phase c.introduce.result new c.prove_phase_fits.ensures c.introduce.ensures refl refl))

@@ -47,5 +47,5 @@ invariant_of-self-2 c =
       },
       cookies,
       members,
-      subst AllFit new (one_fits sas phase c.self.invariant.3 c.phase_fits.ensures),
+      subst AllFit new (one_fits sas phase c.self.invariant.3 c.prove_phase_fits.ensures),
     )

@@ -12,7 +12,7 @@ use Rattle.pull_sessions.proofs.sessions.Sessions.hold_third.Goals as goal
 pub put-requires : goal.put-requires
 put-requires c =
     let laws : Laws = record { text = c.a_header_has_one_text.ensures; fits = c.what_is_read_can_be_written.ensures.header } in
-    let octets = subst AreOctets c.as_slice.ensures c.are_octets.ensures in
+    let octets = subst AreOctets c.as_slice.ensures c.prove_are_octets.ensures in
     let m = c.args.member.now in
     let third = c.requires.third in
     let had = third.session in
@@ -25,7 +25,7 @@ put-requires c =
       message = old.message;
       ni = old.ni;
       nr = old.nr;
-      iv = subst (λ (session : Session). AreBytes 16 session.iv) c.take_third-after.ensures c.block_fits.ensures;
+      iv = subst (λ (session : Session). AreBytes 16 session.iv) c.take_third-after.ensures c.prove_block_fits.ensures;
       last = read.at ∙ ap (λ (session : Session). session.message) (sym same);
     })
 

@@ -12,4 +12,4 @@ returns-clause-read g c high =
     let stored : Stored = record { batch = batch; epoch = c.args.epoch; sequence = c.args.sequence; values = values } in
     IfOk-weaker c.write_batch.result (λ made. made ≡ batch_text batch c.args.epoch c.args.sequence values) (λ made. IsBatchOf made stored)
     (λ made is. subst (λ (text : List ℕ). IsBatchOf text stored) (sym is)
-    (c.a_written_record_is_read.ensures.batch batch c.args.epoch c.args.sequence values (c.batch_fits.ensures high))) c.write_batch.ensures.octets
+    (c.a_written_record_is_read.ensures.batch batch c.args.epoch c.args.sequence values (c.prove_batch_fits.ensures high))) c.write_batch.ensures.octets

@@ -1,5 +1,5 @@
 use Rattle.std.proofs.Common.{◌≡◌, ℕ, zero, suc, ◌+◌, ◌*◌, ◌≤◌, length, arith}
-use Rattle.gcks_core.proofs.bounds.renews_few.Goals as goal
+use Rattle.gcks_core.proofs.bounds.prove_renews_few.Goals as goal
 
 rows : (a n : ℕ) → a ≤ 10 → a * n ≤ 10 * n
 rows a zero le = omega arith

@@ -6,7 +6,7 @@ use Rattle.std.proofs.lemmas.List.Sums.{count_by-le-length, length-filter}
 use Rattle.group_terms.specs.declared.changes.Change.{Change}
 use Rattle.group_model.specs.Drawn.{drawn_at, is_drawn}
 use Rattle.group_model.specs.Places.{holders_at}
-use Rattle.gcks_core.proofs.bounds.draws_few.Goals as goal
+use Rattle.gcks_core.proofs.bounds.prove_draws_few.Goals as goal
 
 -- there are no more than positions
 drawn_few : (depth : ℕ) (batches : List (List Change)) (epoch : ℕ) → length (drawn_at depth batches epoch) ≤ 2 ^ (depth + 1) - 1

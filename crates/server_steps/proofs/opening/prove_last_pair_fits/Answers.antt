@@ -1,6 +1,6 @@
 use Rattle.std.proofs.Common.{◌<◌, ◌^◌, subst}
 use Rattle.server_steps.proofs.PairLemmas.{standing_pair_fits}
-use Rattle.server_steps.proofs.opening.last_pair_fits.Goals as goal
+use Rattle.server_steps.proofs.opening.prove_last_pair_fits.Goals as goal
 
 pub returns : goal.returns
 returns g c signer server spi pair stands made =
