@@ -7,11 +7,8 @@ returns-clause-ok g c phases =
     let made = c.in_ok-core.ensures in
     let need = c.requires in
     creates g.D.Disk g.R.Draws c.args.parts c.args.group.now need.shallow need.not_deep need.limited phases c.in_ok-core.core made.head
-<<<<<<< HEAD
-    (record { fits = c.head_fits.ensures.fits; octets = c.head_fits.ensures.octets }) made.server made.made made.durable made.moments (made.disk.no_fault (λ none. none)) made.disk.keeps
-=======
-    (record { fits = c.prove_head_fits.ensures.fits; octets = c.prove_head_fits.ensures.octets }) made.server made.made made.durable made.moments made.stands made.keeps
->>>>>>> 140b3cf63f249c7f1d698861ac00af190e851729
+    (record { fits = c.prove_head_fits.ensures.fits; octets = c.prove_head_fits.ensures.octets }) made.server made.made made.durable made.moments
+    (made.disk.no_fault (λ none. none)) made.disk.keeps
     made.signer made.blocks
 
 pub returns-in_err-core-clause-err : goal.returns-in_err-core-clause-err
