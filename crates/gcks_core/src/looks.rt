@@ -19,9 +19,9 @@ use crate::{Core, GroupName, Keyed, LkhId, MemberName, Parts, Refusal, SignKind,
 use gd_disk::Disk;
 use gd_edges::{Draws, Signer};
 use group_keys::keyed;
-use group_records::head_fits;
+use group_records::prove_head_fits;
 use group_terms::Batch;
-use kd_wire::spi_fits;
+use kd_wire::prove_spi_fits;
 
 impl<D: Disk, G: Signer, R: Draws> Core<D, G, R> {
     /// Says what is so between two calls: some server is this core, and where it does not have to be opened again, its journal has the batches of that server, and

@@ -7,7 +7,7 @@ ghost use Rattle.group_pushes.specs.Fits.{ValuesFit};
 
 use gd_wire::prove_are_octets;
 use group_terms::{BatchValues, Drawn};
-use kd_wire::traffic_fits;
+use kd_wire::prove_traffic_fits;
 
 /// The values of a batch fit.
 pub fn prove_values_fit(values: &BatchValues)

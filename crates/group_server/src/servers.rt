@@ -19,7 +19,7 @@ use gd_disk::Disk;
 use gd_edges::{Draws, Signer};
 use group_model::{MemberName, Output, Phase1, PushPair, Refusal, Rule};
 use group_policy::Rules;
-use pull_msgs::phase_fits;
+use pull_msgs::prove_phase_fits;
 use pull_sessions::Sessions;
 use server_steps::close_batch;
 use std::alloc::Global;

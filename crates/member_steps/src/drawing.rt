@@ -8,7 +8,7 @@ ghost use Rattle.pull_msgs.specs.Fits.{MessageFits, NonceFits, PhaseFits};
 use gd_edges::Draws;
 use group_model::{MemberName, Phase1};
 use group_values::{joined, number_of};
-use pull_msgs::phase_fits;
+use pull_msgs::prove_phase_fits;
 
 /// Draws the phase 1 SA of a member.
 pub(crate) fn draw_phase<P: Draws>(draws: &mut P, member: &MemberName) -> Phase1

@@ -4,7 +4,7 @@ ghost use Rattle.gd_cipher.specs.Chains.{IsSealed};
 ghost use Rattle.pull_msgs.specs.Private.Drafts.{before_covered, draft_text};
 ghost use Rattle.pull_msgs.specs.Texts.{Message, IsPullText};
 
-use crate::fits::phase_fits;
+use crate::fits::prove_phase_fits;
 use crate::hashes::hash_of;
 use gd_cipher::{Key128, cbc_seal};
 use gd_wire::kinds::{BLOCK_OCTETS, HASH, HASH_OCTETS, HEADER_OCTETS, PAYLOAD_HEAD_OCTETS, PULL};

@@ -3,7 +3,7 @@ ghost use Rattle.std.specs.Prelude.{IfOk, IsSome};
 ghost use Rattle.pull_msgs.specs.Texts.{IsPullText, first_iv, first_message, second_message, third_message, fourth_message};
 
 use crate::drafts::{begin, finish};
-use crate::fits::policies_fit;
+use crate::fits::prove_policies_fit;
 use crate::nonces::Nonce;
 use gd_cipher::phase2_iv;
 use gd_wire::kinds::{

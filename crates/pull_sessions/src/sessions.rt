@@ -11,7 +11,7 @@ ghost use Rattle.pull_sessions.specs.declared.sas.Sa.{Sa};
 ghost use Rattle.pull_sessions.specs.declared.sas.Session.{Session};
 
 use crate::answers::{Kept, Looked};
-use crate::fits::block_fits;
+use crate::fits::prove_block_fits;
 use crate::looks::look_under;
 use crate::refusals::SessionRefusal;
 use crate::sas::{Sas, Session};
