@@ -1,32 +1,22 @@
 -- What a crash leaves of a group at any moment of a history.
-use Rattle.std.proofs.Common.{◌≡◌, ◌∙◌, ◌⊎◌, ℕ, List, Some, is_some, [], ◌∷◌, ◌++◌, refl, sym, ap, subst, inl, inr}
+use Rattle.std.proofs.Common.{◌≡◌, ◌∙◌, ◌⊎◌, ℕ, List, Some, is_some, [], ◌∷◌, ◌++◌, refl, sym, ap, subst, inl}
 use Rattle.std.proofs.lemmas.List.{append_assoc, append-nil}
 use Rattle.gd_disk.specs.MomentLaws.{joined, started, weaker}
 use Rattle.gd_disk.specs.Moments.{shown}
-use Rattle.group_values.specs.Values.{Made}
-use Rattle.group_model.specs.Servers.{Server, in_doubt}
+use Rattle.group_model.specs.Servers.{in_doubt}
 use Rattle.group_model.specs.declared.entries.Entry.{Entry}
 use Rattle.group_records.specs.declared.heads.Head.{Head}
-use Rattle.tree_store.specs.Groups.{IsGroup}
-use Rattle.gcks_core.specs.Stored.{IsFileOf, stored_list}
+use Rattle.gcks_core.specs.Stored.{IsFileOf}
 use Rattle.server_steps.specs.Batches.{made_next}
-use Rattle.group_steps.specs.Crashes.{CrashesLeaveMoments, HasAtLeast, IsOfMoment, IsToWrite, LeavesMoments}
 use Rattle.server_steps.specs.Disks.{HasJournal}
+use Rattle.group_steps.specs.Crashes.{CrashesLeaveMoments, IsOfMoment, LeavesMoments}
 use Rattle.group_steps.specs.Devices.{Devices, Keying}
 use Rattle.group_steps.specs.Runs.{Run}
+use Rattle.group_steps.specs.ServedCrashes.{HasAtLeast, IsToWrite}
 use Rattle.group_steps.specs.Steps.{AreRunSteps, IsRunStep}
-use Rattle.group_steps.proofs.JournalLemmas.{IsMeanwhile, StepLeaves, list_begins, leaves_answered}
+use Rattle.group_steps.proofs.JournalLemmas.{IsMeanwhile, StepLeaves, leaves_answered}
+use Rattle.group_steps.proofs.ServedCrashLemmas.{has_first, has_later, has_now}
 use Rattle.group_steps.proofs.SureLemmas.{shown_still, some_file}
-
--- a file of a server has the batches of each server whose batches were the front of its own
-has_front : (head : Head) (server : Server) (list : List Made) (later : List Made) (c : List ℕ) → server.list ≡ list ++ later
-    → IsFileOf head server c → (more : List Made) × IsGroup c head (stored_list head.depth (list ++ more))
-has_front head server list later c is file =
-    let begins = list_begins server file.0 file.1 in (
-      later ++ begins.0,
-      subst (λ (given : List Made). IsGroup c head (stored_list head.depth given))
-          (begins.1 ∙ ap (λ given. given ++ begins.0) is ∙ append_assoc list later begins.0) file.2,
-    )
 
 module _ {D G V : Type 0} (on : Devices D G V) (by : Keying G)
     (only_now : (disk : D) (c : List ℕ) → on.disks.left_since disk (on.disks.moment disk) c → on.disks.may_leave disk c) where
@@ -54,8 +44,8 @@ module _ {D G V : Type 0} (on : Devices D G V) (by : Keying G)
       image = inl (had.crash file shows c now);
     });
     kept = λ file shows.
-        started on.disks run.host.disk (HasAtLeast run) (only_now run.host.disk)
-        (λ c now. has_front run.host.head run.host.server run.host.server.list [] c (sym (append-nil run.host.server.list)) (had.crash file shows c now));
+        started on.disks run.host.disk (HasAtLeast run.host) (only_now run.host.disk)
+        (λ c now. has_now run.host c (had.crash file shows c now));
   }
 
   module _ (before : List Entry) (run : Run D) (entry : Entry) (entries : List Entry) (after next : Run D)
@@ -83,25 +73,9 @@ module _ {D G V : Type 0} (on : Devices D G V) (by : Keying G)
       so_far = (next, step, moment.so_far);
       goes_on = subst (λ given. Steps given moment.mid moment.later after) (append_assoc before (entry ∷ []) moment.front) moment.goes_on;
       image = subst (λ (head : Head). IsFileOf head moment.mid.host.server c
-          ⊎ (IsToWrite moment.mid moment.later
+          ⊎ (IsToWrite moment.mid.host moment.later
           × IsFileOf head (in_doubt moment.mid.host.server (made_next on.disks on.signers by.signer by.block moment.mid.host)) c)) same moment.image;
     }
-
-    -- the batches of the run are in both
-    has_first : (c : List ℕ) → IsMeanwhile on.disks on.signers by.signer by.block run.host entry.asked c → HasAtLeast run c
-    has_first c (inl file) = has_front run.host.head run.host.server run.host.server.list [] c (sym (append-nil run.host.server.list)) file
-    has_first c (inr file) =
-        has_front run.host.head (in_doubt run.host.server (made_next on.disks on.signers by.signer by.block run.host)) run.host.server.list [] c
-        (sym (append-nil run.host.server.list)) file.1
-
-    has_later : (c : List ℕ) → next.host.head ≡ run.host.head → (later : List Made) × (next.host.server.list ≡ run.host.server.list ++ later)
-        → HasAtLeast next c → HasAtLeast run c
-    has_later c same more has = (
-      more.0 ++ has.0,
-      subst (λ (given : List Made). IsGroup c run.host.head (stored_list run.host.head.depth given))
-          (ap (λ given. given ++ has.0) more.1 ∙ append_assoc run.host.server.list more.0 has.0)
-          (subst (λ (head : Head). IsGroup c head (stored_list head.depth (next.host.server.list ++ has.0))) same has.1),
-    )
 
     -- the first entry, and then the others
     leaves_more : StepLeaves on.disks on.signers by.signer by.block run.host entry.asked next.host → Leaves (before ++ entry ∷ []) next entries after
@@ -119,9 +93,11 @@ module _ {D G V : Type 0} (on : Devices D G V) (by : Keying G)
               (weaker on.disks next.host.disk after.host.disk _ _ (λ c. at_later c (first.head file shows)) (later.moments now.0 now.1));
           kept = λ file shows.
               let now = still file shows in
-              joined on.disks run.host.disk next.host.disk after.host.disk (HasAtLeast run)
-              (weaker on.disks run.host.disk next.host.disk _ _ has_first (first.moments file shows))
-              (weaker on.disks next.host.disk after.host.disk _ _ (λ c. has_later c (first.head file shows) (first.list file shows)) (later.kept now.0 now.1));
+              joined on.disks run.host.disk next.host.disk after.host.disk (HasAtLeast run.host)
+              (weaker on.disks run.host.disk next.host.disk _ _ (has_first on.disks on.signers by.signer by.block run.host entry.asked)
+              (first.moments file shows))
+              (weaker on.disks next.host.disk after.host.disk _ _
+              (λ c. has_later run.host next.host c (first.head file shows) (first.list file shows)) (later.kept now.0 now.1));
         }
 
   pub crashes_leave : CrashesLeaveMoments on by

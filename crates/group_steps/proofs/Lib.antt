@@ -13,6 +13,7 @@ pub mod MomentLemmas
 pub mod OpenedLemmas
 pub mod PeerLemmas
 pub mod PhaseLemmas
+pub mod ServedCrashLemmas
 pub mod ServedLemmas
 pub mod SoundLemmas
 pub mod SureLemmas

@@ -1,5 +1,5 @@
 -- What a server does are steps of a run, whoever its members are.
-use Rattle.std.proofs.Common.{◌≡◌, ℕ, true, false, List, [], ◌∷◌, ◌++◌, refl, sym, ap}
+use Rattle.std.proofs.Common.{◌≡◌, ℕ, false, List, [], ◌∷◌, ◌++◌, refl, sym, ap}
 use Rattle.std.proofs.lemmas.Bool.{false≢true}
 use Rattle.std.proofs.lemmas.List.Elements.{All-head, All-tail}
 use Rattle.gd_disk.specs.declared.disks.Disk.{Ghosts as DiskGhosts}
@@ -13,11 +13,10 @@ use Rattle.server_steps.specs.Hosts.{Host}
 use Rattle.server_steps.specs.Steps.{IsServed}
 use Rattle.member_steps.specs.Acts.{IsReady}
 use Rattle.member_steps.specs.Members.{Members}
-use Rattle.group_steps.specs.Crashes.{CrashesLeaveMoments}
 use Rattle.group_steps.specs.Devices.{Devices, Keying}
 use Rattle.group_steps.specs.Gets.{get}
 use Rattle.group_steps.specs.Runs.{Run, run_of}
-use Rattle.group_steps.specs.Served.{CrashesLeaveServed, ServedAreRunSteps, ServedReachMembers, is_of_pulls}
+use Rattle.group_steps.specs.Served.{ServedAreRunSteps, ServedReachMembers, is_of_pulls}
 use Rattle.group_steps.specs.Steps.{IsAnswered}
 
 -- an entry that is not of pulls
@@ -69,7 +68,3 @@ module _ {D G V : Type 0} (on : Devices D G V) (by : Keying G) where
         },
         run_steps (before ++ entry ∷ []) next entries after (All-tail IsOther entry entries others) steps.3,
       )
-
-  pub crashes_served : CrashesLeaveMoments on by → CrashesLeaveServed on by
-  crashes_served leave first before run entries after others steps had =
-      leave first before run entries after (run_steps (first ∷ before) run entries after others steps) had

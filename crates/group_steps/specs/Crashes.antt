@@ -1,29 +1,17 @@
 -- What a crash leaves of a group at any moment of a history.
-use Rattle.std.specs.Prelude.{◌≡◌, ◌⊎◌, ℕ, true, List, [], ◌∷◌, ◌++◌, None}
+use Rattle.std.specs.Prelude.{◌≡◌, ◌⊎◌, ℕ, true, List, ◌∷◌, ◌++◌}
 use Rattle.gd_disk.specs.Disks.{Knows}
 use Rattle.gd_disk.specs.Moments.{LeavesOnly, shown}
-use Rattle.group_values.specs.Values.{Made}
 use Rattle.group_model.specs.Answers.{is_open, opens}
-use Rattle.group_model.specs.Servers.{in_doubt, refusal_to_batch}
-use Rattle.group_model.specs.declared.entries.Asked.TheVariants.{Batch}
+use Rattle.group_model.specs.Servers.{in_doubt}
 use Rattle.group_model.specs.declared.entries.Entry.{Entry}
-use Rattle.tree_store.specs.Groups.{IsGroup}
-use Rattle.gcks_core.specs.Stored.{IsFileOf, stored_list}
+use Rattle.gcks_core.specs.Stored.{IsFileOf}
 use Rattle.server_steps.specs.Batches.{made_next}
 use Rattle.server_steps.specs.Disks.{HasJournal}
 use Rattle.group_steps.specs.Devices.{Devices, Keying}
 use Rattle.group_steps.specs.Runs.{Run}
+use Rattle.group_steps.specs.ServedCrashes.{HasAtLeast, IsToWrite}
 use Rattle.group_steps.specs.Steps.{AreRunSteps, IsRunStep}
-
-module _ {D : Type 0} where
-  -- the next entry asks for a batch, which the server has no reason to refuse
-  abbrev pub IsToWrite : Run D → List Entry → Type 0
-  IsToWrite run [] = ⊥
-  IsToWrite run (entry ∷ later) = (entry.asked ≡ Batch) × (refusal_to_batch run.host.server ≡ None)
-
-  -- an image is the journal of the group, with the batches that a run has, and maybe later ones
-  abbrev pub HasAtLeast : Run D → List ℕ → Type 0
-  HasAtLeast run c = (later : List Made) × IsGroup c run.host.head (stored_list run.host.head.depth (run.host.server.list ++ later))
 
 module _ {D G V : Type 0} (on : Devices D G V) (by : Keying G) where
   -- An image is the journal of the group that a run has, with the batches that it may have at a moment of its history: after some of the
@@ -36,7 +24,7 @@ module _ {D G V : Type 0} (on : Devices D G V) (by : Keying G) where
     pub so_far : AreRunSteps on by before run front mid
     pub goes_on : AreRunSteps on by (before ++ front) mid later after
     pub image : IsFileOf run.host.head mid.host.server c
-        ⊎ (IsToWrite mid later × IsFileOf run.host.head (in_doubt mid.host.server (made_next on.disks on.signers by.signer by.block mid.host)) c)
+        ⊎ (IsToWrite mid.host later × IsFileOf run.host.head (in_doubt mid.host.server (made_next on.disks on.signers by.signer by.block mid.host)) c)
 
   -- A group that was made, or first opened, has a journal.
   abbrev pub OpenedHaveJournals : Type 0
@@ -50,7 +38,7 @@ module _ {D G V : Type 0} (on : Devices D G V) (by : Keying G) where
     pub journal : HasJournal on.disks after.host
     pub head : Knows (shown on.disks run.host.disk) (λ file. after.host.head ≡ run.host.head)
     pub moments : Knows (shown on.disks run.host.disk) (λ file. LeavesOnly on.disks run.host.disk after.host.disk (IsOfMoment before run entries after))
-    pub kept : Knows (shown on.disks run.host.disk) (λ file. LeavesOnly on.disks run.host.disk after.host.disk (HasAtLeast run))
+    pub kept : Knows (shown on.disks run.host.disk) (λ file. LeavesOnly on.disks run.host.disk after.host.disk (HasAtLeast run.host))
 
   -- Where the disk is honest and exposes its octets, a crash at any moment of a history leaves the group as it was at that moment. Batches
   -- that were stored before are in every image that is left since.

@@ -11,5 +11,6 @@ pub mod Moments
 pub mod Questions
 pub mod Runs
 pub mod Served
+pub mod ServedCrashes
 pub mod Steps
 pub mod TrueSteps

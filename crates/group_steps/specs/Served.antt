@@ -6,12 +6,10 @@ use Rattle.gd_edges.specs.declared.signers.Signer.{Ghosts as SignerGhosts}
 use Rattle.group_model.specs.declared.entries.Asked.{Asked}
 use Rattle.group_model.specs.declared.entries.Asked.TheVariants.{Introduce, Serve}
 use Rattle.group_model.specs.declared.entries.Entry.{Entry}
-use Rattle.server_steps.specs.Disks.{HasJournal}
 use Rattle.server_steps.specs.Hosts.{Host}
 use Rattle.server_steps.specs.Steps.{AreServed, IsServerStep}
 use Rattle.member_steps.specs.Members.{Members}
 use Rattle.group_steps.specs.Counts.{CountsFaults, faults_in}
-use Rattle.group_steps.specs.Crashes.{LeavesMoments}
 use Rattle.group_steps.specs.Devices.{Devices, Keying}
 use Rattle.group_steps.specs.Gets.{get}
 use Rattle.group_steps.specs.Runs.{Run, run_of}
@@ -53,10 +51,3 @@ module _ {D G V : Type 0} (on : Devices D G V) (by : Keying G) where
   ServedAreRunSteps =
       (before : List Entry) (run : Run D) (entries : List Entry) (after : Run D) → WithoutPulls entries
       → AreServedWith on.disks on.signers by.signer by.block run entries after → AreRunSteps on by before run entries after
-
-  -- A crash at any moment leaves the group after some of the entries, or with the batch that is being written.
-  abbrev pub CrashesLeaveServed : Type 0
-  CrashesLeaveServed =
-      (first : Entry) (before : List Entry) (run : Run D) (entries : List Entry) (after : Run D) → WithoutPulls entries
-      → AreServedWith on.disks on.signers by.signer by.block run entries after → HasJournal on.disks run.host
-      → LeavesMoments on by (first ∷ before) run entries after

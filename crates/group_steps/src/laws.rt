@@ -7,7 +7,8 @@ ghost use Rattle.group_steps.specs.Kinds.{EachStepIsOfAKind};
 ghost use Rattle.group_steps.specs.Laws.{LeavesValidList};
 ghost use Rattle.group_steps.specs.Moments.{MomentsEndHistories};
 ghost use Rattle.group_steps.specs.Mails.{MailIsOfTheGroup, MembersAreAnswered, RepliesAreMessages, SessionsKeepMessages};
-ghost use Rattle.group_steps.specs.Served.{CrashesLeaveServed, ServedAreRunSteps, ServedCountFaults, ServedReachMembers};
+ghost use Rattle.group_steps.specs.Served.{ServedAreRunSteps, ServedCountFaults, ServedReachMembers};
+ghost use Rattle.group_steps.specs.ServedCrashes.{CrashesLeaveServed};
 ghost use Rattle.group_steps.specs.TrueSteps.{SureStepsAreTrue, TrueStepsGrow};
 
 use gd_disk::Disk;
@@ -59,16 +60,20 @@ pub fn a_group_grows_by_what_is_sent<D: Disk, G: Signer, V: Verifier>()
     messages_are_of_the_group::<D, G>();
 }
 
-/// The steps of a server are steps of a run, whatever came before and whoever its members are: they get what they are told. So a crash at any
-/// moment leaves the journal of the group after some of the steps, and the disk counts a fault for each that notes one.
+/// The steps of a server are steps of a run, whatever came before and whoever its members are: they get what they are told. The disk counts a
+/// fault for each that notes one.
 pub fn what_is_served_are_steps_of_a_run<D: Disk, G: Signer, V: Verifier>()
     ensures members { (signer : G) (block : ℕ → List ℕ) → ServedReachMembers D.Disk G.Signer signer block }
     ensures steps { (verifier : V) (by : Keying G) → ServedAreRunSteps (devices D.Disk G.Signer V.Verifier verifier) by }
-    ensures crashes { (verifier : V) (by : Keying G) → CrashesLeaveServed (devices D.Disk G.Signer V.Verifier verifier) by }
     ensures faults { (signer : G) (block : ℕ → List ℕ) → ServedCountFaults D.Disk G.Signer signer block }
-{
-    a_crash_leaves_a_moment_of_the_history::<D, G, V>();
-}
+{}
+
+/// Of the steps of a server, pulls included, whoever its members are: where the disk is honest and exposes its octets, a crash at any moment
+/// leaves the journal of the group after some of the steps, or with the batch that is being written, and no batch that was stored before is
+/// lost.
+pub fn a_crash_leaves_a_moment_of_what_was_served<D: Disk, G: Signer>()
+    ensures { (signer : G) (block : ℕ → List ℕ) → CrashesLeaveServed D.Disk G.Signer signer block }
+{}
 
 /// After each history each datagram that is on its way to a member is a message to it; so is what its session keeps, what its own datagrams are
 /// answered by, and each reply of a batch. Sessions keep what was sent, and a batch replies to those whose joins waited.

@@ -1,4 +1,5 @@
 mod BlockLemmas
+mod CrashLemmas
 mod GiveLemmas
 mod LineLemmas
 mod RunLemmas

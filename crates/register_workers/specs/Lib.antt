@@ -1,4 +1,5 @@
 pub mod Blocks
+pub mod Crashes
 pub mod Lines
 pub mod Private
 pub mod Shows

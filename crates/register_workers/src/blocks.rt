@@ -3,6 +3,7 @@ ghost use Rattle.std.specs.Prelude.{◌≡◌, ℕ, ◌*◌, ◌≤◌, length, 
 ghost use Rattle.epoch_board.specs.Pairs.{StartsWith};
 ghost use Rattle.work_shares.specs.Shares.{rounds};
 ghost use Rattle.register_workers.specs.Blocks.{LeavesBlock, start_of};
+ghost use Rattle.register_workers.specs.Crashes.{SurvivesCrashes};
 ghost use Rattle.register_workers.specs.Lines.{IsReady};
 ghost use Rattle.register_workers.specs.Private.Seating.{LeavesDesk};
 ghost use Rattle.register_workers.specs.Private.Seats.{IsSinceIf};
@@ -17,6 +18,7 @@ use epoch_board::{BoardPass, EpochBoard};
 use gd_disk::Disk;
 use gd_edges::{Draws, Signer};
 use group_model::{Entry, List};
+use group_steps::a_crash_leaves_a_moment_of_what_was_served;
 use server_steps::nothing_was_served_yet;
 use std::alloc::Global;
 use std::marker::Brand;
@@ -41,6 +43,8 @@ pub struct Blocked<D: Disk, G: Signer, R: Draws> {
 /// A line asks the server in turns: a join or a line that sends again has one or two, a leave and a batch one each, and a look none. What is lost, and what
 /// members do with datagrams, is outside the turns. Each worker tells the gate the number of a line, from 1, before its first turn.
 ///
+/// A crash at any moment leaves the group after some of the turns, or with the batch that is being written; no batch that was stored by then is lost.
+///
 /// There are 1 to 512 lines and 1 to 16 workers, and each line whose member sends has a pull and a datagram. The pass of the board is shown all that was
 /// published.
 pub fn run_block<
@@ -64,6 +68,7 @@ pub fn run_block<
     requires workers { (1 ≤ workers) × (workers ≤ 16) }
     requires ready { All IsReady lines }
     ensures block { LeavesBlock D.Disk G.Signer R.Draws result.calls result.memory workers lines result.lines book result.book }
+    ensures crash { SurvivesCrashes D.Disk G.Signer R.Draws book result.book }
     ensures board { result.book.board ≡ board.now }
     ensures reader { (reader.new.board ≡ board.now) × StartsWith reader.new.seen reader.old.seen }
     ensures shown { reader.new.seen ≡ result.book.published }
@@ -95,11 +100,13 @@ fn run_from<
     requires workers { (1 ≤ workers) × (workers ≤ 16) }
     requires ready { All IsReady lines }
     ensures block { LeavesBlock D.Disk G.Signer R.Draws result.calls result.memory workers lines result.lines book result.book }
+    ensures crash { SurvivesCrashes D.Disk G.Signer R.Draws book result.book }
     ensures board { result.book.board ≡ board.now }
     ensures reader { (reader.new.board ≡ board.now) × StartsWith reader.new.seen reader.old.seen }
     ensures shown { reader.new.seen ≡ result.book.published }
 {
     nothing_was_served_yet::<D, G, R>();
+    a_crash_leaves_a_moment_of_what_was_served::<D, G>();
     book.show(board, reader);
     let kept: DeskBook<'_, D, G, R, M> = DeskBook::of(alloc, book, board);
     let mut blocked = at_desk(

@@ -6,6 +6,7 @@ use Rattle.register_workers.specs.Private.Seats.{IsSinceIf}
 use Rattle.register_workers.specs.Shows.{pairs_shown}
 use Rattle.register_workers.specs.Views.{View}
 use Rattle.register_workers.proofs.BlockLemmas.{begins_now, leaves}
+use Rattle.register_workers.proofs.CrashLemmas.{survives}
 use Rattle.register_workers.proofs.RunLemmas.{starts_twice}
 use Rattle.register_workers.proofs.blocks.run_from.Goals as goal
 
@@ -78,6 +79,14 @@ returns-clause-block g c =
     LeavesDesk blocked.calls blocked.memory c.args.workers lines blocked.lines c.of-kept.result.server c.of-kept.result.entries b) (sym last.same)
     (subst (λ n. LeavesDesk blocked.calls blocked.memory n lines blocked.lines c.of-kept.result.server c.of-kept.result.entries blocked.book)
     c.from.ensures c.at_desk-blocked.ensures.ended))
+
+pub returns-clause-crash : goal.returns-clause-crash
+returns-clause-crash g c =
+    let core = c.args.book.server.core in
+    survives g.D.Disk g.G.Signer g.R.Draws g.M.Began.start c.args.book c.show-2.new.self c.requires.start
+    (c.a_crash_leaves_a_moment_of_what_was_served.ensures core.signer (g.R.Draws.block_at core.draws))
+    (subst (λ (b : View g.row.D.Denot g.row.G.Denot g.row.R.Denot). IsSinceIf g.D.Disk g.G.Signer g.R.Draws g.M.Began.start b.server b.entries)
+    (sym c.show-2.ensures.same) c.at_desk-blocked.ensures.since)
 
 pub returns-clause-board : goal.returns-clause-board
 returns-clause-board g c =
