@@ -3,13 +3,13 @@ ghost use Rattle.std.specs.Prelude.{◌≡◌, OnOk, OnErr};
 ghost use Rattle.group_model.specs.declared.entries.Asked.TheVariants as requests;
 ghost use Rattle.group_run.specs.Stays.{MailStays, RulesStay};
 ghost use Rattle.group_run.specs.Moves.{Serves};
-ghost use Rattle.server_steps.specs.Serves.{answer_batch};
 
 use crate::GroupRun;
 use crate::sending::note_pushes;
 use gd_disk::Disk;
 use gd_edges::{Draws, Signer};
-use group_model::{Answer, Asked, NoMemory, Output, Refusal};
+use group_model::{Asked, NoMemory};
+use group_server::answer_batch;
 use server_steps::entry;
 use std::alloc::Global;
 use sym_closure::what_is_known_stays_known;
@@ -30,15 +30,5 @@ impl<D: Disk, G: Signer, R: Draws> GroupRun<D, G, R> {
         note_pushes(&mut self.pushes, &answer, self.entries.items().len());
         self.entries.add(entry(Asked::Batch, answer, place));
         Ok(())
-    }
-}
-
-/// The answer to a request for a batch.
-fn answer_batch(output: Result<Output, Refusal>) -> Answer
-    ensures { result ≡ answer_batch output }
-{
-    match output {
-        Ok(output) => Answer::Batched { output },
-        Err(why) => Answer::Refused { why },
     }
 }

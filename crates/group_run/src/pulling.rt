@@ -12,7 +12,6 @@ ghost use Rattle.member_steps.specs.Acts.{BeginsPull, IsUse};
 ghost use Rattle.member_steps.specs.Members.{Mail};
 ghost use Rattle.member_steps.specs.Steps.{IsLosing};
 ghost use Rattle.member_steps.specs.Views.{members_with};
-ghost use Rattle.group_server.specs.Answers.{answer_served};
 ghost use Rattle.group_steps.specs.Gets.{introduced_by};
 ghost use Rattle.group_run.specs.Private.Sends.{IsSent};
 
@@ -20,9 +19,9 @@ use crate::GroupRun;
 use crate::reading::{Read, read_mail};
 use gd_disk::Disk;
 use gd_edges::{Draws, Signer};
-use group_model::{Answer, Asked, Entry, Log, MemberName, NoMemory, Octets, Phase1, Refusal};
+use group_model::{Answer, Asked, Entry, Log, MemberName, NoMemory, Octets, Phase1};
 use group_peers::who_is_noted_is_a_peer;
-use group_server::{GroupServer, Reply};
+use group_server::{GroupServer, answer_served};
 use group_terms::GroupName;
 use member_steps::Members;
 use server_steps::{answer_done, entry};
@@ -223,15 +222,4 @@ fn send<D: Disk, G: Signer, R: Draws>(
     };
     entries.add(entry(asked, answer, place));
     Ok(())
-}
-
-/// What is answered to a datagram.
-fn answer_served(reply: Result<Reply, Refusal>) -> Answer
-    ensures { result ≡ answer_served reply }
-{
-    match reply {
-        Ok(Reply::Datagram { octets, names }) => Answer::Datagram { octets, names },
-        Ok(Reply::Queued) => Answer::Queued,
-        Err(why) => Answer::Refused { why },
-    }
 }

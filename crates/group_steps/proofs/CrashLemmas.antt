@@ -1,5 +1,5 @@
 -- What a crash leaves of a group at any moment of a history.
-use Rattle.std.proofs.Common.{◌≡◌, ◌∙◌, ◌⊎◌, ℕ, List, Some, is_some, [], ◌∷◌, ◌++◌, refl, sym, ap, subst, inl, inr}
+use Rattle.std.proofs.Common.{◌≡◌, ◌∙◌, ◌⊎◌, ℕ, List, Some, is_some, [], ◌∷◌, ◌++◌, refl, sym, ap, subst, inl}
 use Rattle.std.proofs.lemmas.List.{append_assoc, append-nil}
 use Rattle.gd_disk.specs.MomentLaws.{joined, started, weaker}
 use Rattle.gd_disk.specs.Moments.{shown}

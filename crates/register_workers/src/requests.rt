@@ -1,13 +1,12 @@
 //! What a turn asks of the key server.
 ghost use Rattle.std.specs.Prelude.{◌≡◌};
-ghost use Rattle.group_server.specs.Answers.{answer_served};
-ghost use Rattle.server_steps.specs.Serves.{Serves, answer_batch};
+ghost use Rattle.server_steps.specs.Serves.{Serves};
 ghost use Rattle.register_workers.specs.Private.Requests.{asked_of};
 
 use gd_disk::Disk;
 use gd_edges::{Draws, Signer};
-use group_model::{Answer, Asked, MemberName, Octets, Output, Refusal};
-use group_server::{GroupServer, Reply};
+use group_model::{Answer, Asked, MemberName, Octets};
+use group_server::{GroupServer, answer_batch, answer_served};
 use server_steps::answer_done;
 use std::alloc::Global;
 
@@ -54,26 +53,5 @@ pub(crate) fn served<D: Disk, G: Signer, R: Draws>(
         }
         Request::Leave { member } => answer_done(server.leave(member)),
         Request::Batch => answer_batch(server.batch(alloc)),
-    }
-}
-
-/// What is answered to a datagram.
-fn answer_served(reply: Result<Reply, Refusal>) -> Answer
-    ensures { result ≡ answer_served reply }
-{
-    match reply {
-        Ok(Reply::Datagram { octets, names }) => Answer::Datagram { octets, names },
-        Ok(Reply::Queued) => Answer::Queued,
-        Err(why) => Answer::Refused { why },
-    }
-}
-
-/// What is answered to a request for a batch.
-fn answer_batch(output: Result<Output, Refusal>) -> Answer
-    ensures { result ≡ answer_batch output }
-{
-    match output {
-        Ok(output) => Answer::Batched { output },
-        Err(why) => Answer::Refused { why },
     }
 }
