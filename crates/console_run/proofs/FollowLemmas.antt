@@ -93,7 +93,7 @@ module _ {D G V R : Type 0} (on : Devices D G V) (draws : DrawGhosts R) (start :
 
       -- it was taken whole, and what comes after its last line end was run
       pub run_whole : (new : Moment D G R) → Ends on draws middle new → IsRunTo on draws Whole start had left new
-      run_whole new ends = record { given = given_of taken.taken true; came = came; source = taken.stands; reported = ends start taken.taken all_so_far }
+      run_whole new ends = record { given = given_of taken.taken true; came = came; source = taken.no_fault; reported = ends start taken.taken all_so_far }
 
       -- or the run stopped there
       pub run_stopped_at_end : (stop : Stop) (new : Moment D G R) → SourceFails stop had.faults left.faults → StopsAtEnd on draws stop middle new

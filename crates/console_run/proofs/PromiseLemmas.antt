@@ -137,9 +137,9 @@ module _ {D G V : Type 0} (on : Devices D G V) (by : Keying G) where
         ⊎ (ending ≡ Memory)
     ran_whole ending (inl h) = elim h.last [
       | inl put ↦ subst (λ (ending : Ending). (ending ≡ Whole) ⊎ (ending ≡ Memory)) put.0 (due_whole h.due h.cause h.source)
-      | inr broke ↦ breaks ending h.middle _ h.report.stands broke
+      | inr broke ↦ breaks ending h.middle _ h.report.no_fault broke
     ]
-    ran_whole ending (inr h) = breaks ending h.breaks.middle _ (h.breaks.puts.stands ∙ h.report.stands) h.breaks.breaks
+    ran_whole ending (inr h) = breaks ending h.breaks.middle _ (h.breaks.puts.no_fault ∙ h.report.no_fault) h.breaks.breaks
 
   -- ---- crashes
 

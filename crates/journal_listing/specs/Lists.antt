@@ -28,7 +28,7 @@ ListsFile file ending was now = (listing : Listing) × IsListingOf file listing 
 -- all octets that a source had were taken, where it exposes them, and no call failed
 pub record TakesAll (had left : Shown) (file : List ℕ) : Type 0 where
   pub all : (octets : List ℕ) → had.octets ≡ Some octets → file ≡ octets
-  pub stands : left.faults ≡ had.faults
+  pub no_fault : left.faults ≡ had.faults
 
 -- all that a source has was taken, and listed; or the source failed, or memory ran out, and nothing was put
 abbrev pub Lists : Shown → Shown → Ending → Shown → Shown → Type 0

@@ -13,10 +13,10 @@ use Rattle.run_report.specs.declared.endings.Ending.TheVariants.{Sink}
 use Rattle.run_report.specs.Reports.{Puts, AppendsPart, BreaksOff, ReportBreaksOff}
 
 pub Puts-none : (known : Shown) → Puts known known []
-Puts-none known = record { appended = Appends-nil known.octets; stands = refl }
+Puts-none known = record { appended = Appends-nil known.octets; no_fault = refl }
 
 pub Puts-then : (u v w : Shown) (a b : List ℕ) → Puts u v a → Puts v w b → Puts u w (a ++ b)
-Puts-then u v w a b h k = record { appended = Appends-trans u.octets v.octets w.octets a b h.appended k.appended; stands = k.stands ∙ h.stands }
+Puts-then u v w a b h k = record { appended = Appends-trans u.octets v.octets w.octets a b h.appended k.appended; no_fault = k.no_fault ∙ h.no_fault }
 
 -- the reports of entries, and of more after them
 pub Puts-entries : (u v w : Shown) (entries more : List Entry) → Puts u v (entries_text entries) → Puts v w (entries_text more)
@@ -43,7 +43,7 @@ AppendsPart-after was known now front line others text told parts h = record {
 pub BreaksOff-after : (was known now : Shown) (front line others text : List ℕ) → Puts was known front → text ≡ front ++ (line ++ others)
     → BreaksOff Sink known now line → BreaksOff Sink was now text
 BreaksOff-after was known now front line others text puts parts h = (
-  subst (λ faults. Rose faults now.faults) puts.stands h.0,
+  subst (λ faults. Rose faults now.faults) puts.no_fault h.0,
   AppendsPart-after was.octets known.octets now.octets front line others text puts.appended parts h.1,
 )
 

@@ -11,7 +11,7 @@ use Rattle.run_report.specs.declared.endings.Ending.TheVariants.{Whole, NoGroup,
 -- no call failed, and where the sink exposes what was put, a text was put
 pub record Puts (was now : Shown) (text : List ℕ) : Type 0 where
   pub appended : Appends was.octets now.octets text
-  pub stands : now.faults ≡ was.faults
+  pub no_fault : now.faults ≡ was.faults
 
 -- of a text a part from its start was put, perhaps nothing, and not all; where the sink exposes what was put, that is seen
 pub record AppendsPart (was now : Option (List ℕ)) (text : List ℕ) : Type 0 where

@@ -31,7 +31,7 @@ module _ {D G V R : Type 0} (on : Devices D G V) (draws : DrawGhosts R) where
     pub taken : List ℕ
     pub consumed : Consumes had.octets left.octets taken
     pub whole : TakesAll had.octets taken
-    pub stands : left.faults ≡ had.faults
+    pub no_fault : left.faults ≡ had.faults
     pub goes : GoesOn on draws taken old new
 
   -- what was taken was run up to where the run stopped

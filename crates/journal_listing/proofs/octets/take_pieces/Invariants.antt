@@ -5,7 +5,7 @@ use Rattle.journal_listing.proofs.octets.take_pieces.Given as goal
 -- what was taken so far is in the text
 abbrev pub invariant-pieces : goal.invariant-pieces
 invariant-pieces g l = record {
-  stands : (g.S.Source.shows l.source).faults ≡ (g.S.Source.shows l.fn.source).faults;
+  no_fault : (g.S.Source.shows l.source).faults ≡ (g.S.Source.shows l.fn.source).faults;
   taken : Consumes (g.S.Source.shows l.fn.source).octets (g.S.Source.shows l.source).octets l.octets;
   near : length l.octets ≤ 2 ^ 62;
 }

@@ -57,7 +57,7 @@ returns-clause-stops g c =
     (left c.args.script.now) (left c.take_script.new.script) (at c.take_script.new.self (seen c.take_script.new.out)
     (drawn_by g.P.Draws c.take_script.new.peers)) c.in_ok-take_script.ensures.goes stop
     (at c.finish.new.self (seen c.finish.new.out) (drawn_by g.P.Draws c.finish.new.peers))
-    (SourceFails-other stop _ _ (λ source. c.finish.ensures.other (failed ∙ ap Err source)) c.in_ok-take_script.ensures.goes.stands) stops)
+    (SourceFails-other stop _ _ (λ source. c.finish.ensures.other (failed ∙ ap Err source)) c.in_ok-take_script.ensures.goes.no_fault) stops)
     c.finish.ensures.stops
 
 pub returns-clause-ok : goal.returns-clause-ok
