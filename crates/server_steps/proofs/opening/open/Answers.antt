@@ -26,7 +26,8 @@ returns-clause-fits g c =
     let opened = c.in_ok-opened.opened in
     let read = c.in_ok-opened.ensures.read in
     let head = opened.core.head in
-    c.prove_last_pair_fits.ensures c.args.parts.signer (opened_server head.depth head.limit read.0 (g.R.Draws.place_of c.args.parts.draws)) head.spi opened.resent read.1
+    c.prove_last_pair_fits.ensures c.args.parts.signer (opened_server head.depth head.limit read.0 (g.R.Draws.place_of c.args.parts.draws))
+    head.spi opened.resent read.1
     read.3
 
 pub returns-in_err-opened-clause-err : goal.returns-in_err-opened-clause-err

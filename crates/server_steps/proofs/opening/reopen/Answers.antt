@@ -49,7 +49,8 @@ pub returns-clause-fits : goal.returns-clause-fits
 returns-clause-fits g c =
     let new = c.reopen.new.self in
     let read = c.in_ok-resent.ensures.read in
-    c.prove_last_pair_fits.ensures c.args.core.now.signer (opened_server new.head.depth new.head.limit read.0 (g.R.Draws.place_of c.args.core.now.draws)) new.head.spi
+    c.prove_last_pair_fits.ensures c.args.core.now.signer (opened_server new.head.depth new.head.limit read.0 (g.R.Draws.place_of c.args.core.now.draws))
+    new.head.spi
     c.in_ok-resent.resent read.1 read.3
 
 pub returns-in_err-resent-clause-waits : goal.returns-in_err-resent-clause-waits

@@ -17,4 +17,5 @@ returns-clause-fits g c = subst (λ (view : View g.row.D.Denot g.row.G.Denot g.r
 
 pub returns-clause-head : goal.returns-clause-head
 returns-clause-head g c =
-    subst (λ (view : View g.row.D.Denot g.row.G.Denot g.row.R.Denot). IsHead view.core.head) c.self.view_is (record { fits = c.prove_head_fits.ensures.fits; octets = c.prove_head_fits.ensures.octets })
+    subst (λ (view : View g.row.D.Denot g.row.G.Denot g.row.R.Denot). IsHead view.core.head) c.self.view_is
+    (record { fits = c.prove_head_fits.ensures.fits; octets = c.prove_head_fits.ensures.octets })
