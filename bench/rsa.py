@@ -5,8 +5,9 @@
     python3 bench/rsa.py vectors [N]   60 keys that openssl makes, or so many, 20 digests each: the same signatures, and each with one bit changed is refused
     python3 bench/rsa.py times         signatures and checks in a second, beside openssl's
 
-It runs crates/case_signatures/out/case_signatures, built by `rt run`. The times of openssl are of its library, called from Python: with the primes of the
-key, and without them as `rsa_sign` has it. All are times of the processor, taken in turn in one run; what it takes to read and answer the lines is left out.
+It runs crates/case_signatures/out/case_signatures, built by `rt run`. Pushes are those of `reference.py`, signed by openssl. The times of openssl are of its
+library, called from Python: with the primes of the key, and without them as `rsa_sign` has it. All are times of the processor, taken in turn in one run; what
+it takes to read and answer the lines is left out.
 """
 import ctypes
 import ctypes.util
@@ -18,7 +19,8 @@ import sys
 import tempfile
 import time
 
-from keys import hexadecimal, numbers
+import reference
+from keys import hexadecimal, numbers, text as key_text
 
 TOP = pathlib.Path(__file__).resolve().parent.parent
 CRATE = TOP / "crates" / "case_signatures"
@@ -53,6 +55,19 @@ class Key:
             file.flush()
             command = ["openssl", "pkeyutl", "-sign", "-inkey", file.name, "-pkeyopt", "digest:sha256"]
             return subprocess.run(command, input=digest, capture_output=True, check=True).stdout
+
+    def check(self, digest, signature):
+        """Fails where openssl does not accept the signature."""
+        with tempfile.NamedTemporaryFile() as file, tempfile.NamedTemporaryFile() as signed:
+            for to, octets in ((file, self.pem), (signed, signature)):
+                to.write(octets)
+                to.flush()
+            command = ["openssl", "pkeyutl", "-verify", "-inkey", file.name, "-sigfile", signed.name, "-pkeyopt", "digest:sha256"]
+            subprocess.run(command, input=digest, capture_output=True, check=True)
+
+    def text(self, change=lambda text: text):
+        """The line that gives it as a text, or as one that was made of that."""
+        return "text " + change(key_text(self.pem)).encode().hex()
 
     def power(self, message):
         """A message of any form, signed by Python."""
@@ -92,6 +107,79 @@ def forgeries(key, text):
         yield above.to_bytes(key.size, "big")
 
 
+def push(key, group, number, kek, policy, keys):
+    """A push, signed by openssl, which accepts the signature."""
+    row = reference.payload(reference.SA, reference.n4(number)) + reference.payload(reference.KD, policy) + reference.payload(reference.SIG, keys)
+    size = len(row) + 4 + key.size
+    head = reference.header(group.spi, reference.SEQ, reference.PUSH, bytes(4), size + -size % 16)
+    text = reference.sha256(b"rekey" + head + row)
+    signature = key.sign(text)
+    key.check(text, signature)
+    return head + reference.cbc_seal(kek[3], kek[2], reference.padded(row + reference.payload(0, signature)))
+
+
+def pair(key, group):
+    """The two pushes of the last batch of a group, signed by openssl."""
+    root = [group.key(reference.node(1, made)) for made in (group.epoch - 1, group.epoch)]
+    arrays = (reference.update_array(group.key(by), group.key(gives)) for by, gives in group.last_wraps[:-1])
+    keys = reference.kd_body(reference.packet(3, group.spi, b"".join(reference.long(2, array) for array in arrays)))
+    policy = reference.sa_body(group.spi, None, (1, key.modulus.bit_length()))
+    yield push(key, group, group.sequence - 1, root[0], policy, keys)
+    traffic = group.traffic[group.epoch]
+    yield push(key, group, group.sequence, root[1], reference.sa_body(None, traffic[2]), reference.kd_body(reference.traffic_packet(traffic)))
+
+
+def group_case(key, names, gone, told):
+    """Members come, some are told their keys, and another one goes: those who were told follow."""
+    server = reference.Server(reference.Disk(), reference.Draws(0, 0))
+    server.create(2, b"console", 1000)
+    server.queue = [(1, name.encode()) for name in names]
+    server.fourth = lambda phase, session: None
+    server.phases = {name: {"member": name, "cookies": name} for _, name in server.queue}
+    server.sessions = {name: {} for _, name in server.queue}
+    server.batch()
+    server.queue = [(0, gone.encode())]
+    server.batch()
+    group = server.group
+    membership, traffic = pair(key, group)
+    says = [membership.hex(), *(f"{name} root {group.epoch}" for name in told), traffic.hex(), *(f"{name} traffic {group.epoch}" for name in told)]
+    last = " ".join(octets.hex() for octets in group.traffic[group.epoch])
+    says += [f"{name} {group.sequence} {last}" for name in told]
+    words = [*("+" + name for name in names), ".", *("?" + name for name in told), "-" + gone, "."]
+    return "group " + " ".join(words), " " + " ".join(says)
+
+
+def texts(key):
+    """Texts of a key and others, with what is said of them."""
+    bits = key.modulus.bit_length()
+    yield key.text(), f"ok {bits}"
+    yield key.text(lambda text: text[:-1]), f"ok {bits}"
+    yield key.text(lambda text: text.replace("\n", "\r\n").upper()), f"ok {bits}"
+    yield key.text(lambda text: "00" + text), f"ok {bits}"
+    yield "text -", "refused Missing { line: 1 }"
+    yield key.text(lambda text: " "), "refused Missing { line: 2 }"
+    yield key.text(lambda text: text[: text.index("\n")]), "refused Missing { line: 2 }"
+    yield key.text(lambda text: text[: text.rstrip().rindex("\n")]), "refused Missing { line: 3 }"
+    yield key.text(lambda text: text + "\n"), "refused Further { line: 4 }"
+    yield key.text(lambda text: text[1:]), "refused NotHex { line: 1 }"
+    yield key.text(lambda text: text.replace("\n01", "\n 01", 1)), "refused NotHex { line: 2 }"
+    yield key.text(lambda text: text[:-3] + "0g\n"), "refused NotHex { line: 3 }"
+    lines = key_text(key.pem).splitlines()
+    even, short, long = (hexadecimal(number) for number in (key.modulus - 1, key.modulus >> 1 | 1, 1 << 4096 | 1))
+    for line, word, fault in (
+        (0, even, "EvenModulus"),
+        (0, short, "FewBits"),
+        (0, long, "ManyBits"),
+        (0, "", "FewBits"),
+        (1, "", "PublicExponent"),
+        (1, "03", "Pair"),
+        (2, lines[0], "PrivateExponent"),
+        (2, lines[1], "Pair"),
+    ):
+        other = "\n".join(word if at == line else old for at, old in enumerate(lines))
+        yield key.text(lambda text: other), f"refused Key {{ line: {3 if fault == 'Pair' else line + 1}, fault: {fault} }}"
+
+
 def cases():
     """Lines and their answers."""
     chance = random.Random(58)
@@ -125,6 +213,10 @@ def cases():
     yield key.line(private=key.modulus), "refused PrivateExponent"
     yield key.line(private=key.private ^ 2), "refused Pair"
     yield key.line(public=3), "refused Pair"
+    yield from texts(key)
+    for key, case in ((key, ("abc", "b", "ac")), (Key(4096), ("abcd", "a", "bd"))):
+        yield key.text(), f"ok {key.modulus.bit_length()}"
+        yield group_case(key, *case)
 
 
 def answers(lines):
@@ -246,10 +338,10 @@ def times():
         refused = f"check {text.hex()} {'ff' * key.size}"
         for work, line, count in (("sign", f"sign {text.hex()}", 100), ("check", f"check {text.hex()} {good.hex()}", 2000)):
             theirs = library.sign if work == "sign" else lambda k, t, n: library.check(k, t, good, n)
-            base, all_time = (
+            base, whole_time = (
                 min(processor(lambda: answers([key.line()] + [given] * count)) for _ in range(5)) for given in (refused, line)
             )
-            ours = (all_time - base) / count
+            ours = (whole_time - base) / count
             fast = min(processor(lambda: theirs(whole, text, count)) for _ in range(3)) / count
             slow = min(processor(lambda: theirs(bare, text, count)) for _ in range(3)) / count
             print(f"{bits}  {work:5}  {ours * 1e3:7.3f}  {fast * 1e3:10.3f}  {slow * 1e3:17.3f}  {ours / fast:5.2f}  {ours / slow:5.2f}")

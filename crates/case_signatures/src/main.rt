@@ -2,8 +2,12 @@
 //!
 //! ```text
 //! key MODULUS PUBLIC PRIVATE    the key of the lines after it: `ok` and its bits, or `refused` and why
+//! text OCTETS                   the same of a key's text
 //! sign DIGEST                   the signature of a digest
 //! check DIGEST SIGNATURE        `yes` or `no`
+//! group WORD ..                 a group whose pushes the key signs, which is gone afterwards: `+NAME` comes in, `-NAME` goes out, `?NAME` is told its keys,
+//!                               and `.` closes the batch. Each push, what the store of each member that was told says to it, and at last the last number and
+//!                               the traffic key of each store
 //! ```
 #![tactic(auto)]
 
@@ -11,9 +15,11 @@ ghost use Rattle.std.specs.Prelude.{⊤};
 
 use case_lines::{Cases, Text, answer_all, array, octets, put};
 use gd_edges::{Signer, Verifier};
-use rsa_sign::{KeyFault, RsaSigner, RsaVerifier};
+use rsa_sign::{KeyFault, RsaKey, RsaSigner, RsaVerifier, TextFault};
 use std::alloc::Global;
-use std::io;
+use std::{io, str};
+
+mod groups;
 
 fn main(rt: HostRuntime) -> io::Result<()> {
     answer_all(
@@ -45,6 +51,7 @@ impl Cases for Case {
                 private,
                 text,
             )?,
+            [word, key] if *word == "text" => self.take_text(rt.alloc(), key, text)?,
             [word, digest] if *word == "sign" => sign(self.signer.as_ref()?, digest, text)?,
             [word, digest, signature] if *word == "check" => check(
                 rt.alloc(),
@@ -53,6 +60,7 @@ impl Cases for Case {
                 signature,
                 text,
             )?,
+            [word, rest @ ..] if *word == "group" => self.run_group(rt.alloc(), rest, text)?,
             _ => return None,
         }
         text.add("\n");
@@ -86,6 +94,36 @@ impl Case {
         put(&mut self.verifier, verifier.ok());
         Some(())
     }
+
+    /// Takes the key of a text, and says of how many bits, or why there is none.
+    fn take_text(&mut self, alloc: Global, word: &str, text: &mut Text) -> Option<()> {
+        match read_key(alloc, word)? {
+            Ok(key) => {
+                text.add_named("ok ", u64::from(key.verifier.bits()));
+                let RsaKey { signer, verifier } = key;
+                put(&mut self.signer, Some(signer));
+                put(&mut self.verifier, Some(verifier));
+            }
+            Err(fault) => {
+                text.add("refused ");
+                text.add_value(&fault);
+            }
+        }
+        Some(())
+    }
+
+    /// Runs a group whose pushes are signed under the key. The key is gone afterwards.
+    fn run_group(&mut self, alloc: Global, words: &[&str], text: &mut Text) -> Option<()> {
+        let signer = self.signer.take()?;
+        groups::run(alloc, signer, self.verifier.as_ref()?, words, text)
+    }
+}
+
+/// The key of a text in hexadecimal.
+fn read_key(alloc: Global, word: &str) -> Option<Result<RsaKey, TextFault>> {
+    let octets = octets(alloc, word)?;
+    let text = str::from_utf8(octets.as_slice()).ok()?;
+    Some(RsaKey::read(alloc, text))
 }
 
 /// Who signs under these numbers.
