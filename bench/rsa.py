@@ -325,6 +325,12 @@ def time_of():
         yield used.ru_utime + used.ru_stime
 
 
+def least_times(works, rounds=40):
+    """The least time of each, taken in turn so many times: short works find the processor undisturbed more often."""
+    taken = [[processor(work) for work in works] for _ in range(rounds)]
+    return [min(column) for column in zip(*taken)]
+
+
 def times():
     library = Library()
     print("bits  work   ours/ms  openssl/ms  without primes/ms  ratio  without primes")
@@ -336,14 +342,14 @@ def times():
         assert library.sign(whole, text, 1) == library.sign(bare, text, 1) == good
         # the same lines with a number that is refused before any product
         refused = f"check {text.hex()} {'ff' * key.size}"
-        for work, line, count in (("sign", f"sign {text.hex()}", 100), ("check", f"check {text.hex()} {good.hex()}", 2000)):
+        for work, line, count in (("sign", f"sign {text.hex()}", 20), ("check", f"check {text.hex()} {good.hex()}", 1000)):
             theirs = library.sign if work == "sign" else lambda k, t, n: library.check(k, t, good, n)
-            base, whole_time = (
-                min(processor(lambda: answers([key.line()] + [given] * count)) for _ in range(5)) for given in (refused, line)
+            works = (
+                *(lambda given=given: answers([key.line()] + [given] * count) for given in (refused, line)),
+                *(lambda known=known: theirs(known, text, count) for known in (whole, bare)),
             )
-            ours = (whole_time - base) / count
-            fast = min(processor(lambda: theirs(whole, text, count)) for _ in range(3)) / count
-            slow = min(processor(lambda: theirs(bare, text, count)) for _ in range(3)) / count
+            base, whole_time, fast, slow = (least / count for least in least_times(works))
+            ours = whole_time - base
             print(f"{bits}  {work:5}  {ours * 1e3:7.3f}  {fast * 1e3:10.3f}  {slow * 1e3:17.3f}  {ours / fast:5.2f}  {ours / slow:5.2f}")
 
 
