@@ -1,5 +1,5 @@
 //! Groups on disks in memory, with signatures of tests and draws of a seed.
-ghost use Rattle.std.specs.Prelude.{◌≤◌};
+ghost use Rattle.std.specs.Prelude.{◌≡◌, ◌≤◌, []};
 
 use crate::members::Member;
 use crate::rooms::Room;
@@ -30,13 +30,15 @@ pub fn make(alloc: Global, words: &[&str]) -> Option<Option<Room>> {
     };
     let (depth, seed) = (depth.parse::<u8>().ok()?, long_number(seed)?);
     let members = members(alloc, number(count)?)?;
-    match server(alloc, depth, seed, calls(alloc, fails)?) {
-        Some(server) => Some(Some(opened(alloc, server, members)?)),
+    let fails = calls(alloc, fails)?;
+    let board = EpochBoard::new(alloc).ok()?;
+    match server(alloc, depth, seed, fails) {
+        Some(server) => Some(Some(opened(alloc, server, board, members))),
         None => Some(None),
     }
 }
 
-/// A server that lets everybody in.
+/// A server on such a disk, if it can be made.
 fn server(alloc: Global, depth: u8, seed: u64, fails: List<u64>) -> Option<TestServer> {
     let parts = Parts {
         disk: MemDisk::planned(alloc, fails),
@@ -49,7 +51,7 @@ fn server(alloc: Global, depth: u8, seed: u64, fails: List<u64>) -> Option<TestS
         limit: u32::MAX,
     };
     match GroupServer::create(alloc, parts, &group, MEMBERS) {
-        Ok(server) => open_to_all(server),
+        Ok(server) => Some(server),
         Err(opening) => {
             drop(opening);
             None
@@ -57,18 +59,21 @@ fn server(alloc: Global, depth: u8, seed: u64, fails: List<u64>) -> Option<TestS
     }
 }
 
-fn open_to_all(mut server: TestServer) -> Option<TestServer> {
+/// Lets everybody in, and introduces these members.
+fn admit(server: &mut TestServer, members: &[Member]) -> Option<()> {
     if server.rule_count() == u32::MAX {
         return None;
     }
     let pattern = Pattern::read(b"*")?;
-    server
-        .add_rule(Rule {
-            allow: true,
-            pattern,
-        })
-        .ok()?;
-    Some(server)
+    let rule = Rule {
+        allow: true,
+        pattern,
+    };
+    server.add_rule(rule).ok()?;
+    for member in members {
+        server.introduce(member.phase).ok()?;
+    }
+    Some(())
 }
 
 /// Members of the numbers from 1 on.
@@ -80,27 +85,36 @@ fn members(alloc: Global, count: u32) -> Option<Vec<Member>> {
     Some(members)
 }
 
-/// The server, to which these members are introduced, with a board and an empty history.
-fn opened(alloc: Global, mut server: TestServer, members: Vec<Member>) -> Option<Room> {
-    for member in members.as_slice() {
-        server.introduce(member.phase).ok()?;
+/// The server, to which these members are introduced, with a board and an empty history. Out of memory, there are no members.
+fn opened(
+    alloc: Global,
+    mut server: TestServer,
+    made: BoardMade,
+    mut members: Vec<Member>,
+) -> Room
+    requires nothing_shown { made.publisher.published ≡ [] }
+    requires publisher { made.publisher.board ≡ made.board }
+    requires reader { made.reader.board ≡ made.board }
+{
+    if admit(&mut server, members.as_slice()).is_none() {
+        members.clear();
     }
     let BoardMade {
         board,
         publisher,
         reader,
-    } = EpochBoard::new(alloc).ok()?;
+    } = made;
     let entries = Log::<Entry>::of(List::new(alloc));
     let site = Site {
         board,
         reader,
         book: Book::new(server, publisher, entries),
     };
-    Some(Room {
+    Room {
         members,
         pulls: 0,
         site: Some(site),
-    })
+    }
 }
 
 /// Calls of a disk, counted from 1.
