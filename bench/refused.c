@@ -7,7 +7,8 @@
 static void *(*real_malloc)(size_t);
 static void *(*real_realloc)(void *, size_t);
 static void *(*real_aligned)(size_t, size_t);
-static unsigned long calls, refused;
+static _Atomic unsigned long calls;
+static unsigned long refused;
 
 __attribute__((constructor)) static void start(void)
 {
