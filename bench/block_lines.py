@@ -3,7 +3,7 @@
     python3 bench/block_lines.py CRATE        writes CRATE/stdin and CRATE/stdout
 
 A join has a turn for its first message, and one for its third where the first was answered and the answer did not go missing. It waits where the tree has a leaf
-for it and fewer than 32 changes wait. A disk that fails at a call of a batch has that batch refused, and all after it. Making a group takes 11 calls of the disk, a
+for it and fewer than 32 changes wait, and a leave of a member where fewer than 32 do. A disk that fails at a call of a batch has that batch refused, and all after it. Making a group takes 11 calls of the disk, a
 batch four.
 """
 import pathlib
@@ -35,8 +35,9 @@ class Group:
         return [2 * len(numbers), len(numbers), len(again), len(queued), len(new) - len(queued)]
 
     def leave(self, numbers):
-        """Turns, leaving, refused."""
+        """Turns, leaving, refused. Where not all may wait, it is not known who does."""
         due = [it for it in numbers if it in self.members - self.leaving and not self.stopped]
+        due = due[: MOST_CHANGES - len(self.joining) - len(self.leaving)]
         self.leaving |= set(due)
         return [len(numbers), len(due), len(numbers) - len(due)]
 
