@@ -86,12 +86,7 @@ fn members(alloc: Global, count: u32) -> Option<Vec<Member>> {
 }
 
 /// The server, to which these members are introduced, with a board and an empty history. Out of memory, there are no members.
-fn opened(
-    alloc: Global,
-    mut server: TestServer,
-    made: BoardMade,
-    mut members: Vec<Member>,
-) -> Room
+fn opened(alloc: Global, mut server: TestServer, made: BoardMade, mut members: Vec<Member>) -> Room
     requires nothing_shown { made.publisher.published ≡ [] }
     requires publisher { made.publisher.board ≡ made.board }
     requires reader { made.reader.board ≡ made.board }
