@@ -146,7 +146,7 @@ module _ (block : ℕ → List ℕ) (group : Name) where
     pull_can : (m : Name) (members : Members) (asked : Asked) (acted : Members) → AsksToPull block group run before so_far m members (Some (asked, acted))
         → CanAsk members asked acted
     pull_can m members asked acted h =
-        can_ask members asked (requests.Serve m h.2) acted h.0 (one_act members h.0 (inr (inr (inr (m, h.1)))), h.3) h.4
+        can_ask members asked (requests.Serve m h.2) acted h.0 (one_act members h.0 (inr (inr (inr (inl (m, h.1))))), h.3) h.4
 
     use_can : (m : Name) (members used : Members) (b : Bool) → MatchBool b (used ≡ members) (IsFirstUse block m members used) → Acts block group members used
     use_can m members used true same = subst (λ used. Acts block group members used) (sym same) (stays members)

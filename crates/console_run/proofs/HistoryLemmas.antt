@@ -10,13 +10,14 @@ use Rattle.group_model.specs.declared.entries.Asked.{Asked}
 use Rattle.group_model.specs.declared.entries.Entry.{Entry}
 use Rattle.group_steps.specs.ChainLaws.{along_on}
 use Rattle.group_steps.specs.Runs.{Run}
-use Rattle.group_steps.specs.Steps.{AreRunSteps, EndsWithoutMemory, IsAnsweredAfter, IsHistory, IsRunStep}
+use Rattle.group_steps.specs.Steps.{AreRunSteps, IsAnsweredAfter, IsHistory, IsRunStep}
 use Rattle.script_text.specs.declared.lines.Line.{Line}
 use Rattle.run_report.specs.declared.endings.Ending.{Ending}
 use Rattle.run_report.specs.declared.endings.Ending.TheVariants.{Whole, NoGroup, BadLine, Source, Sink, Memory, NotOpened}
 use Rattle.group_steps.specs.Devices.{Devices, Keying}
 use Rattle.console_run.specs.Lines.{GoesThrough, IsOpeningEntry, IsRunOf, LineBegins, LinesGive, Opens}
 use Rattle.console_run.specs.Causes.{CauseOf, Given, IsInParts, IsUpTo}
+use Rattle.console_run.specs.Memory.{EndsWithoutMemory}
 use Rattle.console_run.proofs.ActLemmas.{asked_acts, opening_ready}
 
 -- ---- memory
@@ -63,6 +64,11 @@ module _ {D G V : Type 0} (on : Devices D G V) (by : Keying G) where
 
   -- ---- histories
 
+  -- a history, and nothing more was asked where memory ran out
+  pub record HasRun (start : Run D) (entries : List Entry) (after : Run D) : Type 0 where
+    pub history : IsHistory on by start entries after
+    pub memory : EndsWithoutMemory entries
+
   -- steps of which the first opened the group; memory did not run out
   pub record Begun (start : Run D) (entries : List Entry) (after : Run D) : Type 0 where
     pub entry : Entry
@@ -75,16 +81,18 @@ module _ {D G V : Type 0} (on : Devices D G V) (by : Keying G) where
 
   -- more steps, and memory may run out in the last of them
   pub history_then : (start : Run D) (entries : List Entry) (middle : Run D) (more : List Entry) (after : Run D) → Begun start entries middle
-      → AreRunSteps on by entries middle more after → EndsWithoutMemory more → IsHistory on by start (entries ++ more) after
+      → AreRunSteps on by entries middle more after → EndsWithoutMemory more → HasRun start (entries ++ more) after
   history_then start entries middle more after h steps memory = record {
-    begins = subst (λ (entries : List Entry). BeginsWithOpening (entries ++ more)) (sym h.parts) (h.opening, inr h.is_open);
+    history = record {
+      begins = subst (λ (entries : List Entry). BeginsWithOpening (entries ++ more)) (sym h.parts) (h.opening, inr h.is_open);
+      steps = along_on (IsRunStep on by) [] entries more start middle after h.steps steps;
+    };
     memory = ends_after entries more h.memory memory;
-    steps = along_on (IsRunStep on by) [] entries more start middle after h.steps steps;
   }
 
-  pub history_of : (start : Run D) (entries : List Entry) (after : Run D) → Begun start entries after → IsHistory on by start entries after
+  pub history_of : (start : Run D) (entries : List Entry) (after : Run D) → Begun start entries after → HasRun start entries after
   history_of start entries after h =
-      subst (λ (entries : List Entry). IsHistory on by start entries after) (append-nil entries)
+      subst (λ (entries : List Entry). HasRun start entries after) (append-nil entries)
       (history_then start entries after [] after h refl tt)
 
   begun_then : (start : Run D) (entries : List Entry) (middle : Run D) (more : List Entry) (after : Run D) → Begun start entries middle
@@ -115,11 +123,10 @@ module _ {D G V : Type 0} (on : Devices D G V) (by : Keying G) where
     first_step entry after asked h =
         record { acted = start.members; acts = (zero, refl); ready = opening_ready entry.asked start.members (ap opens asked ∙ opening); answered = h }
 
-    first_history : (entries : List Entry) (after : Run D) → IsOpeningEntry on by request start entries after → IsHistory on by start entries after
-    first_history entries after h = subst (λ (entries : List Entry). IsHistory on by start entries after) (sym h.alone) (record {
-      begins = (ap opens h.asked ∙ opening, inl refl);
+    first_history : (entries : List Entry) (after : Run D) → IsOpeningEntry on by request start entries after → HasRun start entries after
+    first_history entries after h = subst (λ (entries : List Entry). HasRun start entries after) (sym h.alone) (record {
+      history = record { begins = (ap opens h.asked ∙ opening, inl refl); steps = (after, first_step h.entry after h.asked h.step, refl) };
       memory = (inl refl, tt);
-      steps = (after, first_step h.entry after h.asked h.step, refl);
     })
 
     opened : (entries : List Entry) (after : Run D) → Opens on by request start entries after → Begun start entries after
@@ -137,12 +144,12 @@ module _ {D G V : Type 0} (on : Devices D G V) (by : Keying G) where
     pub run_begun : (lines : List (List ℕ)) (entries : List Entry) (after : Run D) → IsRunOf on by request start lines entries after → Begun start entries after
     run_begun lines entries after h = by_lines start h.opening h.opened lines entries after (opened h.opening h.opened h.opens) h.gives
 
-    none_history : (entries : List Entry) (after : Run D) → entries ≡ [] → after ≡ start → IsHistory on by start entries after
-    none_history entries after none same = subst (λ (entries : List Entry). IsHistory on by start entries after) (sym none)
-        (record { begins = tt; memory = tt; steps = same })
+    none_history : (entries : List Entry) (after : Run D) → entries ≡ [] → after ≡ start → HasRun start entries after
+    none_history entries after none same = subst (λ (entries : List Entry). HasRun start entries after) (sym none)
+        (record { history = record { begins = tt; steps = same }; memory = tt })
 
     text_history : (given : List Entry) (middle : Run D) (text : List ℕ) (more : List Entry) (after : Run D) → Begun start given middle
-        → LineBegins on by text given middle more after → IsHistory on by start (given ++ more) after
+        → LineBegins on by text given middle more after → HasRun start (given ++ more) after
     text_history given middle text more after h (inl none) =
         history_then start given middle more after h
         (subst (λ (more : List Entry). AreRunSteps on by given middle more after) (sym none.0) none.1) (subst EndsWithoutMemory (sym none.0) tt)
@@ -151,23 +158,23 @@ module _ {D G V : Type 0} (on : Devices D G V) (by : Keying G) where
         (through_memory line.0 given [] middle more after line.2)
 
     module _ (given : Given) where
-      up_to : (done more : List Entry) (after : Run D) → IsUpTo on by given request start done more after → IsHistory on by start (done ++ more) after
+      up_to : (done more : List Entry) (after : Run D) → IsUpTo on by given request start done more after → HasRun start (done ++ more) after
       up_to done more after (inl h) =
-          subst (λ (done : List Entry). IsHistory on by start (done ++ more) after) (sym h.nothing) (elim h.begins [
+          subst (λ (done : List Entry). HasRun start (done ++ more) after) (sym h.nothing) (elim h.begins [
             | inl none ↦ none_history more after none.0 none.1
             | inr first ↦ first_history more after first
           ])
       up_to done more after (inr h) = text_history done h.middle h.text more after (run_begun _ done h.middle h.run) h.begins
 
-      pub parts_history : (entries : List Entry) (after : Run D) → IsInParts on by given request start entries after → IsHistory on by start entries after
-      parts_history entries after h = subst (λ (entries : List Entry). IsHistory on by start entries after) (sym h.parts) (up_to h.done h.more after h.up_to)
+      pub parts_history : (entries : List Entry) (after : Run D) → IsInParts on by given request start entries after → HasRun start entries after
+      parts_history entries after h = subst (λ (entries : List Entry). HasRun start entries after) (sym h.parts) (up_to h.done h.more after h.up_to)
 
       whole : (lines : List (List ℕ)) (entries : List Entry) (after : Run D) → IsRunOf on by request start lines entries after
-          → IsHistory on by start entries after
+          → HasRun start entries after
       whole lines entries after h = history_of start entries after (run_begun lines entries after h)
 
       pub cause_history : (due : Ending) (entries : List Entry) (after : Run D) → CauseOf on by given request start due entries after
-          → IsHistory on by start entries after
+          → HasRun start entries after
       cause_history Whole entries after h = whole _ entries after h.run
       cause_history NoGroup entries after h = absurd h
       cause_history (BadLine line) entries after h = whole _ entries after h.run

@@ -31,7 +31,7 @@ use Rattle.console_run.specs.Causes.{CameFrom, CannotOpen, CauseOf, EndsUnopened
 use Rattle.run_report.specs.Reports.{BreaksOff}
 use Rattle.console_run.specs.Promises.{CanOpen, CanRun, IsBroken, IsEnded, LeavesMomentsAfterOpening, Streams, request_of, start_of}
 use Rattle.console_run.proofs.FaultyLineLemmas.{no_faulty_line}
-use Rattle.console_run.proofs.HistoryLemmas.{cause_history, parts_history}
+use Rattle.console_run.proofs.HistoryLemmas.{HasRun, cause_history, parts_history}
 
 -- a command asks for an opening
 pub opens_group : (opening : Opening) → opens (request_of opening) ≡ true
@@ -45,10 +45,10 @@ rose_where_noted d host outside why old new beside fault counts =
     subst (λ failed. Counts d failed old new) (ap (λ (outside : Outside). outside.disk_failed) (beside ∙ ap (beside_refusal host) fault)) counts
 
 module _ {D G V : Type 0} (on : Devices D G V) (by : Keying G) where
-  -- however a run ends, its history is one of steps
+  -- however a run ends, its history is one of steps, and nothing more was asked where memory ran out
   pub ran_history : (request : Asked) (start : Run D) → opens request ≡ true → (streams : Streams) (ending : Ending) (entries : List Entry) (after : Run D)
       → IsEnded on by streams request start ending entries after ⊎ IsBroken on by streams request start ending entries after
-      → IsHistory on by start entries after
+      → HasRun on by start entries after
   ran_history request start opening streams ending entries after (inl h) = cause_history on by request opening start streams.given h.due entries after h.cause
   ran_history request start opening streams ending entries after (inr h) = parts_history on by request opening start streams.given entries after h.history
 

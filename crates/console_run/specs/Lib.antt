@@ -1,6 +1,7 @@
 pub mod Causes
 pub mod Following
 pub mod Lines
+pub mod Memory
 pub mod Names
 pub mod OwnFourths
 pub mod Private

@@ -37,6 +37,7 @@ use Rattle.script_text.specs.Report.{entries_text}
 use Rattle.run_report.specs.declared.endings.Ending.{Ending}
 use Rattle.run_report.specs.declared.endings.Ending.TheVariants.{Whole, NoGroup, Memory}
 use Rattle.console_run.specs.Following.{KeepsReplies, StoresFollow}
+use Rattle.console_run.specs.Memory.{EndsWithoutMemory}
 use Rattle.console_run.specs.Names.{console_name}
 use Rattle.console_run.specs.OwnFourths.{TakesOwnFourths}
 use Rattle.console_run.specs.Serving.{ServesAlong}
@@ -141,6 +142,8 @@ module _ {D G V : Type 0} (on : Devices D G V) (by : Keying G) where
     -- Each entry is a step, from the opening on: of the server, its disk and its draws, of the members and their stores. So each push is the text of its batch,
     -- and each refusal but `NoMemory` has its cause, as far as the disk shows it.
     pub history : IsHistory on by (start_of command old place members_place) entries after
+    -- Where memory ran out for an entry, nothing more was asked.
+    pub memory : EndsWithoutMemory entries
     -- At each moment each batch fits the tree that the batches before it left, whatever openings read. One that is in doubt is not counted.
     pub valid : (front : List Entry) (mid : Run D) → IsMoment on by (start_of command old place members_place) entries after front mid
         → IsValid mid.host.server.depth (batches_in mid)

@@ -19,6 +19,6 @@ pub trait Sink {
             (λ n. Appends (shows self.old).octets (shows self.new).octets (take n piece.now)) }
         ensures failed { OnErr result (Keeps (shows self.old).octets (shows self.new).octets) }
         ensures cause { OnErr result (Rose (shows self.old).faults (shows self.new).faults) }
-        ensures stands { OnOk result ((shows self.new).faults ≡ (shows self.old).faults) }
+        ensures no_fault { OnOk result ((shows self.new).faults ≡ (shows self.old).faults) }
         ensures counted { (shows self.old).faults ≤ (shows self.new).faults };
 }

@@ -20,6 +20,6 @@ pub trait Source {
         ensures end { result ≡ Ok 0 → IsAtEnd (shows self.old).octets }
         ensures failed { OnErr result (Keeps (shows self.old).octets (shows self.new).octets) }
         ensures cause { OnErr result (Rose (shows self.old).faults (shows self.new).faults) }
-        ensures stands { OnOk result ((shows self.new).faults ≡ (shows self.old).faults) }
+        ensures no_fault { OnOk result ((shows self.new).faults ≡ (shows self.old).faults) }
         ensures counted { (shows self.old).faults ≤ (shows self.new).faults };
 }

@@ -44,7 +44,7 @@ impl<T: Write> Sink for StdSink<T> {
         ensures appended { IfOk result (λ n. Appends None None (take n piece.now)) }
         ensures failed { OnErr result (Keeps None None) }
         ensures cause { OnErr result (Rose self.old.faults self.new.faults) }
-        ensures stands { OnOk result (self.new.faults ≡ self.old.faults) }
+        ensures no_fault { OnOk result (self.new.faults ≡ self.old.faults) }
         ensures counted { self.old.faults ≤ self.new.faults }
         // What the writer itself exposes: these octets come after its earlier ones.
         ensures reached { IfOk result

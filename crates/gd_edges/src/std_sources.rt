@@ -45,7 +45,7 @@ impl<T: Read> Source for StdSource<T> {
         ensures failed { OnErr result
             (Keeps (T.remaining self.old.inner) (T.remaining self.new.inner)) }
         ensures cause { OnErr result (Rose self.old.faults self.new.faults) }
-        ensures stands { OnOk result (self.new.faults ≡ self.old.faults) }
+        ensures no_fault { OnOk result (self.new.faults ≡ self.old.faults) }
         ensures counted { self.old.faults ≤ self.new.faults }
         ensures faults { self.new.faults ≡
             (if is_err result then one_more self.old.faults else self.old.faults) }

@@ -58,7 +58,7 @@ impl Sink for TextSink {
             (λ n. Appends (Some self.old.written) (Some self.new.written) (take n piece.now)) }
         ensures failed { OnErr result (Keeps (Some self.old.written) (Some self.new.written)) }
         ensures cause { OnErr result (Rose self.old.faults self.new.faults) }
-        ensures stands { OnOk result (self.new.faults ≡ self.old.faults) }
+        ensures no_fault { OnOk result (self.new.faults ≡ self.old.faults) }
         ensures counted { self.old.faults ≤ self.new.faults }
         ensures listed { IsTrue (fails_next self.old.calls self.old.fails) → IsErr result }
         ensures whole { IfOk result (λ n. n ≡ length piece.now) }

@@ -63,7 +63,7 @@ impl Source for TextSource {
         ensures end { result ≡ Ok 0 → IsAtEnd (Some self.old.left) }
         ensures failed { OnErr result (Keeps (Some self.old.left) (Some self.new.left)) }
         ensures cause { OnErr result (Rose self.old.faults self.new.faults) }
-        ensures stands { OnOk result (self.new.faults ≡ self.old.faults) }
+        ensures no_fault { OnOk result (self.new.faults ≡ self.old.faults) }
         ensures counted { self.old.faults ≤ self.new.faults }
         ensures listed { is_err result ≡ fails_next self.old.calls self.old.fails }
         ensures all_that_fits { IfOk result

@@ -1,10 +1,10 @@
 -- What members do leaves their SAs, and what they send is under these.
-use Rattle.std.proofs.Common.{◌≡◌, ◌∙◌, ℕ, zero, suc, Bool, true, false, List, ◌∷◌, Option}
+use Rattle.std.proofs.Common.{◌≡◌, ◌∙◌, ℕ, zero, suc, Bool, true, false, List, [], ◌∷◌, ◌++◌, Option}
 use Rattle.std.proofs.Common.{None, Some, Result, Ok, Err, length, take, refl, sym, ap, subst, inl, inr}
 use Rattle.std.specs.Prelude.{All, IfSome, MatchBool, if◌then◌else◌, option_and_then}
 use Rattle.std.specs.Option.{option_map, unwrap_or}
 use Rattle.std.proofs.lemmas.Bool.{cases_Bool, cond-true, cond-false}
-use Rattle.std.proofs.lemmas.List.Elements.{All-map, All-push, All-tail, All-weaker}
+use Rattle.std.proofs.lemmas.List.Elements.{All-cons, All-head, All-map, All-push, All-tail, All-weaker}
 use Rattle.gd_edges.specs.declared.verifiers.Verifier.{Ghosts as VerifierGhosts}
 use Rattle.group_terms.specs.Names.{Name}
 use Rattle.group_terms.specs.declared.paths.Keyed.{Keyed}
@@ -21,7 +21,7 @@ use Rattle.member_pull.specs.Views.{Pull}
 use Rattle.member_pull.specs.declared.pulls.Step.{Step}
 use Rattle.member_pull.specs.declared.pulls.Step.TheVariants as steps
 use Rattle.member_store.specs.Stores.{Store, is_older}
-use Rattle.member_steps.specs.Acts.{Acts, Agrees, AreActs, BeginsPull, IsAct, IsFirstUse, IsIgnoring}
+use Rattle.member_steps.specs.Acts.{Acts, Agrees, AreActs, BeginsPull, IsAct, IsFirstUse, IsIgnoring, Overtakes}
 use Rattle.member_steps.specs.Members.{Mail, Members, with_all, with_mail_left}
 use Rattle.member_steps.specs.Steps.{Gets, Gives, IsKeeping, IsLosing, IsMemberStep, IsOld, TakesFourth, TakesReply}
 use Rattle.pull_msgs.specs.Fits.{PhaseFits}
@@ -148,6 +148,20 @@ keeps_ignoring old new ignoring =
     subst (MembersKeep old) (sym ignoring.now) (keep_marks old (with_mail_left old ignoring.later) (λ m. refl) (λ fits. fits)
     (first_goes old ignoring.m ignoring.datagram ignoring.later ignoring.gets.is_first))
 
+-- what comes in another order is the same
+pub overtaken : (P : Mail → Type 0) (passed later : List Mail) (mail : Mail) → All P (passed ++ mail ∷ later) → All P (mail ∷ (passed ++ later))
+overtaken P [] later mail all = all
+overtaken P (first ∷ passed) later mail all =
+    let rest = overtaken P passed later mail (All-tail P first (passed ++ mail ∷ later) all) in
+    All-cons P mail (first ∷ (passed ++ later)) (All-head P mail (passed ++ later) rest)
+    (All-cons P first (passed ++ later) (All-head P first (passed ++ mail ∷ later) all) (All-tail P mail (passed ++ later) rest))
+
+keeps_overtaking : (old new : Members) → Overtakes old new → MembersKeep old new
+keeps_overtaking old new overtakes =
+    subst (MembersKeep old) (sym overtakes.now) (keep_marks old (with_mail_left old (overtakes.mail ∷ (overtakes.passed ++ overtakes.later)))
+    (λ m. refl) (λ fits. fits)
+    (λ P all. overtaken P overtakes.passed overtakes.later overtakes.mail (subst (All P) overtakes.were all)))
+
 -- a peer that went on with its pull, and sent something or not
 fit_agreed : (peer after : Peer) (datagram third : List ℕ) → pulls.Agrees datagram third peer after → PeerFits peer → PeerFits after
 fit_agreed peer after datagram third agrees fit =
@@ -202,7 +216,8 @@ module _ (block : ℕ → List ℕ) (group : Name) where
   keeps_act old new (inl ignoring) = keeps_ignoring old new ignoring
   keeps_act old new (inr (inl agrees)) = keeps_agreeing agrees.0 agrees.1 old new agrees.2
   keeps_act old new (inr (inr (inl used))) = keeps_used block used.0 old new used.1
-  keeps_act old new (inr (inr (inr begins))) = keeps_begun begins.0 old new begins.1
+  keeps_act old new (inr (inr (inr (inl begins)))) = keeps_begun begins.0 old new begins.1
+  keeps_act old new (inr (inr (inr (inr overtakes)))) = keeps_overtaking old new overtakes
 
   keeps_number : (n : ℕ) (old new : Members) → AreActs block group n old new → MembersKeep old new
   keeps_number zero old new same = keep_same old new same

@@ -4,7 +4,6 @@ use Rattle.group_model.specs.Answers.{BeginsWithOpening}
 use Rattle.group_model.specs.declared.entries.Entry.{Entry}
 use Rattle.group_steps.specs.Devices.{Devices, Keying}
 use Rattle.group_steps.specs.Moments.{MomentsEndHistories}
-use Rattle.group_steps.specs.Steps.{EndsWithoutMemory}
 
 none_before : (front later : List Entry) → front ++ later ≡ [] → front ≡ []
 none_before [] later none = refl
@@ -18,14 +17,9 @@ begins_front : (front later : List Entry) → BeginsWithOpening (front ++ later)
 begins_front [] later is = tt
 begins_front (first ∷ front) later is = (is.0, nothing_or _ front later is.1)
 
-memory_front : (front later : List Entry) → EndsWithoutMemory (front ++ later) → EndsWithoutMemory front
-memory_front [] later is = tt
-memory_front (entry ∷ front) later is = (nothing_or _ front later is.0, memory_front front later is.1)
-
 module _ {D G V : Type 0} (on : Devices D G V) (by : Keying G) where
   pub moments_end : MomentsEndHistories on by
   moments_end start entries after front mid history moment = record {
     begins = begins_front front moment.later (subst BeginsWithOpening moment.is history.begins);
-    memory = memory_front front moment.later (subst EndsWithoutMemory moment.is history.memory);
     steps = moment.so_far;
   }

@@ -1,11 +1,11 @@
 -- The steps of a run: what is answered to each request, what the outside did meanwhile, and the run after it. Members send what they ask the server; the server
 -- serves a request, and what it sends is on its way to them; or a member acts, and the host stays as it is.
-use Rattle.std.specs.Prelude.{◌≡◌, ◌⊎◌, ℕ, false, List, [], ◌∷◌, Option}
+use Rattle.std.specs.Prelude.{◌≡◌, ℕ, List, [], Option}
 use Rattle.std.specs.Option.{option_map}
 use Rattle.gd_disk.specs.Moments.{Keeps}
 use Rattle.gd_disk.specs.declared.disks.Disk.{Ghosts as DiskGhosts}
 use Rattle.gd_edges.specs.declared.signers.Signer.{Ghosts as SignerGhosts}
-use Rattle.group_model.specs.Answers.{BeginsWithOpening, ran_out}
+use Rattle.group_model.specs.Answers.{BeginsWithOpening}
 use Rattle.group_model.specs.declared.entries.Answer.{Answer}
 use Rattle.group_model.specs.declared.entries.Asked.{Asked}
 use Rattle.group_model.specs.declared.entries.Asked.TheVariants.{Create, Begin, Lose, Again, Keep, Deliver, Key, Derive}
@@ -32,11 +32,6 @@ pub record IsStepBy {D : Type 0} (d : DiskGhosts D) (step : Run D → Answer →
   pub answered : step run entry.answer entry.outside next
   pub keeps : Keeps d run.host.disk next.host.disk
   pub counts : Counts d entry.outside.disk_failed run.host.disk next.host.disk
-
--- where memory ran out, nothing more is asked
-abbrev pub EndsWithoutMemory : List Entry → Type 0
-EndsWithoutMemory [] = Unit {0}
-EndsWithoutMemory (entry ∷ entries) = ((entries ≡ []) ⊎ (ran_out entry.answer ≡ false)) × EndsWithoutMemory entries
 
 -- the datagram of the last push of this number that was sent before
 abbrev pub push_sent : List Entry → ℕ → Option (List ℕ)
@@ -83,8 +78,8 @@ module _ {D G V : Type 0} (on : Devices D G V) (by : Keying G) where
   abbrev pub IsAnsweredAfter : Members → List Entry → Run D → Entry → Run D → Type 0
   IsAnsweredAfter acted before run entry next = IsStepBy on.disks (IsAnswered before entry.asked) (with_members run acted) entry next
 
-  -- An entry may follow on those before it, which made this run, and leaves that one: members act, and then it answers a request. Which acts come between is
-  -- free here; the lines of a script say which.
+  -- An entry may follow on those before it, which made this run, and leaves that one: members act, and then it answers a request. Which acts come between, and
+  -- in which order datagrams come, is free here; the lines of a script say it.
   pub record IsRunStep (before : List Entry) (run : Run D) (entry : Entry) (next : Run D) : Type 0 where
     pub acted : Members
     pub acts : Acts by.members_block by.group run.members acted
@@ -95,8 +90,7 @@ module _ {D G V : Type 0} (on : Devices D G V) (by : Keying G) where
   abbrev pub AreRunSteps : List Entry → Run D → List Entry → Run D → Type 0
   AreRunSteps = Along IsRunStep
 
-  -- a history from the opening on, and the run after it; where the opening failed, or memory ran out, nothing is after that
+  -- A history from the opening on, and the run after it; where the opening failed, nothing is after that. What follows where memory ran out is for who asks.
   pub record IsHistory (start : Run D) (entries : List Entry) (after : Run D) : Type 0 where
     pub begins : BeginsWithOpening entries
-    pub memory : EndsWithoutMemory entries
     pub steps : AreRunSteps [] start entries after

@@ -1,9 +1,9 @@
 -- What members keep where they act, and where they are told or given something: their SAs, their stores, and what is on its way to them.
-use Rattle.std.proofs.Common.{◌≡◌, ◌∙◌, ap, arith, inl, inr, refl, subst, sym, ℕ, zero, suc, true, false, Bool, List, ◌∷◌, Option, Some}
+use Rattle.std.proofs.Common.{◌≡◌, ◌∙◌, ap, arith, inl, inr, refl, subst, sym, ℕ, zero, suc, true, false, Bool, List, ◌∷◌, ◌++◌, Option, Some}
 use Rattle.std.specs.Prelude.{MatchBool, option_and_then}
 use Rattle.std.specs.List.{All, Contains}
 use Rattle.std.specs.Option.{option_map}
-use Rattle.std.proofs.lemmas.List.Elements.{All-push}
+use Rattle.std.proofs.lemmas.List.Elements.{All-contains, All-contains_itself, All-push}
 use Rattle.group_terms.specs.Names.{Name}
 use Rattle.group_terms.specs.declared.paths.Keyed.{Keyed}
 use Rattle.group_terms.specs.declared.phases.Phase1.{Phase1}
@@ -21,6 +21,7 @@ use Rattle.member_steps.specs.Members.{Mail, Members}
 use Rattle.member_steps.specs.Steps.{GoesMissing, IsLosing}
 use Rattle.pull_msgs.specs.Fits.{MessageFits, PhaseFits}
 use Rattle.group_steps.specs.Gets.{get, introduced_by}
+use Rattle.group_steps.proofs.ActLemmas.{overtaken}
 use Rattle.law_store_steps.proofs.PeerLemmas.{all_changed, all_put, seen_new, seen_put, still_phase, there}
 
 -- one of two, by a test
@@ -97,7 +98,7 @@ module _ (block : ℕ → List ℕ) (group : Name) where
         phases = λ m phase is. still_phase old.all _ m phase is;
         mail = λ mail is. is;
       })
-  stay_act old new (inr (inr (inr begins))) =
+  stay_act old new (inr (inr (inr (inl begins)))) =
       let m = begins.0 in
       let act = begins.1.begins in
       let phase = ap (λ (peer : Peer). peer.phase) act.begun.now in
@@ -106,6 +107,14 @@ module _ (block : ℕ → List ℕ) (group : Name) where
         stores = λ name. ap (λ peers. store_of peers name) act.now ∙ put_stores old.all m act.peer act.after act.is_there phase store name;
         phases = λ name had is. ap (λ peers. phase_of peers name) act.now ∙ put_phases old.all m act.peer act.after act.is_there phase name had is;
         mail = λ mail is. is;
+      })
+  stay_act old new (inr (inr (inr (inr overtakes)))) =
+      let were = overtaken (Contains old.mail) overtakes.passed overtakes.later overtakes.mail
+      (subst (All (Contains old.mail)) overtakes.were (All-contains_itself old.mail)) in
+      same_stay old _ new overtakes.now (record {
+        stores = λ m. refl;
+        phases = λ m phase is. is;
+        mail = λ mail is. All-contains (Contains old.mail) (overtakes.mail ∷ (overtakes.passed ++ overtakes.later)) mail were is;
       })
 
   stay_acts : (n : ℕ) (old new : Members) → AreActs block group n old new → Stay old new
@@ -141,10 +150,11 @@ module _ (Q : Peer → Type 0) (kept : IsKept Q) where
       (kept.agreed act.second agrees.1 act.peer act.after act.agrees (there Q old.all agrees.0 act.peer all act.gets.is_there)) all)
   all_act block group old new all (inr (inr (inl uses))) =
       same_all new _ uses.1.now (All-push Q old.all _ all (kept.fresh _ uses.1.fits))
-  all_act block group old new all (inr (inr (inr begins))) =
+  all_act block group old new all (inr (inr (inr (inl begins)))) =
       let act = begins.1.begins in
       same_all new _ begins.1.now (subst (All Q) (sym act.now) (all_put Q old.all act.after
       (kept.begun _ _ group act.peer act.after begins.1.message_fits act.begun (there Q old.all begins.0 act.peer all act.is_there)) all))
+  all_act block group old new all (inr (inr (inr (inr overtakes)))) = same_all new _ overtakes.now all
 
   all_acts : (block : ℕ → List ℕ) (group : Name) (n : ℕ) (old new : Members) → AllOf old → AreActs block group n old new → AllOf new
   all_acts block group zero old new all same = same_all new old same all

@@ -1,5 +1,6 @@
--- What members do of themselves: they send what they ask the server, and ignore a datagram that they do not wait for.
-use Rattle.std.specs.Prelude.{◌≡◌, ◌⊎◌, ℕ, zero, suc, true, false, MatchBool, List, ◌∷◌, Some}
+-- What members do of themselves: they send what they ask the server, and ignore a datagram that they do not wait for. And in which order datagrams come to
+-- them.
+use Rattle.std.specs.Prelude.{◌≡◌, ◌⊎◌, ℕ, zero, suc, true, false, MatchBool, List, ◌∷◌, ◌++◌, Some}
 use Rattle.group_terms.specs.Names.{Name}
 use Rattle.group_values.specs.Drawing.{place_after}
 use Rattle.group_model.specs.declared.entries.Asked.{Asked}
@@ -49,6 +50,16 @@ pub record Agrees (m : Name) (third : List ℕ) (old new : Members) : Type 0 whe
   pub agrees : pulls.Agrees second third peer after
   pub now : new ≡ with_mail_left (with_all old (put old.all after)) later
 
+-- ---- in which order datagrams come
+
+-- In any: one that is on its way overtakes all before it, and is the first then.
+pub record Overtakes (old new : Members) : Type 0 where
+  pub passed : List Mail
+  pub mail : Mail
+  pub later : List Mail
+  pub were : old.mail ≡ passed ++ mail ∷ later
+  pub now : new ≡ with_mail_left old (mail ∷ (passed ++ later))
+
 -- ---- what they begin, where draws have these blocks
 
 module _ (block : ℕ → List ℕ) where
@@ -77,14 +88,15 @@ module _ (block : ℕ → List ℕ) (group : Name) where
   abbrev pub IsAct : Members → Members → Type 0
   IsAct old new =
       IsIgnoring old new
-      ⊎ (((m : Name) × (third : List ℕ) × Agrees m third old new) ⊎ (((m : Name) × IsFirstUse block m old new) ⊎ ((m : Name) × BeginsPull m old new)))
+      ⊎ (((m : Name) × (third : List ℕ) × Agrees m third old new)
+      ⊎ (((m : Name) × IsFirstUse block m old new) ⊎ (((m : Name) × BeginsPull m old new) ⊎ Overtakes old new)))
 
   -- so many, one after the other
   abbrev pub AreActs : ℕ → Members → Members → Type 0
   AreActs zero old new = new ≡ old
   AreActs (suc n) old new = (mid : Members) × IsAct old mid × AreActs n mid new
 
-  -- members act, as often as they like
+  -- members act, as often as they like, and datagrams come in any order
   abbrev pub Acts : Members → Members → Type 0
   Acts old new = (n : ℕ) × AreActs n old new
 

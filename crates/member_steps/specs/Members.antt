@@ -7,8 +7,8 @@ use Rattle.group_peers.specs.declared.members.Peer.{Peer}
 abbrev pub Mail : Type 0
 Mail = Name × List ℕ
 
--- those who were ever used, in the order of the first time; the datagrams that are on their way to them, in the order in which they come; and the place of the
--- next block that is drawn for them
+-- those who were ever used, in the order of the first time; the datagrams that are on their way to them, in the order in which they come unless one overtakes
+-- others; and the place of the next block that is drawn for them
 pub record Members : Type 0 where
   pub all : List Peer
   pub mail : List Mail

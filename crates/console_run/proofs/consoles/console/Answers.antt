@@ -31,7 +31,8 @@ returns-in-Some-clause-run g c =
     let start = start_of command c.args.disk place members_place in
     let outset = outset_of c.args.disk console_name command.limit place members_place most_phases in
     let streams = streams_of ran.given had left was now in
-    let history = ran_history on by (request_of command.opening) start (opens_group command.opening) streams ending entries ran.after ran.run in
+    let has_run = ran_history on by (request_of command.opening) start (opens_group command.opening) streams ending entries ran.after ran.run in
+    let history = has_run.history in
     let lists = c.a_history_leaves_a_valid_list.ensures.valid on.verifier by in
     let ends = c.each_moment_ends_a_history.ensures on.verifier by in
     let sure = c.a_group_grows_by_what_is_sent.ensures.sure on.verifier by in
@@ -49,6 +50,7 @@ returns-in-Some-clause-run g c =
               ran.came can
               ending ran.run;
           history = history;
+          memory = has_run.memory;
           valid = valid;
           secrecy = λ front mid moment. c.no_others_derive.ensures.traffic mid.host.server.depth (batches_in mid);
           to_come = λ front mid moment. c.no_others_derive.ensures.to_come mid.host.server.depth (batches_in mid);

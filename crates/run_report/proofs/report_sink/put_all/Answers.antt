@@ -12,5 +12,5 @@ loop-rest-preserved g c =
       so_far.1 ∙ ap (λ rest. so_far.0 ++ rest) (c.split_at.ensures.by_index.0 ∙ ap (λ before. before ++ c.split_at.result.1.now) c.split_at.ensures.front)
           ∙ sym (append_assoc so_far.0 front c.split_at.result.1.now),
       Puts-then (seen c.args.out.now) (seen c.loop-rest.out) (seen c.put.new.self) so_far.0 front so_far.2
-          (record { appended = c.in_ok-n.ensures.appended; no_fault = c.in_ok-n.ensures.stands }),
+          (record { appended = c.in_ok-n.ensures.appended; no_fault = c.in_ok-n.ensures.no_fault }),
     )

@@ -46,7 +46,7 @@ pieces-preserved g c =
     record {
       blocks = λ k. c.take_piece.ensures.blocks k ∙ c.pieces.invariant.blocks k;
       ready = c.in_ok-take_piece.ensures.ready;
-      no_fault = c.in-Ok.ensures.stands ∙ c.pieces.invariant.no_fault;
+      no_fault = c.in-Ok.ensures.no_fault ∙ c.pieces.invariant.no_fault;
       goes = (
         before.0 ++ piece,
         Consumes-trans (left c.args.script.now).octets (left c.pieces.script).octets (left c.take.new.self).octets before.0 piece before.1 moved,
@@ -90,7 +90,7 @@ returns-in_err-take_piece-clause-stops g c =
       consumed = Consumes-trans (left c.args.script.now).octets (left c.pieces.script).octets (left c.take.new.self).octets before.0 piece before.1 moved;
       small = both_small before.0 piece before.2 c.in_err-take_piece.ensures.octets;
       source = SourceFails-other stop _ _ (λ source. c.take_piece.ensures.other (c.in_err-take_piece.was ∙ ap Err source))
-          (c.in-Ok.ensures.stands ∙ c.pieces.invariant.no_fault);
+          (c.in-Ok.ensures.no_fault ∙ c.pieces.invariant.no_fault);
       stops = StopsWithin-then on g.R.Draws before.0 piece stop (at c.args.self.now (seen c.args.out.now) (drawn_by g.P.Draws c.args.peers.now))
           (at c.pieces.self (seen c.pieces.out) (drawn_by g.P.Draws c.pieces.peers))
           (at c.take_piece.new.self (seen c.take_piece.new.out) (drawn_by g.P.Draws c.take_piece.new.peers)) before.3 c.in_err-take_piece.ensures.stops;
