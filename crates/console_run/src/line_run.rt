@@ -20,7 +20,7 @@ use gd_edges::{Draws, Signer, Sink, Verifier};
 use group_model::MemberName;
 use group_run::GroupRun;
 use group_terms::{Pattern, Rule};
-use run_report::{Stop, ran_out, report};
+use run_report::{Stop, report};
 use script_text::{Line, read_line};
 use std::alloc::Global;
 
@@ -254,7 +254,7 @@ pub(crate) fn report_last<D: Disk, G: Signer, R: Draws, K: Sink>(
         return Ok(());
     };
     report(alloc, entry, out)?;
-    if ran_out(entry) {
+    if entry.answer.ran_out() {
         return Err(Stop::Memory);
     }
     Ok(())

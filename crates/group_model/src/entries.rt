@@ -1,5 +1,6 @@
 //! The entries of a history: what was asked, what the outside did meanwhile, and what was answered.
 ghost use Rattle.std.specs.Prelude.{◌≡◌};
+ghost use Rattle.group_model.specs.Answers.{ran_out};
 ghost use Rattle.group_model.specs.declared.entries.Refusal.TheVariants as refusals;
 
 use crate::{
@@ -77,6 +78,14 @@ pub enum Asked {
         epoch: u32,
         members: MemberNames,
     },
+    /// Which epoch the group is at, and the number of its last push, without a turn of the server.
+    Now,
+    /// Not of the server: a block of so many lines begins, which workers run side by side.
+    Together {
+        lines: u32,
+    },
+    /// Not of the server: the workers have run all of them.
+    Together2,
 }
 
 /// What the outside did during a request.
@@ -117,6 +126,11 @@ pub enum Answer {
     Shown {
         group: GroupSeen,
     },
+    /// The group is at this epoch, and its last push has this number; 0 and 0 before it is open.
+    Pair {
+        epoch: u32,
+        sequence: u32,
+    },
     /// The member's store has the keys of this epoch.
     Kept {
         epoch: u32,
@@ -156,6 +170,18 @@ pub enum Answer {
     Refused {
         why: Refusal,
     },
+}
+
+impl Answer {
+    /// Whether the request was refused because it ran out of memory.
+    pub fn ran_out(&self) -> bool
+        ensures { result ≡ ran_out self.now }
+    {
+        match self {
+            Answer::Refused { why } => matches!(why, Refusal::NoMemory),
+            _ => false,
+        }
+    }
 }
 
 /// What is counted, and may go no further than the group's limit.

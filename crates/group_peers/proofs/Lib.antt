@@ -1,3 +1,4 @@
+pub mod LentLemmas
 pub mod NameLemmas
 pub mod NotedLemmas
 pub mod PeerLemmas

@@ -1,8 +1,9 @@
 -- What becomes of the peer at the place of a name.
-use Rattle.std.proofs.Common.{◌≡◌, ℕ, false, List, Option, None, Some, Result, Ok, Err, get_or, set, refl, sym, ap, ◌∙◌, subst}
+use Rattle.std.proofs.Common.{◌≡◌, ℕ, zero, suc, false, List, [], ◌∷◌, Option, None, Some, Result, Ok, Err, get_or, set, refl, sym, ap, ◌∙◌, subst}
 use Rattle.std.specs.Prelude.{is_some, option_and_then, OnErr, OnOk}
-use Rattle.std.specs.List.{IsDistinct, position}
+use Rattle.std.specs.List.{All, IsDistinct, position}
 use Rattle.std.proofs.lemmas.List.{get_or_default}
+use Rattle.std.proofs.lemmas.List.Elements.{All-head, All-same, All-set, All-tail}
 use Rattle.std.proofs.lemmas.List.Quantifiers.{position-Some}
 use Rattle.gd_edges.specs.declared.verifiers.Verifier.{Ghosts as VerifierGhosts}
 use Rattle.group_terms.specs.Names.{Name, same_name}
@@ -16,6 +17,7 @@ use Rattle.group_peers.specs.declared.members.Peer.{Peer}
 use Rattle.group_peers.specs.declared.pulled.Pulled.{Pulled}
 use Rattle.group_peers.specs.declared.pulled.Pulled.TheVariants.{Ignored, Sends, Told}
 use Rattle.group_peers.specs.Peers.{AreOnce, changed, is_named, is_peer, names_of, peer_of, store_of}
+use Rattle.group_peers.specs.Private.Lent.{HasBothOrNone}
 use Rattle.group_peers.specs.Private.Places.{BeginsAt, GivesAt, IsGivenTo, KeepsAt, TakesAt, no_peer, store_at, with_store_at}
 use Rattle.group_peers.specs.Pulls.{Begins, Takes, TakesDatagram}
 use Rattle.group_peers.specs.Steps.{IsGiven, IsKeeping, IsLeft, Keeps}
@@ -115,28 +117,52 @@ module _ {V : Type 0} (v : VerifierGhosts V) (verifier : V) (peers : List Peer) 
   pub left_nobody : (old new : List ℕ) → is_peer peers name ≡ false → new ≡ old → IsLeft v verifier (store_of peers name) datagram old new
   left_nobody old new none same = subst (λ kept. IsLeft v verifier kept datagram old new) (sym (no_store peers name none)) same
 
--- the names stay, and so does all that is known of them
-pub invariant_stays : (peers next : List Peer) (i : ℕ) (after : Peer) (names : List Name) → next ≡ set peers i after
-    → after.phase ≡ (get_or peers i no_peer).phase
-    → AreOnce peers × (names ≡ names_of peers) → AreOnce next × (names ≡ names_of next)
-invariant_stays peers next i after names is same was =
-    subst (λ now. IsDistinct same_name now × (names ≡ now)) (sym (ap names_of is ∙ names_stay peers i after same)) was
+-- ---- what is known of all of them
 
--- what is read at the place of a name is its peer
+-- their names, in their order and each once; and each has a pull exactly where it sent something
+abbrev AreKnown : List Peer → List Name → Type 0
+AreKnown peers names = AreOnce peers × (names ≡ names_of peers) × All HasBothOrNone peers
+
+-- the one at a place has both, or none
+pub both_at : (peers : List Peer) (i : ℕ) → All HasBothOrNone peers → HasBothOrNone (get_or peers i no_peer)
+both_at [] i both = refl
+both_at (peer ∷ peers) zero both = All-head HasBothOrNone peer peers both
+both_at (peer ∷ peers) (suc i) both = both_at peers i (All-tail HasBothOrNone peer peers both)
+
+-- it stays where one is changed, but for its name
+pub invariant_stays : (peers next : List Peer) (i : ℕ) (after : Peer) (names : List Name) → next ≡ set peers i after
+    → after.phase ≡ (get_or peers i no_peer).phase → (HasBothOrNone (get_or peers i no_peer) → HasBothOrNone after)
+    → AreKnown peers names → AreKnown next names
+invariant_stays peers next i after names is same both was =
+    let named : names_of peers ≡ names_of next = sym (ap names_of is ∙ names_stay peers i after same) in (
+      subst (IsDistinct same_name) named was.0,
+      was.1 ∙ named,
+      All-same HasBothOrNone next (set peers i after) is (All-set HasBothOrNone peers i after (both (both_at peers i was.2)) was.2),
+    )
+
+-- where one began a pull, or could not
+pub begun_stays : (message ni group : List ℕ) (peers next : List Peer) (i : ℕ) (names : List Name) (result : Result (Unit {0}) NoMemory)
+    → OnOk result (BeginsAt message ni group peers i next) → OnErr result (next ≡ peers) → AreKnown peers names → AreKnown next names
+begun_stays message ni group peers next i names (Ok done) ok err was =
+    invariant_stays peers next i ok.after names ok.is (ap (λ (peer : Peer). peer.phase) ok.begun.now) (λ _. subst HasBothOrNone (sym ok.begun.now) refl) was
+begun_stays message ni group peers next i names (Err short) ok err was = subst (λ peers. AreKnown peers names) (sym err) was
+
+-- what a datagram makes of one has both, or none
+pub both_taken : (datagram : List ℕ) (peer after : Peer) (result : Result Pulled NoMemory) → TakesDatagram datagram peer result after
+    → HasBothOrNone peer → HasBothOrNone after
+both_taken datagram peer after (Ok Ignored) takes both = subst HasBothOrNone (sym takes.1) both
+both_taken datagram peer after (Ok Sends) takes both = subst HasBothOrNone (sym takes.1.now) refl
+both_taken datagram peer after (Ok (Told keyed)) takes both = subst HasBothOrNone (sym takes.now) (both ∙ ap is_some takes.has)
+both_taken datagram peer after (Err short) takes both = subst HasBothOrNone (sym takes) both
+
+-- ---- what is read at the place of a name
+
+-- it is its peer
 pub seen_there : (was now : List Peer) (name : Name) (i : ℕ) (peer default : Peer) → was ≡ now → position (is_named name) now ≡ Some i
     → peer ≡ get_or was i default → peer_of now name ≡ Some peer
 seen_there was now name i peer default items is seen =
     let found = position-Some (is_named name) now i no_peer is in
     found_at now name i is ∙ ap Some (sym (seen ∙ ap (λ peers. get_or peers i default) items ∙ get_or_default now i default no_peer found.0))
-
--- so it is after a pull that was begun, or could not be
-pub begun_stays : (message ni group : List ℕ) (peers next : List Peer) (i : ℕ) (names : List Name) (result : Result (Unit {0}) NoMemory)
-    → OnOk result (BeginsAt message ni group peers i next) → OnErr result (next ≡ peers)
-    → AreOnce peers × (names ≡ names_of peers) → AreOnce next × (names ≡ names_of next)
-begun_stays message ni group peers next i names (Ok done) ok err was =
-    invariant_stays peers next i ok.after names ok.is (ap (λ (peer : Peer). peer.phase) ok.begun.now) was
-begun_stays message ni group peers next i names (Err short) ok err was =
-    subst (λ peers. AreOnce peers × (names ≡ names_of peers)) (sym err) was
 
 -- without a place there is no peer
 pub nobody_there : (peers : List Peer) (name : Name) (place : Option ℕ) → is_some place ≡ is_peer peers name → ((i : ℕ) → place ≡ Some i → ⊥)

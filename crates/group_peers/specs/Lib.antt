@@ -1,3 +1,4 @@
+pub mod Lent
 pub mod Peers
 pub mod Private
 pub mod Pulls

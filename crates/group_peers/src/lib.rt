@@ -2,11 +2,13 @@
 #![tactic(auto)]
 
 pub use laws::who_is_noted_is_a_peer;
+pub use lent::Lent;
 pub use members::Peer;
 pub use peers::Peers;
 pub use pulled::Pulled;
 
 mod laws;
+mod lent;
 mod members;
 mod peers;
 mod pulled;

@@ -2,11 +2,13 @@
 ghost use Rattle.std.specs.Prelude.{◌≡◌, ◌+◌, ◌<◌, ◌≤◌, [], false, is_some, length, option_copied, slice_index_or, IsTrue, Ok, OnOk, OnErr};
 ghost use Rattle.member_store.specs.Stores.{IsReply};
 ghost use Rattle.std.specs.List.{position};
-ghost use Rattle.group_peers.specs.Peers.{AreOnce, introduced, is_named, is_peer, loses, names_of, phase_of, sent_by, store_of, was_introduced, with_loss, with_peer};
+ghost use Rattle.group_peers.specs.Peers.{AreOnce, changed, introduced, is_named, is_peer, loses, names_of, phase_of, sent_by, store_of, was_introduced, with_loss, with_peer};
+ghost use Rattle.group_peers.specs.Lent.{Lends, with_back};
 ghost use Rattle.group_peers.specs.Pulls.{Begins, Takes};
 ghost use Rattle.group_peers.specs.declared.pulled.Pulled.TheVariants.{Ignored};
 ghost use Rattle.group_peers.specs.Steps.{IsGiven, IsLeft, Keeps};
 
+use crate::lent::{Lent, lend_at, take_back_at};
 use crate::members::{Peer, give_at, introduce_at, keep_at, lose_at};
 use crate::pulled::Pulled;
 use crate::pulls::{begin_at, take_at};
@@ -33,12 +35,14 @@ impl Model for Peers {
     ghost use Rattle.group_terms.specs.Logs.{Recorded};
     ghost use Rattle.group_peers.specs.declared.members.Peer.{Peer};
     ghost use Rattle.group_peers.specs.Peers.{AreOnce, names_of};
+    ghost use Rattle.group_peers.specs.Private.Lent.{HasBothOrNone};
+    ghost use Rattle.std.specs.List.{All};
 
     ghost Value = { Recorded Peer };
 
     ghost view = { λ peers. record { items = peers.list.items; spare = min (vec_capacity peers.list - vec_len peers.list) (spare peers.names) } };
 
-    ghost invariant = { λ peers. AreOnce peers.list.items × (peers.names.keys ≡ names_of peers.list.items) };
+    ghost invariant = { λ peers. AreOnce peers.list.items × (peers.names.keys ≡ names_of peers.list.items) × All HasBothOrNone peers.list.items };
 }
 
 impl Peers {
@@ -164,6 +168,28 @@ impl Peers {
     {
         let place = self.place(member).unwrap();
         take_at(alloc, &mut self.list, place, datagram)
+    }
+
+    /// A member lends its pull and the datagram that it sent last, which it has no longer then; and whether the next datagram to it goes missing,
+    /// which stays. `None` exactly where it sent nothing, and then nothing changes. It takes no memory.
+    pub fn lend(&mut self, member: &MemberName) -> Option<Lent>
+        ensures lends { Lends self.old.items member.now result self.new.items }
+        ensures spare { self.new.spare ≡ self.old.spare }
+    {
+        match self.place(member) {
+            Some(place) => lend_at(&mut self.list, place),
+            None => None,
+        }
+    }
+
+    /// A member has back what it lent, or what became of it. It takes no memory.
+    pub fn take_back(&mut self, member: &MemberName, lent: Lent)
+        ensures items { self.new.items ≡ changed (with_back lent) self.old.items member.now }
+        ensures spare { self.new.spare ≡ self.old.spare }
+    {
+        if let Some(place) = self.place(member) {
+            take_back_at(&mut self.list, place, lent);
+        }
     }
 
     /// How many peers there are.

@@ -1,6 +1,7 @@
 -- What is kept once there is one entry more.
-use Rattle.std.proofs.Common.{◌≡◌, ◌∙◌, ℕ, true, List, [], ◌∷◌, ◌++◌, length, None, refl, sym, ap, subst, arith}
+use Rattle.std.proofs.Common.{◌≡◌, ◌∙◌, true, List, [], ◌∷◌, ◌++◌, length, None, refl, sym, ap, subst, arith}
 use Rattle.std.specs.List.{All}
+use Rattle.std.proofs.lemmas.List.{length-append, take-append-le}
 use Rattle.std.proofs.lemmas.List.Elements.{All-nil, All-weaker}
 use Rattle.gd_disk.specs.declared.disks.Disk.{Ghosts as DiskGhosts}
 use Rattle.gd_edges.specs.declared.draws.Draws.{Ghosts as DrawGhosts}
@@ -16,17 +17,18 @@ use Rattle.member_steps.specs.Members.{Mail}
 use Rattle.pull_sessions.specs.declared.sas.Sa.{Sa}
 use Rattle.sent_pushes.specs.declared.notes.Note.{Note}
 use Rattle.server_steps.specs.Entries.{noted as noted_entry}
-use Rattle.server_steps.specs.Hosts.{Host}
-use Rattle.server_steps.specs.Reflects.{IsServerOf}
 use Rattle.server_steps.specs.Sent.{pair_by}
 use Rattle.server_steps.specs.Serves.{Serves}
 use Rattle.server_steps.specs.Views.{View as ServerView}
 use Rattle.sym_closure.specs.Knowledge.{Known, Knows}
-use Rattle.group_run.specs.Mails.{mail_of_answer, mail_since}
-use Rattle.group_run.specs.Private.Kept.{GoesToPeer, IsKept, IsOwn, IsReadable, IsWithin}
+use Rattle.group_run.specs.Mails.{mail_since}
+use Rattle.group_run.specs.Private.Boards.{IsShown}
+use Rattle.group_run.specs.Private.Kept.{GoesToPeer, IsKept, IsOwn, IsReadable}
 use Rattle.group_run.specs.Private.Noted.{AreNoted, WereSent}
 use Rattle.group_run.specs.Private.Sends.{IsSent}
+use Rattle.group_run.specs.declared.boards.Board.{Board}
 use Rattle.group_run.specs.declared.unread.Unread.{Unread}
+use Rattle.group_steps.specs.Shows.{pairs_shown}
 use Rattle.group_run.proofs.AddLemmas.{IsAdded}
 use Rattle.group_run.proofs.MailLemmas.{IsUnsent, nothing_unread, readable_after}
 use Rattle.group_run.proofs.SentLemmas.{noted_still, sent_same}
@@ -63,14 +65,23 @@ pub readable_by : {peers now : List Peer} {unread : Unread} {entries : List Entr
 readable_by {unread = unread} {entries = entries} keeps readable =
     record { within = readable.within; to_peers = mail_of_more keeps (mail_since entries unread.place unread.taken) readable.to_peers }
 
+-- what a board shows of a history it shows of a longer one
+pub shown_more : (board : Board) (entries more : List Entry) → IsShown board entries → IsShown board (entries ++ more)
+shown_more board entries more shown = record {
+  publishes = shown.publishes;
+  reads = shown.reads;
+  within = omega (arith, shown.within, length-append entries more);
+  published = shown.published ∙ ap pairs_shown (sym (take-append-le board.upto entries more shown.within));
+}
+
 module _ {D R : Type 0} (d : DiskGhosts D) (draws : DrawGhosts R) where
   module _ {G : Type 0} (g : SignerGhosts G) (stays_known : StaysKnown) {old new : ServerView D G R} {peers now : List Peer} {unread : Unread} {sent : Known}
-      {notes : List Note} {before after : List Entry} {request : Asked} {answer : Answer} (is : IsAdded request answer (draws.place_of old.core.draws) before after)
+      {notes : List Note} {board : Board} {before after : List Entry} {request : Asked} {answer : Answer} (is : IsAdded request answer (draws.place_of old.core.draws) before after)
       (done : Serves d g draws request answer old new) (keeps : KeepsPeers peers now) (asks : AsksBy now request) where
     -- the server served the request, and the pushes of the entry were noted
     pub kept_served : {more : List Note} → AreNoted more (before ++ noted_entry request answer (draws.place_of old.core.draws) ∷ [])
-        → WereSent more (before ++ noted_entry request answer (draws.place_of old.core.draws) ∷ []) → IsKept d draws old peers unread sent notes before
-        → IsKept d draws new now unread sent more after
+        → WereSent more (before ++ noted_entry request answer (draws.place_of old.core.draws) ∷ []) → IsKept d draws old peers unread sent notes board before
+        → IsKept d draws new now unread sent more board after
     kept_served {more} noted sent_before kept =
         let made = done.each kept.host kept.is_on in
         let entry = noted_entry request answer (draws.place_of old.core.draws) in
@@ -84,10 +95,11 @@ module _ {D R : Type 0} (d : DiskGhosts D) (draws : DrawGhosts R) where
           knows = subst (Knows sent) (sym is.whole) (stays_known sent before (entry ∷ []) kept.knows);
           noted = subst (AreNoted more) (sym is.whole) noted;
           sent_before = subst (WereSent more) (sym is.whole) sent_before;
+          shown = subst (IsShown board) (sym is.whole) (shown_more board before (entry ∷ []) kept.shown);
         }
 
     -- it sent none
-    pub kept_silent : pair_by answer ≡ None → IsKept d draws old peers unread sent notes before → IsKept d draws new now unread sent notes after
+    pub kept_silent : pair_by answer ≡ None → IsKept d draws old peers unread sent notes board before → IsKept d draws new now unread sent notes board after
     kept_silent none kept =
         kept_served (noted_still notes before (noted_entry request answer (draws.place_of old.core.draws)) none kept.noted)
         (sent_same notes before (noted_entry request answer (draws.place_of old.core.draws)) kept.sent_before) kept
@@ -98,7 +110,7 @@ module _ {D R : Type 0} (d : DiskGhosts D) (draws : DrawGhosts R) where
         → AreNoted more (entries ++ entry ∷ []))
         → ((entries : List Entry) (entry : Entry) → entry.answer ≡ answer → length entries ≡ length looked → WereSent reserved entries
         → WereSent more (entries ++ entry ∷ []))
-        → IsKept d draws old peers unread sent notes before → IsKept d draws new now unread sent more after
+        → IsKept d draws old peers unread sent notes board before → IsKept d draws new now unread sent more board after
     kept_noted same looked noted sent_before kept =
         let entry = noted_entry request answer (draws.place_of old.core.draws) in
         kept_served
@@ -107,11 +119,11 @@ module _ {D R : Type 0} (d : DiskGhosts D) (draws : DrawGhosts R) where
         kept
 
   -- the server stays; what is on its way then goes to peers
-  pub kept_acted : StaysKnown → {G : Type 0} {server : ServerView D G R} {peers now : List Peer} {unread next : Unread} {sent : Known} {notes : List Note}
+  pub kept_acted : StaysKnown → {G : Type 0} {server : ServerView D G R} {peers now : List Peer} {unread next : Unread} {sent : Known} {notes : List Note} {board : Board}
       {before after : List Entry} {request : Asked} {answer : Answer} → IsAdded request answer (draws.place_of server.core.draws) before after
       → KeepsPeers peers now → IsUnsent request answer → pair_by answer ≡ None → IsReadable now before next
-      → IsKept d draws server peers unread sent notes before → IsKept d draws server now next sent notes after
-  kept_acted stays_known {server = server} {now = now} {next = next} {sent = sent} {notes = notes} {before = before} {request = request} {answer = answer} is keeps unsent none
+      → IsKept d draws server peers unread sent notes board before → IsKept d draws server now next sent notes board after
+  kept_acted stays_known {server = server} {now = now} {next = next} {sent = sent} {notes = notes} {board = board} {before = before} {request = request} {answer = answer} is keeps unsent none
       readable kept =
       let entry = noted_entry request answer (draws.place_of server.core.draws) in
       record {
@@ -123,12 +135,14 @@ module _ {D R : Type 0} (d : DiskGhosts D) (draws : DrawGhosts R) where
         knows = subst (Knows sent) (sym is.whole) (stays_known sent before (entry ∷ []) kept.knows);
         noted = subst (AreNoted notes) (sym is.whole) (noted_still notes before entry none kept.noted);
         sent_before = subst (WereSent notes) (sym is.whole) (sent_same notes before entry kept.sent_before);
+        shown = subst (IsShown board) (sym is.whole) (shown_more board before (entry ∷ []) kept.shown);
       }
 
-  module _ {G : Type 0} {server : ServerView D G R} {peers : List Peer} {unread : Unread} {sent : Known} {notes : List Note} {entries : List Entry} where
+  module _ {G : Type 0} {server : ServerView D G R} {peers : List Peer} {unread : Unread} {sent : Known} {notes : List Note} {board : Board}
+      {entries : List Entry} where
     -- other members, of the same names, read some
     pub kept_read : {now : List Peer} {next : Unread} → KeepsPeers peers now → IsReadable now entries next
-        → IsKept d draws server peers unread sent notes entries → IsKept d draws server now next sent notes entries
+        → IsKept d draws server peers unread sent notes board entries → IsKept d draws server now next sent notes board entries
     kept_read keeps readable kept = record {
       host = kept.host;
       is_on = kept.is_on;
@@ -137,15 +151,16 @@ module _ {D R : Type 0} (d : DiskGhosts D) (draws : DrawGhosts R) where
       knows = kept.knows;
       noted = kept.noted;
       sent_before = kept.sent_before;
+      shown = kept.shown;
     }
 
-    pub kept_peers : {now : List Peer} → KeepsPeers peers now → IsKept d draws server peers unread sent notes entries
-        → IsKept d draws server now unread sent notes entries
+    pub kept_peers : {now : List Peer} → KeepsPeers peers now → IsKept d draws server peers unread sent notes board entries
+        → IsKept d draws server now unread sent notes board entries
     kept_peers keeps kept = kept_read keeps (readable_by keeps kept.mail) kept
 
     -- something else is known of what was sent
-    pub kept_known : {new : Known} → Knows new entries → IsKept d draws server peers unread sent notes entries
-        → IsKept d draws server peers unread new notes entries
+    pub kept_known : {new : Known} → Knows new entries → IsKept d draws server peers unread sent notes board entries
+        → IsKept d draws server peers unread new notes board entries
     kept_known knows kept = record {
       host = kept.host;
       is_on = kept.is_on;
@@ -154,20 +169,35 @@ module _ {D R : Type 0} (d : DiskGhosts D) (draws : DrawGhosts R) where
       knows = knows;
       noted = kept.noted;
       sent_before = kept.sent_before;
+      shown = kept.shown;
+    }
+
+    -- something else was published
+    pub kept_shown : {new : Board} → IsShown new entries → IsKept d draws server peers unread sent notes board entries
+        → IsKept d draws server peers unread sent notes new entries
+    kept_shown shown kept = record {
+      host = kept.host;
+      is_on = kept.is_on;
+      own = kept.own;
+      mail = kept.mail;
+      knows = kept.knows;
+      noted = kept.noted;
+      sent_before = kept.sent_before;
+      shown = shown;
     }
 
     -- by the same entries, and the same notes
-    pub kept_as : {same : List Entry} → same ≡ entries → IsKept d draws server peers unread sent notes entries
-        → IsKept d draws server peers unread sent notes same
-    kept_as is kept = subst (IsKept d draws server peers unread sent notes) (sym is) kept
+    pub kept_as : {same : List Entry} → same ≡ entries → IsKept d draws server peers unread sent notes board entries
+        → IsKept d draws server peers unread sent notes board same
+    kept_as is kept = subst (IsKept d draws server peers unread sent notes board) (sym is) kept
 
-    pub kept_by : {same : List Note} → same ≡ notes → IsKept d draws server peers unread sent notes entries
-        → IsKept d draws server peers unread sent same entries
-    kept_by is kept = subst (λ notes. IsKept d draws server peers unread sent notes entries) (sym is) kept
+    pub kept_by : {same : List Note} → same ≡ notes → IsKept d draws server peers unread sent notes board entries
+        → IsKept d draws server peers unread sent same board entries
+    kept_by is kept = subst (λ notes. IsKept d draws server peers unread sent notes board entries) (sym is) kept
 
     -- nothing is on its way any more
-    pub kept_at_rest : IsKept d draws server peers unread sent notes entries
-        → IsKept d draws server peers (record { place = length entries; taken = 0 }) sent notes entries
+    pub kept_at_rest : IsKept d draws server peers unread sent notes board entries
+        → IsKept d draws server peers (record { place = length entries; taken = 0 }) sent notes board entries
     kept_at_rest kept =
         kept_read (same_peers peers)
         (record {
@@ -184,8 +214,8 @@ none_sent notes none = subst (λ notes. WereSent notes []) (sym none) (λ k numb
 
 -- a member's datagram was served
 module _ {D G R : Type 0} (d : DiskGhosts D) (g : SignerGhosts G) (draws : DrawGhosts R) (stays_known : StaysKnown) {old new : ServerView D G R}
-    {peers : List Peer} {unread : Unread} {known : Known} {notes : List Note} {before after : List Entry} {m : Name} where
+    {peers : List Peer} {unread : Unread} {known : Known} {notes : List Note} {board : Board} {before after : List Entry} {m : Name} where
   pub kept_sent : is_peer peers m ≡ true → (sent : IsSent d g draws peers m old new before after)
-      → IsKept d draws old peers unread known notes before → IsKept d draws new peers unread known notes after
+      → IsKept d draws old peers unread known notes board before → IsKept d draws new peers unread known notes board after
   kept_sent peer sent kept =
       kept_silent d draws g stays_known {request = Serve m sent.datagram} (record { whole = sent.added }) sent.serves (same_peers peers) peer sent.no_push kept

@@ -1,5 +1,5 @@
 -- How much may still be read: less, with each datagram that is not ignored.
-use Rattle.std.proofs.Common.{◌≡◌, ◌∙◌, ◌⊎◌, ⊎_elim, ℕ, zero, suc, ◌+◌, ◌*◌, ◌<◌, ◌≤◌, Bool, true, false, cond, List, [], ◌∷◌, ◌++◌, length, Option, None, Some}
+use Rattle.std.proofs.Common.{◌≡◌, ◌∙◌, ⊎_elim, ℕ, zero, suc, ◌+◌, ◌*◌, ◌<◌, ◌≤◌, Bool, true, false, cond, List, [], ◌∷◌, ◌++◌, length, Option, None, Some}
 use Rattle.std.proofs.Common.{Result, Ok, Err, MatchBool, sym, ap, subst, inl, inr, refl, arith}
 use Rattle.std.specs.Prelude.{count_by}
 use Rattle.std.proofs.lemmas.Bool.{cases_Bool, cond-false, cond-true}
@@ -15,7 +15,7 @@ use Rattle.group_model.specs.declared.entries.Answer.TheVariants.{Datagram}
 use Rattle.group_model.specs.declared.entries.Asked.TheVariants.{Keep}
 use Rattle.group_model.specs.declared.entries.Entry.{Entry}
 use Rattle.group_peers.specs.Peers.{changed, is_named, peer_of, put}
-use Rattle.group_peers.specs.Pulls.{Agrees as PeerAgrees, IsTold}
+use Rattle.group_peers.specs.Pulls.{IsTold}
 use Rattle.group_peers.specs.declared.members.Peer.{Peer}
 use Rattle.group_steps.specs.Gets.{mail_to}
 use Rattle.member_pull.specs.Pulls.{AfterFourth, AfterSecond, AtFourth, AtSecond}

@@ -1,6 +1,6 @@
 -- What is on its way, once an entry was added or a datagram was taken.
-use Rattle.std.proofs.Common.{◌≡◌, ◌∙◌, ℕ, zero, suc, ◌+◌, ◌-◌, ◌<◌, ◌≤◌, List, [], ◌∷◌, ◌++◌, length, drop, map, flat_map, refl, sym, ap, subst, arith}
-use Rattle.std.proofs.Common.{Option, None, Some, slice_get, get_or, true, ltb, T, append-nil}
+use Rattle.std.proofs.Common.{◌≡◌, ◌∙◌, ℕ, zero, suc, ◌+◌, ◌<◌, ◌≤◌, List, [], ◌∷◌, ◌++◌, length, drop, flat_map, refl, sym, ap, subst, arith}
+use Rattle.std.proofs.Common.{None, Some, slice_get, get_or, true, ltb, T, append-nil}
 use Rattle.std.specs.List.{All}
 use Rattle.std.proofs.lemmas.List.Concat.{flat_map-append}
 use Rattle.std.proofs.lemmas.List.Elements.{All-append}
@@ -10,7 +10,7 @@ use Rattle.group_model.specs.declared.entries.Answer.{Answer}
 use Rattle.group_model.specs.declared.entries.Asked.{Asked}
 use Rattle.group_model.specs.declared.entries.Entry.{Entry}
 use Rattle.group_peers.specs.declared.members.Peer.{Peer}
-use Rattle.member_steps.specs.Members.{Mail, Members}
+use Rattle.member_steps.specs.Members.{Mail}
 use Rattle.member_steps.specs.Views.{View as MemberView, members_with}
 use Rattle.group_run.specs.Mails.{first_of, mail_in, mail_of_answer, mail_since}
 use Rattle.group_run.specs.Private.Kept.{GoesToPeer, IsReadable, IsWithin, members_at}

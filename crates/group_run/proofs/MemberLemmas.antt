@@ -1,5 +1,5 @@
 -- What members do: who they are stays, and what is noted of an answer.
-use Rattle.std.proofs.Common.{◌≡◌, ◌∙◌, ◌⊎◌, ⊎_elim, ◌||◌, ℕ, zero, suc, Bool, true, false, cond, List, [], ◌∷◌, length, map, Option, None, Some}
+use Rattle.std.proofs.Common.{◌≡◌, ◌∙◌, ⊎_elim, ◌||◌, ℕ, zero, suc, Bool, true, false, cond, List, [], ◌∷◌, length, Option, None, Some}
 use Rattle.std.proofs.Common.{Bor, Result, Ok, Err, MatchBool, is_some, option_copied, true≢false, refl, sym, ap, subst}
 use Rattle.std.specs.Option.{option_and_then, option_map}
 use Rattle.std.proofs.lemmas.List.{length-map}
@@ -53,7 +53,7 @@ keeps_same same = record { each = λ name is. same.names name ∙ is }
 pub as_before : {peers next : List Peer} → next ≡ peers → AreSame peers next
 as_before {peers} is = subst (AreSame peers) (sym is) (record { names = λ name. refl; count = refl })
 
-same_then : {peers mid next : List Peer} → AreSame peers mid → AreSame mid next → AreSame peers next
+pub same_then : {peers mid next : List Peer} → AreSame peers mid → AreSame mid next → AreSame peers next
 same_then first second = record { names = λ name. second.names name ∙ first.names name; count = second.count ∙ first.count }
 
 module _ (change : Peer → Peer) (keeps : (peer : Peer) → (change peer).phase.member ≡ peer.phase.member) (m name : Name) where
@@ -67,7 +67,7 @@ module _ (change : Peer → Peer) (keeps : (peer : Peer) → (change peer).phase
   same_all [] = refl
   same_all (peer ∷ peers) = λ i. same_one peer i || same_all peers i
 
-changed_same : (change : Peer → Peer) → ((peer : Peer) → (change peer).phase.member ≡ peer.phase.member) → (peers : List Peer) (m : Name)
+pub changed_same : (change : Peer → Peer) → ((peer : Peer) → (change peer).phase.member ≡ peer.phase.member) → (peers : List Peer) (m : Name)
     → AreSame peers (changed change peers m)
 changed_same change keeps peers m = record {
   names = λ name. same_all change keeps m name peers;
@@ -75,7 +75,7 @@ changed_same change keeps peers m = record {
 }
 
 module _ (after : Peer) (name : Name) where
-  put_one : (peer : Peer) → is_named name (cond (is_named after.phase.member peer) after peer) ≡ is_named name peer
+  pub put_one : (peer : Peer) → is_named name (cond (is_named after.phase.member peer) after peer) ≡ is_named name peer
   put_one peer = by_name (same_name after.phase.member peer.phase.member) refl
     where
       by_name : (b : Bool) → same_name after.phase.member peer.phase.member ≡ b → is_named name (cond b after peer) ≡ is_named name peer
@@ -425,3 +425,8 @@ introduced_place answer m members = refl
 pub none_of : {A : Type 0} (lent : Option (Bor A)) → is_some lent ≡ false → option_copied lent ≡ None
 none_of (Some one) is = absurd (true≢false is)
 none_of None is = refl
+
+-- where there is one
+pub some_of : {A : Type 0} (lent : Option (Bor A)) → is_some lent ≡ true → (it : A) × (option_copied lent ≡ Some it)
+some_of (Some one) is = (one.now, refl)
+some_of None is = absurd (true≢false (sym is))

@@ -1,6 +1,6 @@
 -- What a request does to a group, from what it does to its server, or to its members.
 -- One lemma serves all requests that the server serves (`serves`), one all that members do (`acts`), one questions (`asks`).
-use Rattle.std.proofs.Common.{◌≡◌, ◌∙◌, ◌⊎◌, ⊎_elim, ℕ, zero, ◌+◌, ◌≤◌, Bool, false, List, [], ◌∷◌, ◌++◌, length, Decides, None, Some, refl, sym, ap, subst, arith}
+use Rattle.std.proofs.Common.{◌≡◌, ◌∙◌, ℕ, zero, Bool, List, Decides, None, Some, refl, sym, ap, subst, arith}
 use Rattle.std.proofs.lemmas.Option.{same_Some}
 use Rattle.gd_disk.specs.Moments.{Keeps}
 use Rattle.gd_disk.specs.declared.disks.Disk.{Ghosts as DiskGhosts}
@@ -12,9 +12,9 @@ use Rattle.group_terms.specs.declared.patterns.Rule.{Rule}
 use Rattle.group_terms.specs.declared.phases.Phase1.{Phase1}
 use Rattle.group_model.specs.Derivations.{CanDerive, held_names, pairs_sent}
 use Rattle.group_model.specs.declared.entries.Answer.{Answer}
-use Rattle.group_model.specs.declared.entries.Answer.TheVariants.{Derived}
+use Rattle.group_model.specs.declared.entries.Answer.TheVariants.{Derived, Done}
 use Rattle.group_model.specs.declared.entries.Asked.{Asked}
-use Rattle.group_model.specs.declared.entries.Asked.TheVariants.{AddRule, Again, Derive, Introduce, Keep, Serve}
+use Rattle.group_model.specs.declared.entries.Asked.TheVariants.{AddRule, Again, Derive, Introduce, Keep, Serve, Now}
 use Rattle.group_model.specs.declared.entries.Entry.{Entry}
 use Rattle.group_model.specs.declared.entries.Outside.{Outside}
 use Rattle.server_steps.specs.Disks.{Counts}
@@ -31,7 +31,11 @@ use Rattle.member_steps.specs.Members.{Members}
 use Rattle.member_steps.specs.Steps.{HasSentNothing, IsKeeping}
 use Rattle.member_steps.specs.Views.{View as MemberView, members_with}
 use Rattle.group_steps.specs.Gets.{get}
-use Rattle.group_steps.specs.Questions.{IsQuestion}
+use Rattle.group_steps.specs.Questions.{IsMark, IsQuestion, answer_pair}
+use Rattle.group_steps.specs.Shows.{pairs_shown}
+use Rattle.epoch_board.specs.Pairs.{last_pair}
+use Rattle.epoch_board.specs.declared.pairs.Seen.{Seen}
+use Rattle.group_run.specs.Looks.{ShowsLast}
 use Rattle.group_steps.specs.Runs.{Run, with_members}
 use Rattle.group_steps.specs.Steps.{IsActing, IsStepBy}
 use Rattle.group_run.specs.Moves.{Acts, Moves, Serves}
@@ -44,7 +48,7 @@ use Rattle.group_run.specs.Private.Sends.{IsSent}
 use Rattle.group_run.specs.Views.{View}
 use Rattle.group_run.specs.declared.unread.Unread.{Unread}
 use Rattle.group_run.proofs.AddLemmas.{IsAdded}
-use Rattle.group_run.proofs.MailLemmas.{longer, mail_after}
+use Rattle.group_run.proofs.MailLemmas.{mail_after}
 use Rattle.group_run.proofs.MemberLemmas.{IsPlain, asks_keep, asks_third, has_agreed, has_kept}
 use Rattle.group_run.proofs.ServedLemmas.{IsQuiet, introduced_rules, rule_taken, served_stays}
 
@@ -137,7 +141,7 @@ module _ {D G R : Type 0} {old new : ServerView D G R} {members now : Members} {
 -- ---- the host stays
 
 module _ {D G R : Type 0} (d : DiskGhosts D) (draws : DrawGhosts R) where
-  beside_plain : (server : ServerView D G R) (host : Host D) (answer : Answer) → IsServerOf d draws server host → IsPlain answer
+  pub beside_plain : (server : ServerView D G R) (host : Host D) (answer : Answer) → IsServerOf d draws server host → IsPlain answer
       → beside answer (draws.place_of server.core.draws) ≡ quiet host
   beside_plain server host answer is plain i = record {
     disk_failed = plain.no_fault i;
@@ -145,7 +149,7 @@ module _ {D G R : Type 0} (d : DiskGhosts D) (draws : DrawGhosts R) where
     place = is.stands.place i;
   }
 
-  plain_step : (step : Run D → Answer → Outside → Run D → Type 0) (request : Asked) (server : ServerView D G R) (answer : Answer) (run next : Run D)
+  pub plain_step : (step : Run D → Answer → Outside → Run D → Type 0) (request : Asked) (server : ServerView D G R) (answer : Answer) (run next : Run D)
       → next.host ≡ run.host → IsPlain answer → step run answer (beside answer (draws.place_of server.core.draws)) next
       → IsStepBy d step run (noted request answer (draws.place_of server.core.draws)) next
   plain_step step request server answer run next same plain answered = record {
@@ -215,6 +219,53 @@ module _ {D G R : Type 0} (d : DiskGhosts D) (draws : DrawGhosts R) where
                 decides = holds;
                 answers = refl;
                 beside = beside_plain server run.host (Derived derives) reflects.server plain;
+                stays = refl;
+              }),
+          record { server = reflects.server; members = (zero, same) },
+        );
+      })
+
+  -- a look shows what these entries showed last
+  pub looks : (seen : Seen) {server : ServerView D G R} {members now : Members} {entries more : List Entry} {held : View D G R}
+      → held_as server members entries ≡ held → IsAdded Now (answer_pair seen) (draws.place_of server.core.draws) entries more → now ≡ members
+      → seen ≡ last_pair (pairs_shown entries)
+      → Moves d draws (ShowsLast held.entries) held.members Now held (held_as server now more)
+  looks seen {server} {members} {now} {entries} {more} view is_more same is =
+      let plain : IsPlain (answer_pair seen) = record { no_fault = refl; not_opened = refl; no_push = refl } in
+      subst (λ held. Moves d draws (ShowsLast held.entries) held.members Now held (held_as server now more)) view (record {
+        entry = noted Now (answer_pair seen) (draws.place_of server.core.draws);
+        added = is_more.whole;
+        asked = refl;
+        goes_on = record { signer = refl; blocks = λ k. refl };
+        each = λ run reflects. (
+          with_members run members,
+          plain_step (ShowsLast entries) Now server (answer_pair seen) (with_members run members) (with_members run members) refl
+              plain (record {
+                answers = ap answer_pair is;
+                beside = beside_plain server run.host (answer_pair seen) reflects.server plain;
+                stays = refl;
+              }),
+          record { server = reflects.server; members = (zero, same) },
+        );
+      })
+
+  -- a mark is noted
+  pub marks : (request : Asked) {server : ServerView D G R} {members now : Members} {entries more : List Entry} {held : View D G R}
+      → held_as server members entries ≡ held → IsAdded request Done (draws.place_of server.core.draws) entries more → now ≡ members
+      → Moves d draws IsMark held.members request held (held_as server now more)
+  marks request {server} {members} {now} {entries} {more} view is_more same =
+      let plain : IsPlain Done = record { no_fault = refl; not_opened = refl; no_push = refl } in
+      subst (λ held. Moves d draws IsMark held.members request held (held_as server now more)) view (record {
+        entry = noted request Done (draws.place_of server.core.draws);
+        added = is_more.whole;
+        asked = refl;
+        goes_on = record { signer = refl; blocks = λ k. refl };
+        each = λ run reflects. (
+          with_members run members,
+          plain_step IsMark request server Done (with_members run members) (with_members run members) refl
+              plain (record {
+                answers = refl;
+                beside = beside_plain server run.host Done reflects.server plain;
                 stays = refl;
               }),
           record { server = reflects.server; members = (zero, same) },

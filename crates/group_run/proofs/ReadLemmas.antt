@@ -20,9 +20,9 @@ use Rattle.group_run.specs.Private.Reading.{AreReading}
 use Rattle.group_run.specs.declared.reading.Read.{Read}
 use Rattle.group_run.specs.declared.reading.Read.TheVariants.{Ended, Sends}
 use Rattle.group_run.specs.declared.unread.Unread.{Unread}
-use Rattle.group_run.proofs.KeptLemmas.{KeepsPeers, as_peers, mail_of_more, same_peers}
+use Rattle.group_run.proofs.KeptLemmas.{KeepsPeers, as_peers, mail_of_more}
 use Rattle.group_run.proofs.MailLemmas.{after_one, rest_of, within_one}
-use Rattle.group_run.proofs.MemberLemmas.{AreSame, as_before, has_agreed, has_kept, ignored_same, ignores_more, keeps_same}
+use Rattle.group_run.proofs.MemberLemmas.{AreSame, has_agreed, has_kept, ignored_same, ignores_more, keeps_same}
 
 -- what holds anyway holds of an error
 pub on_err : {A E : Type 0} (answer : Result A E) (P : Type 0) → P → OnErr answer P

@@ -1,5 +1,5 @@
 -- What a request does to rules and SAs of a server, and to whom its answer goes.
-use Rattle.std.proofs.Common.{◌≡◌, ◌∙◌, ◌⊎◌, inl, inr, ⊎_elim, ℕ, ◌+◌, ◌<◌, ◌^◌, Bool, true, false, cond, length, IfOk, IfSome}
+use Rattle.std.proofs.Common.{◌≡◌, ◌∙◌, ⊎_elim, ℕ, ◌+◌, ◌<◌, ◌^◌, Bool, true, false, cond, length, IfOk, IfSome}
 use Rattle.std.proofs.Common.{List, [], ◌∷◌, ◌++◌, Option, None, Some, Result, Ok, Err, MatchBool, refl, sym, ap, subst}
 use Rattle.std.specs.List.{All, find}
 use Rattle.std.proofs.lemmas.List.Elements.{All-cons, All-head, All-map, All-nil, All-push, All-tail, All-weaker}
@@ -26,7 +26,6 @@ use Rattle.group_model.specs.Servers.{Server, members_now, present_batches}
 use Rattle.group_peers.specs.Peers.{is_peer}
 use Rattle.group_peers.specs.declared.members.Peer.{Peer}
 use Rattle.group_steps.specs.Gets.{mail_by, mail_of, mail_to}
-use Rattle.member_steps.specs.Members.{Mail}
 use Rattle.pull_msgs.specs.declared.messages.First.{First}
 use Rattle.pull_msgs.specs.declared.messages.Third.{Third}
 use Rattle.pull_sessions.specs.Looks.{IsLook}

@@ -1,7 +1,10 @@
+pub mod Blocks
 pub mod Deliveries
+pub mod Looks
 pub mod Mails
 pub mod Moves
 pub mod Openings
+pub mod Places
 pub mod Private
 pub mod Pulls
 pub mod Reads

@@ -1,7 +1,8 @@
-//! Questions to a group.
+//! Questions to a group, and to its board.
 ghost use Rattle.std.specs.Prelude.{◌≡◌, OnOk, OnErr};
 ghost use Rattle.group_model.specs.declared.entries.Asked.TheVariants as requests;
 ghost use Rattle.group_steps.specs.Questions.{IsQuestion};
+ghost use Rattle.group_run.specs.Looks.{ShowsLast};
 ghost use Rattle.group_run.specs.Stays.{MailStays, RulesStay};
 ghost use Rattle.group_run.specs.Moves.{Moves, Serves};
 
@@ -48,6 +49,24 @@ impl<D: Disk, G: Signer, R: Draws> GroupRun<D, G, R> {
         let asked = Asked::Derive { epoch, members };
         self.entries
             .add(entry(asked, Answer::Derived { yes }, place));
+        Ok(())
+    }
+
+    /// Asks which pair of an epoch and a sequence number the board shows: that of the last batch or opening.
+    pub fn look(&mut self) -> Result<(), NoMemory>
+        ensures ok { OnOk result (Moves D.Disk R.Draws (ShowsLast self.old.entries) self.old.members requests.Now self.old self.new) }
+        ensures stays { OnOk result (MailStays self.old self.new) }
+        ensures err { OnErr result (self.new ≡ self.old) }
+    {
+        what_is_known_stays_known();
+        self.entries.reserve(1)?;
+        let place = self.server.draws_at();
+        let seen = self.board.look(self.entries.items());
+        let answer = Answer::Pair {
+            epoch: seen.epoch,
+            sequence: seen.sequence,
+        };
+        self.entries.add(entry(Asked::Now, answer, place));
         Ok(())
     }
 }

@@ -17,7 +17,9 @@ ghost use Rattle.group_run.specs.Stays.{MailStays, RulesStay};
 ghost use Rattle.group_run.specs.Moves.{Serves};
 ghost use Rattle.group_run.specs.Mails.{mail_of_answer};
 ghost use Rattle.group_run.specs.Openings.{FailsToOpen, Opens};
+ghost use Rattle.group_run.specs.Private.Boards.{IsShown};
 
+use crate::boards::Board;
 use crate::sending::note_pushes;
 use crate::unread::Unread;
 use crate::{GroupRun, Unopened};
@@ -36,9 +38,11 @@ use sym_closure::{Sent, what_is_known_stays_known};
 struct Ready {
     members: Members,
     pushes: SentPushes,
+    board: Board,
     entries: Log<Entry>,
     ghost nobody: { members.all ≡ [] },
     ghost no_pushes: { pushes.items ≡ [] },
+    ghost nothing_shown: { IsShown board [] },
     ghost room_for_pushes: { 2 ≤ pushes.spare },
     ghost no_entries: { entries.items ≡ [] },
     ghost room_for_entry: { 1 ≤ entries.spare },
@@ -144,11 +148,13 @@ fn make_ready(alloc: Global, members_place: u64) -> Result<(Ready, ShowRoom), No
     let mut pushes = SentPushes::new(alloc);
     pushes.reserve(2)?;
     let members = Members::new(alloc, members_place)?;
+    let board = Board::new(alloc)?;
     let mut entries = Log::of(List::new(alloc));
     entries.reserve(1)?;
     let ready = Ready {
         members,
         pushes,
+        board,
         entries,
     };
     Ok((ready, ShowRoom::new(alloc)?))
@@ -186,6 +192,7 @@ fn opened<D: Disk, G: Signer, R: Draws>(
     let Ready {
         members,
         mut pushes,
+        board,
         mut entries,
     } = ready;
     note_pushes(&mut pushes, &answer, 0);
@@ -197,6 +204,7 @@ fn opened<D: Disk, G: Signer, R: Draws>(
         unread: Unread { place: 0, taken: 0 },
         sent,
         pushes,
+        board,
         entries,
     }
 }

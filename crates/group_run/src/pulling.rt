@@ -1,5 +1,5 @@
 //! Pulls of members (RFC 6407 section 3), and what is on its way to them.
-ghost use Rattle.std.specs.Prelude.{◌≡◌, ◌<◌, ◌⊎◌, ◌≤◌, ℕ, true, List, IfOk, IsSome, MatchBool, OnErr, OnOk, Some};
+ghost use Rattle.std.specs.Prelude.{◌≡◌, ◌<◌, ◌⊎◌, ◌≤◌, ℕ, true, List, IfOk, IsSome, MatchBool, None, OnErr, OnOk, Some};
 ghost use Rattle.group_values.specs.Drawing.{place_after};
 ghost use Rattle.group_model.specs.declared.entries.Asked.TheVariants as requests;
 ghost use Rattle.group_peers.specs.Peers.{phase_of, sent_by, was_introduced};
@@ -10,7 +10,7 @@ ghost use Rattle.group_run.specs.Reads.{left_to_read};
 ghost use Rattle.group_run.specs.Tells.{AllIsRead, HasReadSome, KeepsNext, SendsNext};
 ghost use Rattle.member_steps.specs.Acts.{BeginsPull, IsUse};
 ghost use Rattle.member_steps.specs.Members.{Mail};
-ghost use Rattle.member_steps.specs.Steps.{IsLosing};
+ghost use Rattle.member_steps.specs.Steps.{HasSentNothing, IsLosing};
 ghost use Rattle.member_steps.specs.Views.{members_with};
 ghost use Rattle.group_steps.specs.Gets.{introduced_by};
 ghost use Rattle.group_run.specs.Private.Sends.{IsSent};
@@ -101,8 +101,8 @@ impl<D: Disk, G: Signer, R: Draws> GroupRun<D, G, R> {
         ensures err { OnErr result (self.new ≡ self.old) }
     {
         what_is_known_stays_known();
-        self.entries.reserve(1)?;
         if self.members.sent(member).is_some() {
+            self.entries.reserve(1)?;
             send(
                 alloc,
                 &mut self.server,
@@ -112,6 +112,19 @@ impl<D: Disk, G: Signer, R: Draws> GroupRun<D, G, R> {
             )?;
             return Ok(());
         }
+        self.note_nothing(member)
+    }
+
+    /// Notes in the history that a member has nothing to send again.
+    pub(crate) fn note_nothing(&mut self, member: &MemberName) -> Result<(), NoMemory>
+        requires { sent_by self.old.members.all member.now ≡ None }
+        ensures ok { OnOk result (Acts D.Disk R.Draws (HasSentNothing member.now) self.old.members (requests.Again member.now) self.old self.new) }
+        ensures server { self.new.server ≡ self.old.server }
+        ensures members { self.new.members ≡ self.old.members }
+        ensures err { OnErr result (self.new ≡ self.old) }
+    {
+        what_is_known_stays_known();
+        self.entries.reserve(1)?;
         let place = self.server.draws_at();
         let asked = Asked::Again { member: *member };
         self.entries.add(entry(asked, Answer::Nothing, place));
@@ -199,7 +212,7 @@ fn note_introduced(members: &mut Members, answer: &Answer, member: &MemberName)
 }
 
 /// What a member sent last is served. There is room for the entry.
-fn send<D: Disk, G: Signer, R: Draws>(
+pub(crate) fn send<D: Disk, G: Signer, R: Draws>(
     alloc: Global,
     server: &mut GroupServer<D, G, R>,
     members: &Members,

@@ -2,6 +2,7 @@
 ghost use Rattle.std.specs.Prelude.{◌≡◌, List, [], ◌++◌, ◌∷◌, MatchOption};
 ghost use Rattle.group_model.specs.declared.entries.Entry.{Entry};
 
+use crate::boards::Board;
 use crate::unread::Unread;
 use gd_disk::Disk;
 use gd_edges::{Draws, Signer};
@@ -25,6 +26,7 @@ pub struct GroupRun<D: Disk, G: Signer, R: Draws> {
     pub(crate) sent: Sent,
     /// Which entry sent the last push of each number.
     pub(crate) pushes: SentPushes,
+    pub(crate) board: Board,
     pub(crate) entries: Log<Entry>,
 }
 
@@ -40,7 +42,7 @@ impl<D: Disk, G: Signer, R: Draws> Model for GroupRun<D, G, R> {
       entries = run.entries.items;
     } };
 
-    ghost invariant = { λ run. IsKept D.Disk R.Draws run.server run.members.all run.unread run.sent run.pushes.items run.entries.items };
+    ghost invariant = { λ run. IsKept D.Disk R.Draws run.server run.members.all run.unread run.sent run.pushes.items run.board run.entries.items };
 }
 
 impl<D: Disk, G: Signer, R: Draws> GroupRun<D, G, R> {
@@ -70,6 +72,7 @@ impl<D: Disk, G: Signer, R: Draws> GroupRun<D, G, R> {
             unread: _,
             sent: _,
             pushes: _,
+            board: _,
             entries,
         } = self;
         (entries.into_list(), server.close())

@@ -1,10 +1,11 @@
 //! The pushes that entries sent, by their numbers.
-ghost use Rattle.std.specs.Prelude.{◌≡◌, ◌+◌, ◌<◌, ◌≤◌, ◌^◌, List, ◌++◌, ◌∷◌, [], IfSome, option_copied, length};
+ghost use Rattle.std.specs.Prelude.{◌≡◌, ◌+◌, ◌*◌, ◌<◌, ◌≤◌, ◌^◌, true, if◌then◌else◌, List, ◌++◌, ◌∷◌, [], All, IfSome, count_by, drop, option_copied, length, take};
 ghost use Rattle.std.specs.Option.{option_map};
 ghost use Rattle.group_model.specs.declared.entries.Entry.{Entry};
 ghost use Rattle.server_steps.specs.Sent.{SentPush, last_push, pair_by, pushes_of};
 ghost use Rattle.sent_pushes.specs.Notes.{noted};
 ghost use Rattle.group_run.specs.Private.Noted.{AreNoted, WereSent, push_in};
+ghost use Rattle.group_run.specs.Private.Turned.{PushesFit, IsNoOpening, made_batch};
 
 use group_model::{Answer, Entry, Octets, PushPair};
 use sent_pushes::{SentPushes, a_noted_push_is_found};
@@ -54,6 +55,7 @@ pub(crate) fn note_pushes(pushes: &mut SentPushes, answer: &Answer, place: usize
         AreNoted pushes.new.items (entries ++ entry ∷ []) }
     ensures sent { (entries : List Entry) (entry : Entry) → entry.answer ≡ answer.now → length entries ≡ place → WereSent pushes.old.items entries →
         WereSent pushes.new.items (entries ++ entry ∷ []) }
+    ensures spare { pushes.old.spare ≤ pushes.new.spare + 2 }
 {
     a_noted_push_is_found();
     let Some(pair) = sent_by(answer) else {
@@ -66,8 +68,39 @@ pub(crate) fn note_pushes(pushes: &mut SentPushes, answer: &Answer, place: usize
 fn note_pair(pushes: &mut SentPushes, first: u32, place: usize)
     requires room { 2 ≤ pushes.old.spare }
     requires fits { first + 1 < 2 ^ 32 }
-    ensures { pushes.new.items ≡ noted (noted pushes.old.items first place) (first + 1) place }
+    ensures items { pushes.new.items ≡ noted (noted pushes.old.items first place) (first + 1) place }
+    ensures spare { pushes.old.spare ≤ pushes.new.spare + 2 }
 {
     pushes.note(first, place);
     pushes.note(first + 1, place);
+}
+
+/// Notes the pushes of all entries from this place on, none of which opened the group: there has to be room for two pushes of each batch. It takes
+/// no memory.
+pub(crate) fn note_turns(pushes: &mut SentPushes, entries: &[Entry], first: usize)
+    requires room { 2 * count_by made_batch (drop first entries.now) ≤ pushes.old.spare }
+    requires fits { All PushesFit (drop first entries.now) }
+    requires no_opening { All IsNoOpening (drop first entries.now) }
+    ensures noted { AreNoted pushes.old.items (take first entries.now) → AreNoted pushes.new.items entries.now }
+    ensures sent { WereSent pushes.old.items (take first entries.now) → WereSent pushes.new.items entries.now }
+{
+    for place in first..entries.len() {
+        note_turn(pushes, &entries[place], place);
+    }
+}
+
+/// Notes the pushes of the entry at this place, which opened nothing.
+fn note_turn(pushes: &mut SentPushes, entry: &Entry, place: usize)
+    requires room { made_batch entry.now ≡ true → 2 ≤ pushes.old.spare }
+    requires fits { PushesFit entry.now }
+    requires no_opening { IsNoOpening entry.now }
+    ensures noted { (entries : List Entry) → length entries ≡ place → AreNoted pushes.old.items entries →
+        AreNoted pushes.new.items (entries ++ entry.now ∷ []) }
+    ensures sent { (entries : List Entry) → length entries ≡ place → WereSent pushes.old.items entries →
+        WereSent pushes.new.items (entries ++ entry.now ∷ []) }
+    ensures spare { pushes.old.spare ≤ pushes.new.spare + (if made_batch entry.now then 2 else 0) }
+{
+    if let Answer::Batched { .. } = &entry.answer {
+        note_pushes(pushes, &entry.answer, place);
+    }
 }

@@ -38,7 +38,7 @@ impl Unread {
 }
 
 /// How many datagrams an entry sent.
-fn mail_count(entry: &Entry) -> usize
+pub(crate) fn mail_count(entry: &Entry) -> usize
     ensures { result ≡ length (mail_in entry.now) }
 {
     match &entry.asked {
@@ -49,7 +49,7 @@ fn mail_count(entry: &Entry) -> usize
 }
 
 /// The datagram at this place among all that an entry sent.
-fn mail_at(entry: &Entry, place: usize) -> Option<(MemberName, &Octets)>
+pub(crate) fn mail_at(entry: &Entry, place: usize) -> Option<(MemberName, &Octets)>
     ensures { option_map (λ mail. (mail.0, mail.1.now)) result ≡ slice_get (mail_in entry.now) place }
 {
     match &entry.asked {

@@ -21,7 +21,7 @@ use Rattle.member_pull.specs.Views.{Pull}
 use Rattle.member_pull.specs.declared.pulls.Step.{Step}
 use Rattle.member_pull.specs.declared.pulls.Step.TheVariants as steps
 use Rattle.member_store.specs.Stores.{Store, is_older}
-use Rattle.member_steps.specs.Acts.{Acts, Agrees, AreActs, BeginsPull, IsAct, IsFirstUse, IsIgnoring, Overtakes}
+use Rattle.member_steps.specs.Acts.{Acts, Agrees, AreActs, BeginsPull, ChangesLoss, IsAct, IsFirstUse, IsIgnoring, Overtakes}
 use Rattle.member_steps.specs.Members.{Mail, Members, with_all, with_mail_left}
 use Rattle.member_steps.specs.Steps.{Gets, Gives, IsKeeping, IsLosing, IsMemberStep, IsOld, TakesFourth, TakesReply}
 use Rattle.pull_msgs.specs.Fits.{PhaseFits}
@@ -194,6 +194,25 @@ module _ (block : ℕ → List ℕ) where
     mail = λ P all. all;
   })
 
+keeps_changed : (members : Members) (mail : List Mail) (change : Peer → Peer) (n : Name) → ((peer : Peer) → (change peer).phase ≡ peer.phase)
+    → ((peer : Peer) → (change peer).introduced ≡ peer.introduced) → ((peer : Peer) → PeerFits peer → PeerFits (change peer))
+    → ((P : Mail → Type 0) → All P members.mail → All P mail)
+    → MembersKeep members (with_mail_left (with_all members (changed change members.all n)) mail)
+keeps_changed members mail change n phase introduced fits =
+    keep_marks members (with_mail_left (with_all members (changed change members.all n)) mail) (changed_marks change phase n introduced members.all)
+    (changed_fits change fits members.all n)
+
+with_fit_loss : (loses : Bool) (peer : Peer) → PeerFits peer → PeerFits (record peer { loses = loses })
+with_fit_loss loses peer fit = record { phase = fit.phase; pull = fit.pull; sent = fit.sent }
+
+keeps_loss : (members : Members) (mail : List Mail) (m : Name) (loses : Bool) → ((P : Mail → Type 0) → All P members.mail → All P mail)
+    → MembersKeep members (with_mail_left (with_all members (with_loss members.all m loses)) mail)
+keeps_loss members mail m loses =
+    keeps_changed members mail (λ (peer : Peer). record peer { loses = loses }) m (λ peer. refl) (λ peer. refl) (with_fit_loss loses)
+
+keeps_changing : (old new : Members) → ChangesLoss old new → MembersKeep old new
+keeps_changing old new changes = subst (MembersKeep old) (sym changes.now) (keeps_loss old old.mail changes.m changes.loses (λ P all. all))
+
 module _ (block : ℕ → List ℕ) (group : Name) where
   keeps_begun : (m : Name) (old new : Members) → BeginsPull block group m old new → MembersKeep old new
   keeps_begun m old new begins =
@@ -217,7 +236,8 @@ module _ (block : ℕ → List ℕ) (group : Name) where
   keeps_act old new (inr (inl agrees)) = keeps_agreeing agrees.0 agrees.1 old new agrees.2
   keeps_act old new (inr (inr (inl used))) = keeps_used block used.0 old new used.1
   keeps_act old new (inr (inr (inr (inl begins)))) = keeps_begun begins.0 old new begins.1
-  keeps_act old new (inr (inr (inr (inr overtakes)))) = keeps_overtaking old new overtakes
+  keeps_act old new (inr (inr (inr (inr (inl overtakes))))) = keeps_overtaking old new overtakes
+  keeps_act old new (inr (inr (inr (inr (inr changes))))) = keeps_changing old new changes
 
   keeps_number : (n : ℕ) (old new : Members) → AreActs block group n old new → MembersKeep old new
   keeps_number zero old new same = keep_same old new same
@@ -229,24 +249,8 @@ module _ (block : ℕ → List ℕ) (group : Name) where
 
 -- ---- what members are asked to do
 
-keeps_changed : (members : Members) (mail : List Mail) (change : Peer → Peer) (n : Name) → ((peer : Peer) → (change peer).phase ≡ peer.phase)
-    → ((peer : Peer) → (change peer).introduced ≡ peer.introduced) → ((peer : Peer) → PeerFits peer → PeerFits (change peer))
-    → ((P : Mail → Type 0) → All P members.mail → All P mail)
-    → MembersKeep members (with_mail_left (with_all members (changed change members.all n)) mail)
-keeps_changed members mail change n phase introduced fits =
-    keep_marks members (with_mail_left (with_all members (changed change members.all n)) mail) (changed_marks change phase n introduced members.all)
-    (changed_fits change fits members.all n)
-
-with_fit_loss : (loses : Bool) (peer : Peer) → PeerFits peer → PeerFits (record peer { loses = loses })
-with_fit_loss loses peer fit = record { phase = fit.phase; pull = fit.pull; sent = fit.sent }
-
 with_fit_store : (store : Store) (peer : Peer) → PeerFits peer → PeerFits (record peer { store = Some store })
 with_fit_store store peer fit = record { phase = fit.phase; pull = fit.pull; sent = fit.sent }
-
-keeps_loss : (members : Members) (mail : List Mail) (m : Name) (loses : Bool) → ((P : Mail → Type 0) → All P members.mail → All P mail)
-    → MembersKeep members (with_mail_left (with_all members (with_loss members.all m loses)) mail)
-keeps_loss members mail m loses =
-    keeps_changed members mail (λ (peer : Peer). record peer { loses = loses }) m (λ peer. refl) (λ peer. refl) (with_fit_loss loses)
 
 keeps_store : (members : Members) (m : Name) (store : Store) → MembersKeep members (with_all members (with_store members.all m store))
 keeps_store members m store =

@@ -9,7 +9,7 @@ use Rattle.group_model.specs.Derivations.{replies_in}
 use Rattle.group_model.specs.declared.entries.Answer.{Answer}
 use Rattle.group_model.specs.declared.entries.Answer.TheVariants.{Done, Nothing}
 use Rattle.group_model.specs.declared.entries.Asked.{Asked}
-use Rattle.group_model.specs.declared.entries.Asked.TheVariants.{Again, Create, Begin, Keep, Deliver, Key, Derive, Lose}
+use Rattle.group_model.specs.declared.entries.Asked.TheVariants.{Again, Create, Begin, Keep, Deliver, Key, Derive, Lose, Now, Together, Together2}
 use Rattle.group_model.specs.declared.entries.Entry.{Entry}
 use Rattle.group_model.specs.declared.entries.Outside.{Outside}
 use Rattle.group_peers.specs.Peers.{put, store_of, was_introduced, with_loss}
@@ -105,6 +105,12 @@ module _ {D G V : Type 0} (on : Devices D G V) (by : Keying G) where
   host_step first before (Key m) run answer outside next step =
       inr (step.stays, silent_acting on.verifiers on.verifier (push_sent (first ∷ before)) (Key m) run.members answer next.members step.acted)
   host_step first before (Derive epoch members) run answer outside next step =
+      inr (ap (λ (given : Run D). given.host) step.stays, silent_as answer _ step.answers (refl, refl))
+  host_step first before Now run answer outside next step =
+      inr (ap (λ (given : Run D). given.host) step.stays, silent_as answer _ step.answers (refl, refl))
+  host_step first before (Together lines) run answer outside next step =
+      inr (ap (λ (given : Run D). given.host) step.stays, silent_as answer _ step.answers (refl, refl))
+  host_step first before Together2 run answer outside next step =
       inr (ap (λ (given : Run D). given.host) step.stays, silent_as answer _ step.answers (refl, refl))
   host_step first before asked run answer outside next step = inl step.served
 

@@ -12,7 +12,7 @@ use Rattle.group_model.specs.Laws.{Laws}
 use Rattle.group_model.specs.declared.entries.Answer.{Answer}
 use Rattle.group_model.specs.declared.entries.Answer.TheVariants.{Batched, Datagram}
 use Rattle.group_model.specs.declared.entries.Asked.{Asked}
-use Rattle.group_model.specs.declared.entries.Asked.TheVariants.{AddRule, Again, Batch, Begin, Create, Deliver, DeliverAll, Derive}
+use Rattle.group_model.specs.declared.entries.Asked.TheVariants.{AddRule, Again, Batch, Begin, Create, Deliver, DeliverAll, Derive, Now, Together, Together2}
 use Rattle.group_model.specs.declared.entries.Asked.TheVariants.{Halt, Introduce, Keep, Key, Leave, Lose, Reopen, Serve, Show}
 use Rattle.group_model.specs.declared.entries.Entry.{Entry}
 use Rattle.group_model.specs.declared.entries.Outside.{Outside}
@@ -279,6 +279,9 @@ module _ {D G V : Type 0} (laws : Laws) (stay : MessagesStay) (on : Devices D G 
     kept_answered first before (Key m) answer outside next ready keeps counts step =
         kept_acting (push_sent (first ∷ before)) (Key m) answer outside next step
     kept_answered first before (Derive epoch members) answer outside next ready keeps counts step = subst (IsKept kind) (sym step.stays) kept
+    kept_answered first before Now answer outside next ready keeps counts step = subst (IsKept kind) (sym step.stays) kept
+    kept_answered first before (Together lines) answer outside next ready keeps counts step = subst (IsKept kind) (sym step.stays) kept
+    kept_answered first before Together2 answer outside next ready keeps counts step = subst (IsKept kind) (sym step.stays) kept
     kept_answered first before asked answer outside next ready keeps counts step =
         kept_serving asked answer outside next ready (record { answered = step.served; keeps = keeps; counts = counts }) step.gets
 

@@ -6,7 +6,7 @@ use Rattle.gd_disk.specs.declared.disks.Disk.{Ghosts as DiskGhosts}
 use Rattle.gd_edges.specs.declared.signers.Signer.{Ghosts as SignerGhosts}
 use Rattle.group_model.specs.declared.entries.Answer.{Answer}
 use Rattle.group_model.specs.declared.entries.Asked.{Asked}
-use Rattle.group_model.specs.declared.entries.Asked.TheVariants.{Again, Begin, Create, Deliver, Derive, Introduce, Keep, Key, Lose, Serve}
+use Rattle.group_model.specs.declared.entries.Asked.TheVariants.{Again, Begin, Create, Deliver, Derive, Introduce, Keep, Key, Lose, Serve, Now, Together, Together2}
 use Rattle.group_model.specs.declared.entries.Entry.{Entry}
 use Rattle.group_model.specs.declared.entries.Outside.{Outside}
 use Rattle.server_steps.specs.Hosts.{Host}
@@ -49,6 +49,9 @@ module _ {D G V : Type 0} (on : Devices D G V) (by : Keying G) where
   answered before (Deliver m number) run answer outside next served gets = absurd served
   answered before (Key m) run answer outside next served gets = absurd served
   answered before (Derive epoch members) run answer outside next served gets = absurd served
+  answered before Now run answer outside next served gets = absurd served
+  answered before (Together lines) run answer outside next served gets = absurd served
+  answered before Together2 run answer outside next served gets = absurd served
   answered before asked run answer outside next served gets = record { served = served; gets = gets }
 
   pub run_steps : ServedAreRunSteps on by

@@ -12,5 +12,6 @@ pub mod Questions
 pub mod Runs
 pub mod Served
 pub mod ServedCrashes
+pub mod Shows
 pub mod Steps
 pub mod TrueSteps

@@ -8,7 +8,7 @@ use Rattle.gd_edges.specs.declared.signers.Signer.{Ghosts as SignerGhosts}
 use Rattle.group_model.specs.Answers.{BeginsWithOpening}
 use Rattle.group_model.specs.declared.entries.Answer.{Answer}
 use Rattle.group_model.specs.declared.entries.Asked.{Asked}
-use Rattle.group_model.specs.declared.entries.Asked.TheVariants.{Create, Begin, Lose, Again, Keep, Deliver, Key, Derive}
+use Rattle.group_model.specs.declared.entries.Asked.TheVariants.{Create, Begin, Lose, Again, Keep, Deliver, Key, Derive, Now, Together, Together2}
 use Rattle.group_model.specs.declared.entries.Entry.{Entry}
 use Rattle.group_model.specs.declared.entries.Outside.{Outside}
 use Rattle.server_steps.specs.Disks.{Counts}
@@ -23,7 +23,7 @@ use Rattle.member_steps.specs.Steps.{IsMemberStep}
 use Rattle.group_steps.specs.Chains.{Along}
 use Rattle.group_steps.specs.Devices.{Devices, Keying}
 use Rattle.group_steps.specs.Gets.{get}
-use Rattle.group_steps.specs.Questions.{IsQuestion}
+use Rattle.group_steps.specs.Questions.{IsLook, IsMark, IsQuestion}
 use Rattle.group_steps.specs.Runs.{Run, with_members}
 
 -- One entry is such a step. The disk stays as honest as it is, and a fault of it was counted exactly where the entry notes one.
@@ -72,6 +72,9 @@ module _ {D G V : Type 0} (on : Devices D G V) (by : Keying G) where
   IsAnswered before (Deliver m number) run answer outside next = IsMemberActing before (Deliver m number) run answer outside next
   IsAnswered before (Key m) run answer outside next = IsMemberActing before (Key m) run answer outside next
   IsAnswered before (Derive epoch members) run answer outside next = IsQuestion before epoch members run answer outside next
+  IsAnswered before Now run answer outside next = IsLook before run answer outside next
+  IsAnswered before (Together lines) run answer outside next = IsMark run answer outside next
+  IsAnswered before Together2 run answer outside next = IsMark run answer outside next
   IsAnswered before asked run answer outside next = IsServing on.disks on.signers by.signer by.block asked run answer outside next
 
   -- once the members acted so, an entry answers a request

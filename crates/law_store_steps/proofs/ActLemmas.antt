@@ -22,7 +22,7 @@ use Rattle.member_steps.specs.Steps.{GoesMissing, IsLosing}
 use Rattle.pull_msgs.specs.Fits.{MessageFits, PhaseFits}
 use Rattle.group_steps.specs.Gets.{get, introduced_by}
 use Rattle.group_steps.proofs.ActLemmas.{overtaken}
-use Rattle.law_store_steps.proofs.PeerLemmas.{all_changed, all_put, seen_new, seen_put, still_phase, there}
+use Rattle.law_store_steps.proofs.PeerLemmas.{all_changed, all_put, seen_changed, seen_new, seen_put, still_phase, there}
 
 -- one of two, by a test
 pub either_case : (b : Bool) (P Q R : Type 0) → MatchBool b P Q → (P → R) → (Q → R) → R
@@ -63,6 +63,16 @@ pub put_phases : (peers : List Peer) (name : Name) (peer after : Peer) → peer_
     → KeepPhases peers (put peers after)
 put_phases peers name peer after is phase m had has =
     seen_put phase_in peers name peer after is phase (ap (λ (phase : Phase1). Some phase) phase) m ∙ has
+
+-- stores do not depend on which datagrams are to go missing
+pub loss_stores : (peers : List Peer) (name : Name) (loses : Bool) (m : Name) → store_of (with_loss peers name loses) m ≡ store_of peers m
+loss_stores peers name loses m =
+    seen_changed store_in (λ (peer : Peer). record peer { loses = loses })
+    (λ peer. refl) (λ peer. refl) peers name m
+
+loss_phases : (peers : List Peer) (name : Name) (loses : Bool) → KeepPhases peers (with_loss peers name loses)
+loss_phases peers name loses m phase is =
+    seen_changed phase_in (λ (peer : Peer). record peer { loses = loses }) (λ peer. refl) (λ peer. refl) peers name m ∙ is
 
 same_stay : (old made new : Members) → new ≡ made → Stay old made → Stay old new
 same_stay old made new is stay = subst (λ (given : Members). Stay old given) (sym is) stay
@@ -108,13 +118,19 @@ module _ (block : ℕ → List ℕ) (group : Name) where
         phases = λ name had is. ap (λ peers. phase_of peers name) act.now ∙ put_phases old.all m act.peer act.after act.is_there phase name had is;
         mail = λ mail is. is;
       })
-  stay_act old new (inr (inr (inr (inr overtakes)))) =
+  stay_act old new (inr (inr (inr (inr (inl overtakes))))) =
       let were = overtaken (Contains old.mail) overtakes.passed overtakes.later overtakes.mail
       (subst (All (Contains old.mail)) overtakes.were (All-contains_itself old.mail)) in
       same_stay old _ new overtakes.now (record {
         stores = λ m. refl;
         phases = λ m phase is. is;
         mail = λ mail is. All-contains (Contains old.mail) (overtakes.mail ∷ (overtakes.passed ++ overtakes.later)) mail were is;
+      })
+  stay_act old new (inr (inr (inr (inr (inr changes))))) =
+      same_stay old _ new changes.now (record {
+        stores = loss_stores old.all changes.m changes.loses;
+        phases = loss_phases old.all changes.m changes.loses;
+        mail = λ mail is. is;
       })
 
   stay_acts : (n : ℕ) (old new : Members) → AreActs block group n old new → Stay old new
@@ -154,7 +170,9 @@ module _ (Q : Peer → Type 0) (kept : IsKept Q) where
       let act = begins.1.begins in
       same_all new _ begins.1.now (subst (All Q) (sym act.now) (all_put Q old.all act.after
       (kept.begun _ _ group act.peer act.after begins.1.message_fits act.begun (there Q old.all begins.0 act.peer all act.is_there)) all))
-  all_act block group old new all (inr (inr (inr (inr overtakes)))) = same_all new _ overtakes.now all
+  all_act block group old new all (inr (inr (inr (inr (inl overtakes))))) = same_all new _ overtakes.now all
+  all_act block group old new all (inr (inr (inr (inr (inr changes))))) =
+      same_all new _ changes.now (all_changed Q _ old.all changes.m (λ peer named holds. kept.losing peer changes.loses holds) all)
 
   all_acts : (block : ℕ → List ℕ) (group : Name) (n : ℕ) (old new : Members) → AllOf old → AreActs block group n old new → AllOf new
   all_acts block group zero old new all same = same_all new old same all

@@ -18,15 +18,9 @@ use Rattle.member_steps.specs.Steps.{GoesMissing, Gets, IsKeeping, IsOld, TakesF
 use Rattle.group_steps.specs.Runs.{Run}
 use Rattle.member_store.specs.Stores.{Store, is_older, root_epoch, store_of as store_made}
 use Rattle.law_store_steps.specs.Follow.{HasKeysThen, HasThen, IsKeptAt, IsOlder, IsToldKeys, KeepsItsStore, TakesOrLoses}
-use Rattle.law_store_steps.proofs.ActLemmas.{Stay, put_stores}
+use Rattle.law_store_steps.proofs.ActLemmas.{Stay, loss_stores, put_stores}
 use Rattle.law_store_steps.proofs.MailLemmas.{Tells}
-use Rattle.law_store_steps.proofs.PeerLemmas.{found_anew, found_named, found_peer, put_found, seen_changed}
-
--- stores do not depend on which datagrams are to go missing
-loss_stores : (peers : List Peer) (name : Name) (loses : Bool) (m : Name) → store_of (with_loss peers name loses) m ≡ store_of peers m
-loss_stores peers name loses m =
-    seen_changed (λ (found : Option Peer). option_and_then (λ (peer : Peer). peer.store) found) (λ (peer : Peer). record peer { loses = loses })
-    (λ peer. refl) (λ peer. refl) peers name m
+use Rattle.law_store_steps.proofs.PeerLemmas.{found_anew, found_named, found_peer, put_found}
 
 -- what a store refuses as older is older by what it says, and nothing else is
 module _ (store : Store) (keyed : Keyed) (says : SymReply) (number : keyed.sequence ≡ says.sequence) (at : keyed.epoch ≡ says.keyed_epoch) where

@@ -8,7 +8,7 @@ use Rattle.group_terms.specs.declared.paths.Keyed.{Keyed}
 use Rattle.group_terms.specs.declared.pushes.PushRefusal.{PushRefusal}
 use Rattle.group_model.specs.declared.entries.Answer.{Answer}
 use Rattle.group_model.specs.declared.entries.Asked.{Asked}
-use Rattle.group_model.specs.declared.entries.Asked.TheVariants.{Again, Begin, Create, Deliver, Derive, Keep, Key, Lose}
+use Rattle.group_model.specs.declared.entries.Asked.TheVariants.{Again, Begin, Create, Deliver, Derive, Keep, Key, Lose, Now, Together, Together2}
 use Rattle.group_model.specs.declared.entries.Entry.{Entry}
 use Rattle.group_model.specs.declared.entries.Outside.{Outside}
 use Rattle.group_peers.specs.declared.members.Peer.{Peer}
@@ -77,4 +77,7 @@ module _ (Q : Peer → Type 0) (kept : IsKept Q) where
     all_answered (Deliver m number) step = given m number all step.acted
     all_answered (Key m) step = same_all Q kept next.members run.members step.acted.1 all
     all_answered (Derive epoch members) step = subst (λ (given : Run D). All Q given.members.all) (sym step.stays) all
+    all_answered Now step = subst (λ (given : Run D). All Q given.members.all) (sym step.stays) all
+    all_answered (Together lines) step = subst (λ (given : Run D). All Q given.members.all) (sym step.stays) all
+    all_answered Together2 step = subst (λ (given : Run D). All Q given.members.all) (sym step.stays) all
     all_answered asked step = same_all Q kept next.members _ step.gets (all_get Q kept asked answer run.members all)

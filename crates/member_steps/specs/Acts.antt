@@ -1,11 +1,11 @@
 -- What members do of themselves: they send what they ask the server, and ignore a datagram that they do not wait for. And in which order datagrams come to
--- them.
-use Rattle.std.specs.Prelude.{◌≡◌, ◌⊎◌, ℕ, zero, suc, true, false, MatchBool, List, ◌∷◌, ◌++◌, Some}
+-- them, and whether they come.
+use Rattle.std.specs.Prelude.{◌≡◌, ◌⊎◌, ℕ, zero, suc, Bool, true, false, MatchBool, List, ◌∷◌, ◌++◌, Some}
 use Rattle.group_terms.specs.Names.{Name}
 use Rattle.group_values.specs.Drawing.{place_after}
 use Rattle.group_model.specs.declared.entries.Asked.{Asked}
 use Rattle.group_model.specs.declared.entries.Asked.TheVariants.{Introduce, Serve}
-use Rattle.group_peers.specs.Peers.{is_peer, peer_of, phase_of, put, sent_by, was_introduced, with_peer}
+use Rattle.group_peers.specs.Peers.{is_peer, peer_of, phase_of, put, sent_by, was_introduced, with_loss, with_peer}
 use Rattle.group_peers.specs.Pulls as pulls
 use Rattle.group_peers.specs.Pulls.{Begins, PassesOver}
 use Rattle.group_peers.specs.declared.members.Peer.{Peer}
@@ -60,6 +60,14 @@ pub record Overtakes (old new : Members) : Type 0 where
   pub were : old.mail ≡ passed ++ mail ∷ later
   pub now : new ≡ with_mail_left old (mail ∷ (passed ++ later))
 
+-- ---- whether they come
+
+-- Whether the next datagram to a member goes missing may change at any time, as over UDP.
+pub record ChangesLoss (old new : Members) : Type 0 where
+  pub m : Name
+  pub loses : Bool
+  pub now : new ≡ with_all old (with_loss old.all m loses)
+
 -- ---- what they begin, where draws have these blocks
 
 module _ (block : ℕ → List ℕ) where
@@ -89,14 +97,14 @@ module _ (block : ℕ → List ℕ) (group : Name) where
   IsAct old new =
       IsIgnoring old new
       ⊎ (((m : Name) × (third : List ℕ) × Agrees m third old new)
-      ⊎ (((m : Name) × IsFirstUse block m old new) ⊎ (((m : Name) × BeginsPull m old new) ⊎ Overtakes old new)))
+      ⊎ (((m : Name) × IsFirstUse block m old new) ⊎ (((m : Name) × BeginsPull m old new) ⊎ (Overtakes old new ⊎ ChangesLoss old new))))
 
   -- so many, one after the other
   abbrev pub AreActs : ℕ → Members → Members → Type 0
   AreActs zero old new = new ≡ old
   AreActs (suc n) old new = (mid : Members) × IsAct old mid × AreActs n mid new
 
-  -- members act, as often as they like, and datagrams come in any order
+  -- members act, as often as they like, and datagrams come in any order, or get lost
   abbrev pub Acts : Members → Members → Type 0
   Acts old new = (n : ℕ) × AreActs n old new
 

@@ -1,10 +1,11 @@
 //! The members of a group that runs.
 ghost use Rattle.std.specs.Prelude.{◌≡◌, ◌≤◌, ◌+◌, ℕ, true, false, [], List, Some, IfOk, OnErr, OnOk, IsTrue, option_copied};
 ghost use Rattle.group_values.specs.Drawing.{place_after};
-ghost use Rattle.group_peers.specs.Peers.{introduced, is_peer, phase_of, sent_by, store_of, was_introduced};
+ghost use Rattle.group_peers.specs.Lent.{Lends, with_back};
+ghost use Rattle.group_peers.specs.Peers.{AreOnce, changed, introduced, is_peer, phase_of, sent_by, store_of, was_introduced, with_loss};
 ghost use Rattle.member_steps.specs.Acts.{BeginsPull, IsFirstUse};
 ghost use Rattle.member_steps.specs.Keys.{key_of};
-ghost use Rattle.member_steps.specs.Members.{Mail};
+ghost use Rattle.member_steps.specs.Members.{Mail, with_all};
 ghost use Rattle.member_steps.specs.Mails.{TakesMail};
 ghost use Rattle.member_steps.specs.Steps.{IsDelivery, IsLosing, TakesReply};
 ghost use Rattle.member_store.specs.Stores.{IsReply};
@@ -15,7 +16,7 @@ use crate::came::Came;
 use crate::drawing::{draw_message, draw_nonce, draw_phase};
 use gd_edges::{Draws, Verifier};
 use group_model::{Answer, MemberName, NoMemory, Octets, Phase1};
-use group_peers::{Peers, Pulled, who_is_noted_is_a_peer};
+use group_peers::{Lent, Peers, Pulled, who_is_noted_is_a_peer};
 use group_terms::{GroupName, Keyed};
 use member_pull::what_a_pull_takes_makes_a_store;
 use member_store::{Older, Room};
@@ -153,6 +154,34 @@ impl Members {
         }
     }
 
+    /// Lets the next datagram to a member go missing, or come.
+    pub fn set_loss(&mut self, member: &MemberName, loses: bool)
+        ensures all { (mail : List Mail) →
+            members_with self.new mail ≡ with_all (members_with self.old mail) (with_loss self.old.all member.now loses) }
+        ensures spare { self.new.spare ≡ self.old.spare }
+    {
+        self.peers.lose(member, loses);
+    }
+
+    /// A member lends its pull and the datagram that it sent last, which it has no longer then; and whether the next datagram to it goes missing,
+    /// which stays. `None` exactly where it sent nothing, and then nothing changes. It takes no memory.
+    pub fn lend(&mut self, member: &MemberName) -> Option<Lent>
+        ensures lends { Lends self.old.all member.now result self.new.all }
+        ensures place { self.new.place ≡ self.old.place }
+        ensures spare { self.new.spare ≡ self.old.spare }
+    {
+        self.peers.lend(member)
+    }
+
+    /// A member has back what it lent, or what became of it. It takes no memory.
+    pub fn take_back(&mut self, member: &MemberName, lent: Lent)
+        ensures all { self.new.all ≡ changed (with_back lent) self.old.all member.now }
+        ensures place { self.new.place ≡ self.old.place }
+        ensures spare { self.new.spare ≡ self.old.spare }
+    {
+        self.peers.take_back(member, lent);
+    }
+
     /// What comes of the first datagram on its way, which is to this member: it goes missing, if that is due; or its pull takes it, or ignores it
     /// (RFC 6407 section 3.2).
     pub fn take(
@@ -224,6 +253,13 @@ impl Members {
             Some(store) => key_of(store),
             None => Answer::Nothing,
         }
+    }
+
+    /// No two of them have the same name.
+    pub fn prove_once(&self)
+        ensures { AreOnce self.now.all }
+    {
+        let _ = self.peers.len();
     }
 
     /// All of them, in their order.

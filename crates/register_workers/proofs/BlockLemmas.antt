@@ -13,7 +13,7 @@ use Rattle.server_steps.specs.Views.{View as ServerView}
 use Rattle.register_workers.specs.Blocks.{IsBlock, LeavesBlock, Worked, start_of}
 use Rattle.register_workers.specs.Private.Seating.{IsEnded, LeavesDesk}
 use Rattle.register_workers.specs.Private.Seats.{IsSinceIf}
-use Rattle.register_workers.specs.Shows.{pairs_shown}
+use Rattle.group_steps.specs.Shows.{pairs_shown}
 use Rattle.register_workers.specs.Views.{View}
 use Rattle.register_workers.specs.declared.lines.BlockLine.{BlockLine}
 

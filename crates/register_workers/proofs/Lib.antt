@@ -1,8 +1,14 @@
 mod BlockLemmas
 mod CrashLemmas
+mod EachLemmas
+mod FewLemmas
 mod GiveLemmas
 mod LineLemmas
+mod LookLemmas
+mod OwnLemmas
+mod PassingLemmas
 mod RunLemmas
 mod SeatLemmas
 mod SeatingLemmas
+mod SharedLemmas
 mod TurnLemmas

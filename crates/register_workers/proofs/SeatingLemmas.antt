@@ -19,7 +19,7 @@ use Rattle.register_workers.specs.Blocks.{Worked}
 use Rattle.register_workers.specs.Lines.{Becomes, IsReady}
 use Rattle.register_workers.specs.Private.Running.{HasRun, Worker}
 use Rattle.register_workers.specs.Private.Seating.{HasWork, HaveRun, IsEnded}
-use Rattle.register_workers.specs.Shows.{pairs_shown}
+use Rattle.group_steps.specs.Shows.{pairs_shown}
 use Rattle.register_workers.specs.Workers.{RanAll}
 use Rattle.register_workers.specs.declared.desk_books.OnBoard.{OnBoard}
 use Rattle.register_workers.specs.declared.lines.BlockAsk.{BlockAsk}

@@ -19,7 +19,7 @@ use Rattle.group_model.specs.declared.entries.SymReply.{SymReply}
 use Rattle.register_workers.specs.Lines.{Agrees, Comes, Ends, GoesOn, HadMemory, PassesOver, Sends, SendsThird}
 use Rattle.register_workers.specs.Private.Requests.{Tells, is_datagram, is_short}
 use Rattle.register_workers.specs.Private.Running.{ComesShort, IsOneTurn, IsTold, Moves, MovesBy, StopsInPull, UnlessShort}
-use Rattle.register_workers.specs.Shows.{pairs_shown}
+use Rattle.group_steps.specs.Shows.{pairs_shown}
 use Rattle.register_workers.specs.Workers.{LearnsBy, turns_in}
 use Rattle.register_workers.specs.declared.desk_books.OnBoard.{OnBoard}
 use Rattle.register_workers.specs.declared.lines.BlockLine.{BlockLine}
@@ -142,6 +142,7 @@ ends_without m (answers.Opened group resent) line turns new none ends = ends
 ends_without m (answers.Shown group) line turns new none ends = ends
 ends_without m (answers.Kept epoch) line turns new none ends = ends
 ends_without m answers.Lost line turns new none ends = ends
+ends_without m (answers.Pair epoch sequence) line turns new none ends = ends
 ends_without m (answers.Older last got) line turns new none ends = ends
 ends_without m (answers.TookRoot epoch) line turns new none ends = ends
 ends_without m (answers.TookTraffic epoch) line turns new none ends = ends

@@ -9,7 +9,7 @@ use Rattle.gd_edges.specs.declared.signers.Signer.{Ghosts as SignerGhosts}
 use Rattle.group_model.specs.declared.entries.Entry.{Entry}
 use Rattle.server_steps.specs.Serves.{IsSince, Start}
 use Rattle.work_shares.specs.Shares.{share}
-use Rattle.register_workers.specs.Shows.{pairs_shown}
+use Rattle.group_steps.specs.Shows.{pairs_shown}
 use Rattle.register_workers.specs.Views.{View}
 use Rattle.register_workers.specs.Workers.{RanAll}
 use Rattle.register_workers.specs.declared.lines.BlockLine.{BlockLine}

@@ -1,7 +1,9 @@
 pub mod Blocks
 pub mod Crashes
+pub mod FewTurns
 pub mod Lines
+pub mod LooksShown
+pub mod Own
 pub mod Private
-pub mod Shows
 pub mod Views
 pub mod Workers

@@ -5,7 +5,7 @@ use Rattle.epoch_board.specs.Pairs.{StartsWith, last_pair}
 use Rattle.epoch_board.specs.declared.pairs.Seen.{Seen}
 use Rattle.group_model.specs.declared.entries.Entry.{Entry}
 use Rattle.register_workers.specs.Lines.{Becomes}
-use Rattle.register_workers.specs.Shows.{pairs_shown}
+use Rattle.group_steps.specs.Shows.{pairs_shown}
 use Rattle.register_workers.specs.declared.lines.BlockAsk.{BlockAsk}
 use Rattle.register_workers.specs.declared.lines.BlockAsk.TheVariants.{Now}
 use Rattle.register_workers.specs.declared.lines.BlockLine.{BlockLine}

@@ -7,7 +7,7 @@ ghost use Rattle.register_workers.specs.Crashes.{SurvivesCrashes};
 ghost use Rattle.register_workers.specs.Lines.{IsReady};
 ghost use Rattle.register_workers.specs.Private.Seating.{LeavesDesk};
 ghost use Rattle.register_workers.specs.Private.Seats.{IsSinceIf};
-ghost use Rattle.register_workers.specs.Shows.{pairs_shown};
+ghost use Rattle.group_steps.specs.Shows.{pairs_shown};
 
 use crate::desk_books::{Began, DeskBook};
 use crate::seats::Rooms;

@@ -1,7 +1,7 @@
 //! A key server with its history.
 ghost use Rattle.std.specs.Prelude.{◌≡◌};
 ghost use Rattle.epoch_board.specs.Pairs.{StartsWith};
-ghost use Rattle.register_workers.specs.Shows.{pairs_shown};
+ghost use Rattle.group_steps.specs.Shows.{pairs_shown};
 
 use epoch_board::{BoardPass, EpochBoard, Publisher};
 use gd_disk::Disk;
@@ -22,7 +22,7 @@ pub struct Book<D: Disk, G: Signer, R: Draws> {
 
 impl<D: Disk, G: Signer, R: Draws> Model for Book<D, G, R> {
     ghost use Rattle.std.specs.Prelude.{◌≡◌};
-    ghost use Rattle.register_workers.specs.Shows.{pairs_shown};
+    ghost use Rattle.group_steps.specs.Shows.{pairs_shown};
     ghost use Rattle.register_workers.specs.Views.{View};
 
     ghost Value = { View D G R };

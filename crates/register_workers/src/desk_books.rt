@@ -1,7 +1,7 @@
 //! A book at a desk: the value that workers take turns at.
 ghost use Rattle.std.specs.Prelude.{◌≡◌, [], ◌∷◌, ◌++◌, length};
 ghost use Rattle.register_workers.specs.Private.Seats.{IsSinceIf};
-ghost use Rattle.register_workers.specs.Shows.{pairs_shown};
+ghost use Rattle.group_steps.specs.Shows.{pairs_shown};
 
 use crate::Book;
 use crate::requests::served;
@@ -117,8 +117,8 @@ impl<'a, D: Disk, G: Signer, R: Draws, M: Began<D, G, R>> DeskBook<'a, D, G, R, 
     }
 }
 
-/// Publishes what an answer shows of the epoch.
-fn publish(board: &EpochBoard, publisher: &mut Publisher, answer: &Answer)
+/// Publishes what an answer shows of the epoch: the pair of a batch that was made, or of a group that was opened.
+pub fn publish(board: &EpochBoard, publisher: &mut Publisher, answer: &Answer)
     requires { publisher.old.board ≡ board.now }
     ensures board { publisher.new.board ≡ publisher.old.board }
     ensures pairs { (entry : Entry) → entry.answer ≡ answer.now → publisher.new.published ≡ publisher.old.published ++ pairs_shown (entry ∷ []) }
@@ -131,6 +131,7 @@ fn publish(board: &EpochBoard, publisher: &mut Publisher, answer: &Answer)
         | Answer::Datagram { .. }
         | Answer::Queued
         | Answer::Shown { .. }
+        | Answer::Pair { .. }
         | Answer::Kept { .. }
         | Answer::Lost
         | Answer::Older { .. }
@@ -156,7 +157,7 @@ impl<D: Disk, G: Signer, R: Draws, M: Began<D, G, R>> Kept for DeskBook<'_, D, G
     ghost use Rattle.std.specs.Prelude.{◌≡◌, [], ◌∷◌, ◌++◌};
     ghost use Rattle.epoch_board.specs.Pairs.{StartsWith};
     ghost use Rattle.register_workers.specs.Private.Requests.{Tells, asked_of};
-    ghost use Rattle.register_workers.specs.Shows.{pairs_shown};
+    ghost use Rattle.group_steps.specs.Shows.{pairs_shown};
 
     ghost listed = { λ book. book.entries };
 

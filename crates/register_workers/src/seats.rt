@@ -6,7 +6,7 @@ ghost use Rattle.epoch_board.specs.Pairs.{StartsWith};
 ghost use Rattle.work_shares.specs.Shares.{rounds, share};
 ghost use Rattle.register_workers.specs.Private.Running.{IsFresh};
 ghost use Rattle.register_workers.specs.Private.Seating.{AreHands, HasWork, IsNewPass, IsRoomFor};
-ghost use Rattle.register_workers.specs.Shows.{pairs_shown};
+ghost use Rattle.group_steps.specs.Shows.{pairs_shown};
 
 use crate::desk_books::{Began, DeskBook};
 use crate::workers::{Floor, Worker};

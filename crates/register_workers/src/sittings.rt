@@ -7,7 +7,7 @@ ghost use Rattle.register_workers.specs.Lines.{IsReady};
 ghost use Rattle.register_workers.specs.Private.Running.{HasRun, IsFresh, Worker as WorkerView};
 ghost use Rattle.register_workers.specs.Private.Seating.{AreHands, HaveRun, IsEnded, IsNewPass, IsRoomFor};
 ghost use Rattle.register_workers.specs.Private.Seats.{IsSinceIf};
-ghost use Rattle.register_workers.specs.Shows.{pairs_shown};
+ghost use Rattle.group_steps.specs.Shows.{pairs_shown};
 ghost use Rattle.register_workers.specs.declared.lines.BlockLine.{BlockLine as Line};
 
 use crate::desk_books::{Began, DeskBook};

@@ -1,6 +1,5 @@
 //! How a run ends: its last line, and what is left of it.
 ghost use Rattle.std.specs.Prelude.{◌≡◌, []};
-ghost use Rattle.group_model.specs.Answers.{ran_out};
 ghost use Rattle.run_report.specs.declared.endings.Ending.TheVariants.{NoGroup};
 ghost use Rattle.run_report.specs.Ends.{RefusalEnds, ScriptEnds, UnopenedEnds, due_after};
 ghost use Rattle.run_report.specs.Reports.{LastLineEnds};
@@ -9,7 +8,7 @@ use crate::endings::Ending;
 use crate::report_sink::{put_lines, report};
 use crate::stops::Stop;
 use gd_edges::{Failed, Sink};
-use group_model::{Answer, Entry, List, NoMemory, Refusal};
+use group_model::{Entry, List, NoMemory};
 use script_text::end_line;
 use std::alloc::Global;
 
@@ -93,23 +92,11 @@ fn report_refusal<K: Sink>(alloc: Global, entry: &Entry, out: &mut K) -> Ending
 fn due_after(entry: &Entry) -> Ending
     ensures { result ≡ due_after entry.now.answer }
 {
-    if ran_out(entry) {
+    if entry.answer.ran_out() {
         Ending::Memory
     } else {
         Ending::NotOpened
     }
-}
-
-/// Whether memory ran out for what was asked.
-pub fn ran_out(entry: &Entry) -> bool
-    ensures { result ≡ ran_out entry.now.answer }
-{
-    matches!(
-        entry.answer,
-        Answer::Refused {
-            why: Refusal::NoMemory
-        }
-    )
 }
 
 /// Ends a run of words that ask for no group: the report is the last line.

@@ -14,9 +14,9 @@ use Rattle.group_model.specs.declared.entries.SentReply.{SentReply}
 use Rattle.group_model.specs.declared.entries.Standing.{Standing}
 use Rattle.group_model.specs.declared.entries.SymReply.{SymReply}
 use Rattle.group_model.specs.declared.entries.Asked.{Asked}
-use Rattle.group_model.specs.declared.entries.Asked.TheVariants.{AddRule, Create, Begin, Introduce, Serve, Leave, Batch, Halt, Reopen, Show, Lose, Again, Keep, Deliver, DeliverAll, Key, Derive}
+use Rattle.group_model.specs.declared.entries.Asked.TheVariants.{AddRule, Create, Begin, Introduce, Serve, Leave, Batch, Halt, Reopen, Show, Lose, Again, Keep, Deliver, DeliverAll, Key, Derive, Now, Together, Together2}
 use Rattle.group_model.specs.declared.entries.Answer.{Answer}
-use Rattle.group_model.specs.declared.entries.Answer.TheVariants.{RuleNumber, Datagram, Opened, Queued, Done, Nothing, Batched, Shown, Kept, Lost, Older, TookRoot, TookTraffic, PushRefused, KeyIs, Derived, Refused}
+use Rattle.group_model.specs.declared.entries.Answer.TheVariants.{RuleNumber, Datagram, Opened, Queued, Done, Nothing, Batched, Shown, Pair, Kept, Lost, Older, TookRoot, TookTraffic, PushRefused, KeyIs, Derived, Refused}
 use Rattle.group_model.specs.declared.entries.Refusal.{Refusal}
 use Rattle.group_model.specs.declared.entries.Refusal.TheVariants as refusals
 use Rattle.group_model.specs.declared.entries.Refusal.TheVariants.{NeedsReopen, UnknownPeer, WrongStep, BadHash, WrongGroup, Denied, NotMember, AlreadyPending, TreeFull, BatchFull, Spent, DiskFault, PhaseTaken, PhaseFull, NotAJournal, NoMemory}
@@ -241,6 +241,21 @@ abbrev pub derive_text : ℕ → List Name → Answer → List ℕ
 derive_text epoch members (Derived derived) = line_with (codes "derive" ∷ decimal epoch ∷ (members ++ derived_word derived ∷ []))
 derive_text epoch members answer = []
 
+-- the epoch that the group is at, and the number of its last push
+abbrev pub now_text : Answer → List ℕ
+now_text (Pair epoch sequence) = line_with (codes "now" ∷ codes "epoch" ∷ decimal epoch ∷ codes "sequence" ∷ decimal sequence ∷ [])
+now_text answer = []
+
+-- how many lines a block has
+abbrev pub together_text : ℕ → Answer → List ℕ
+together_text lines Done = line_with (codes "together" ∷ decimal lines ∷ [])
+together_text lines answer = []
+
+-- all of them were run
+abbrev pub together2_text : Answer → List ℕ
+together2_text Done = line_with (codes "together" ∷ codes "done" ∷ [])
+together2_text answer = []
+
 -- what is reported of an answer, by what was asked
 abbrev pub answer_text : Asked → Answer → List ℕ
 answer_text (Create depth) answer = create_text depth answer
@@ -260,6 +275,9 @@ answer_text (Deliver m sequence) answer = deliver_text m sequence answer
 answer_text DeliverAll answer = deliver_all_text answer
 answer_text (Key m) answer = fingerprint_text m answer
 answer_text (Derive epoch members) answer = derive_text epoch members answer
+answer_text Now answer = now_text answer
+answer_text (Together lines) answer = together_text lines answer
+answer_text Together2 answer = together2_text answer
 
 -- what is reported of an entry; where its answer is none that the request can have, no line
 unfoldable pub entry_text : Entry → List ℕ

@@ -7,6 +7,7 @@ pub use numbers::{append_number, append_place, read_decimal, read_decimal_to};
 pub use pushes::append_hex;
 pub use reports::report_entry;
 
+mod blocks;
 mod changes;
 mod derivations;
 mod ends;

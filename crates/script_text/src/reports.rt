@@ -2,6 +2,7 @@
 ghost use Rattle.std.specs.Prelude.{◌≡◌, ◌++◌, OnOk, OnErr};
 ghost use Rattle.script_text.specs.Report.{entry_text, answer_text};
 
+use crate::blocks::{append_now, append_together, append_together2};
 use crate::changes::{append_batch, append_leave};
 use crate::derivations::append_derive;
 use crate::messages::{append_again, append_introduction, append_lose, append_rule, append_serve};
@@ -44,5 +45,8 @@ fn append_answer(asked: &Asked, answer: &Answer, out: &mut Octets) -> Result<(),
         Asked::DeliverAll => append_deliver_all(answer, out),
         Asked::Key { member } => append_fingerprint(member, answer, out),
         Asked::Derive { epoch, members } => append_derive(*epoch, members, answer, out),
+        Asked::Now => append_now(answer, out),
+        Asked::Together { lines } => append_together(*lines, answer, out),
+        Asked::Together2 => append_together2(answer, out),
     }
 }

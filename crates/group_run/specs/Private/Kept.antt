@@ -7,7 +7,9 @@ use Rattle.group_model.specs.declared.entries.Entry.{Entry}
 use Rattle.group_peers.specs.Peers.{is_peer}
 use Rattle.group_peers.specs.declared.members.Peer.{Peer}
 use Rattle.group_run.specs.Mails.{mail_in, mail_since}
+use Rattle.group_run.specs.Private.Boards.{IsShown}
 use Rattle.group_run.specs.Private.Noted.{AreNoted, WereSent}
+use Rattle.group_run.specs.declared.boards.Board.{Board}
 use Rattle.group_run.specs.declared.unread.Unread.{Unread}
 use Rattle.member_steps.specs.Members.{Mail, Members}
 use Rattle.member_steps.specs.Views.{View as MemberView, members_with}
@@ -45,9 +47,9 @@ abbrev pub IsOwn : List Peer → Sa → Type 0
 IsOwn peers sa = is_peer peers sa.phase.member ≡ true
 
 -- The server is that of a host, whose SAs are of peers, and what is on its way goes to peers. What was sent is known of a beginning of the history. Each push
--- of it is noted, and no other.
+-- of it is noted, and no other. The board shows a beginning of the history.
 pub record IsKept {D G R : Type 0} (d : DiskGhosts D) (draws : DrawGhosts R) (server : ServerView D G R) (peers : List Peer) (unread : Unread) (sent : Known)
-    (notes : List Note) (entries : List Entry) : Type 0 where
+    (notes : List Note) (board : Board) (entries : List Entry) : Type 0 where
   pub host : Host D
   pub is_on : IsServerOf d draws server host
   pub own : All (IsOwn peers) host.sessions.sas
@@ -55,3 +57,4 @@ pub record IsKept {D G R : Type 0} (d : DiskGhosts D) (draws : DrawGhosts R) (se
   pub knows : Knows sent entries
   pub noted : AreNoted notes entries
   pub sent_before : WereSent notes entries
+  pub shown : IsShown board entries

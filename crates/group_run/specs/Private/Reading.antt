@@ -1,5 +1,5 @@
 -- What comes of what is on its way.
-use Rattle.std.specs.Prelude.{◌≡◌, ℕ, List}
+use Rattle.std.specs.Prelude.{ℕ, List}
 use Rattle.member_steps.specs.Acts.{Agrees, Ignores}
 use Rattle.member_steps.specs.Members.{Members}
 use Rattle.member_steps.specs.Steps.{IsKeeping}

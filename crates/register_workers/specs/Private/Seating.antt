@@ -9,7 +9,7 @@ use Rattle.work_shares.specs.Shares.{rounds, share}
 use Rattle.register_workers.specs.Blocks.{Worked}
 use Rattle.register_workers.specs.Lines.{IsReady}
 use Rattle.register_workers.specs.Private.Running.{Worker}
-use Rattle.register_workers.specs.Shows.{pairs_shown}
+use Rattle.group_steps.specs.Shows.{pairs_shown}
 use Rattle.register_workers.specs.Views.{View}
 use Rattle.register_workers.specs.Workers.{RanAll}
 use Rattle.register_workers.specs.declared.desk_books.OnBoard.{OnBoard}

@@ -8,7 +8,7 @@ use Rattle.gd_edges.specs.declared.signers.Signer.{Ghosts as SignerGhosts}
 use Rattle.group_model.specs.declared.entries.Entry.{Entry}
 use Rattle.server_steps.specs.Serves.{IsSince, Start}
 use Rattle.server_steps.specs.Views.{View as ServerView}
-use Rattle.register_workers.specs.Shows.{pairs_shown}
+use Rattle.group_steps.specs.Shows.{pairs_shown}
 
 -- the server, the board on which it publishes, what was published, the history, for how many more entries there is room, and how many there were at the start
 pub record Seated (D G R : Type 0) : Type 0 where

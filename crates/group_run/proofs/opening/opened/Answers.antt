@@ -5,7 +5,7 @@ use Rattle.group_model.specs.declared.entries.Entry.{Entry}
 use Rattle.pull_sessions.specs.Sessions.{Sessions}
 use Rattle.group_run.specs.Mails.{mail_in, mail_since}
 use Rattle.group_run.specs.Private.Kept.{GoesToPeer, IsKept, IsOwn}
-use Rattle.group_run.proofs.KeptLemmas.{none_noted, none_sent}
+use Rattle.group_run.proofs.KeptLemmas.{none_noted, none_sent, shown_more}
 use Rattle.group_run.proofs.opening.opened.Goals as goal
 
 pub invariant_of-result : goal.invariant_of-result
@@ -18,7 +18,7 @@ invariant_of-result g c =
     let alone : c.add.new.self.items ≡ entry ∷ [] = c.add.ensures.items ∙ ap (λ front. front ++ entry ∷ []) ready.no_entries in
     let silent : mail_since (entry ∷ []) 0 0 ≡ [] = append-nil (mail_in entry) ∙ ap mail_in c.entry.ensures ∙ c.requires.silent in
     let none = ap (λ (sessions : Sessions). sessions.sas) c.requires.host.1.sessions ∙ c.requires.nobody in
-    subst (IsKept g.D.Disk g.R.Draws server nobody (record { place = 0; taken = 0 }) c.new-sent.result c.note_pushes.new.pushes.items) (sym alone) (record {
+    subst (IsKept g.D.Disk g.R.Draws server nobody (record { place = 0; taken = 0 }) c.new-sent.result c.note_pushes.new.pushes.items ready.board) (sym alone) (record {
       host = c.requires.host.0;
       is_on = c.requires.host.1;
       own = subst (All (IsOwn nobody)) (sym none) (All-nil (IsOwn nobody));
@@ -29,6 +29,7 @@ invariant_of-result g c =
       knows = c.new-sent.ensures (entry ∷ []);
       noted = c.note_pushes.ensures.noted [] entry same refl (none_noted ready.pushes.items ready.no_pushes);
       sent_before = c.note_pushes.ensures.sent [] entry same refl (none_sent ready.pushes.items ready.no_pushes);
+      shown = shown_more ready.board [] (entry ∷ []) ready.nothing_shown;
     })
 
 pub returns : goal.returns

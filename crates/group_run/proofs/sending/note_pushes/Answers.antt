@@ -15,12 +15,12 @@ pub returns-clause-noted : goal.returns-clause-noted
 returns-clause-noted c entries entry same at noted =
     let pair = c.in-Some.pair.now in
     let notes = c.args.pushes.now.items in
-    subst (λ new. AreNoted new (entries ++ entry ∷ [])) (ap (with_pair notes pair) at ∙ sym c.note_pair.ensures)
+    subst (λ new. AreNoted new (entries ++ entry ∷ [])) (ap (with_pair notes pair) at ∙ sym c.note_pair.ensures.items)
     (noted_more c.a_noted_push_is_found.ensures notes entries entry pair (ap pair_by same ∙ sym c.in-Some.ensures) noted)
 
 pub returns-clause-sent : goal.returns-clause-sent
 returns-clause-sent c entries entry same at sent =
     let pair = c.in-Some.pair.now in
     let notes = c.args.pushes.now.items in
-    subst (λ new. WereSent new (entries ++ entry ∷ [])) (sym c.note_pair.ensures)
+    subst (λ new. WereSent new (entries ++ entry ∷ [])) (sym c.note_pair.ensures.items)
     (sent_more notes entries entry pair c.args.place (ap pair_by same ∙ sym c.in-Some.ensures) sent)

@@ -6,7 +6,7 @@ use Rattle.group_model.specs.declared.entries.Entry.{Entry}
 use Rattle.work_shares.specs.Shares.{rounds}
 use Rattle.register_workers.specs.Private.Seating.{AreHands, IsNewPass, IsRoomFor, LeavesDesk}
 use Rattle.register_workers.specs.Private.Seats.{Seated}
-use Rattle.register_workers.specs.Shows.{pairs_shown}
+use Rattle.group_steps.specs.Shows.{pairs_shown}
 use Rattle.register_workers.specs.declared.desk_books.OnBoard.{OnBoard}
 use Rattle.register_workers.specs.declared.lines.BlockLine.{BlockLine}
 use Rattle.register_workers.proofs.BlockLemmas.{told_at_desk}

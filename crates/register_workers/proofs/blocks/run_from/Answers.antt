@@ -3,7 +3,7 @@ use Rattle.epoch_board.specs.Pairs.{StartsWith}
 use Rattle.epoch_board.specs.Passes.{PassState}
 use Rattle.register_workers.specs.Private.Seating.{LeavesDesk}
 use Rattle.register_workers.specs.Private.Seats.{IsSinceIf}
-use Rattle.register_workers.specs.Shows.{pairs_shown}
+use Rattle.group_steps.specs.Shows.{pairs_shown}
 use Rattle.register_workers.specs.Views.{View}
 use Rattle.register_workers.proofs.BlockLemmas.{begins_now, leaves}
 use Rattle.register_workers.proofs.CrashLemmas.{survives}

@@ -3,7 +3,7 @@ use Rattle.std.proofs.lemmas.List.{length-append, nil_from_length}
 use Rattle.std.proofs.lemmas.List.Elements.{All-nil, All-pop, All-push, All-same}
 use Rattle.epoch_board.specs.Pairs.{StartsWith}
 use Rattle.epoch_board.specs.Passes.{PassState}
-use Rattle.register_workers.specs.Shows.{pairs_shown}
+use Rattle.group_steps.specs.Shows.{pairs_shown}
 use Rattle.register_workers.proofs.seats.show_all.Goals as goal
 
 pub loop-reader-init : goal.loop-reader-init

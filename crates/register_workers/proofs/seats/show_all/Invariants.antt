@@ -1,7 +1,7 @@
 use Rattle.std.proofs.Common.{◌≡◌, length, All}
 use Rattle.epoch_board.specs.Pairs.{StartsWith}
 use Rattle.epoch_board.specs.Passes.{PassState}
-use Rattle.register_workers.specs.Shows.{pairs_shown}
+use Rattle.group_steps.specs.Shows.{pairs_shown}
 use Rattle.register_workers.proofs.seats.show_all.Given as goal
 
 -- all of them had seen a first part, if those had that are left

@@ -9,7 +9,7 @@ use Rattle.group_model.specs.declared.entries.Entry.{Entry}
 use Rattle.work_shares.specs.Shares.{share}
 use Rattle.register_workers.specs.Private.Running.{Worker}
 use Rattle.register_workers.specs.Private.Seats.{IsSinceIf}
-use Rattle.register_workers.specs.Shows.{pairs_shown}
+use Rattle.group_steps.specs.Shows.{pairs_shown}
 use Rattle.register_workers.specs.Views.{View}
 use Rattle.register_workers.specs.declared.desk_books.OnBoard.{OnBoard}
 use Rattle.register_workers.specs.declared.lines.BlockLine.{BlockLine}

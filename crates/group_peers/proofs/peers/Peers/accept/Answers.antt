@@ -14,7 +14,8 @@ invariant_of-self g c =
     let at = c.give_at.ensures.step in
     let was = c.self.inside.list.items in
     let place = c.in-Some.place in
-    invariant_stays was c.give_at.new.peers.items place (record (get_or was place no_peer) { store = at.kept }) c.self.inside.names.keys at.is refl c.self.invariant
+    invariant_stays was c.give_at.new.peers.items place (record (get_or was place no_peer) { store = at.kept }) c.self.inside.names.keys at.is refl
+    (λ both. both) c.self.invariant
 
 pub returns-in-Some-clause-step : goal.returns-in-Some-clause-step
 returns-in-Some-clause-step g c =

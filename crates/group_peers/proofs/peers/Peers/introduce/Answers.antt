@@ -13,7 +13,8 @@ invariant_of-self c =
     let was = c.self.inside.list.items in
     let place = c.in-Some.place in
     let after = record (get_or was place no_peer) { introduced = true } in
-    invariant_stays was c.introduce_at.new.peers.items place after c.self.inside.names.keys c.introduce_at.ensures.items refl c.self.invariant
+    invariant_stays was c.introduce_at.new.peers.items place after c.self.inside.names.keys c.introduce_at.ensures.items refl
+    (λ both. both) c.self.invariant
 
 pub returns-in-Some-clause-items : goal.returns-in-Some-clause-items
 returns-in-Some-clause-items c =

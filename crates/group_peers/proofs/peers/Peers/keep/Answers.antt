@@ -17,7 +17,7 @@ invariant_of-self c =
     let was = c.self.inside.list.items in
     let place = c.unwrap-place.result in
     invariant_stays was c.keep_at.new.peers.items place (record (get_or was place no_peer) { store = Some at.store }) c.self.inside.names.keys at.is refl
-    c.self.invariant
+    (λ both. both) c.self.invariant
 
 pub returns-clause-keeps : goal.returns-clause-keeps
 returns-clause-keeps c =

@@ -6,7 +6,7 @@ use Rattle.group_peers.specs.declared.members.Peer.{Peer}
 use Rattle.group_peers.specs.Peers.{is_named}
 use Rattle.group_peers.specs.Private.Places.{no_peer}
 use Rattle.group_peers.specs.Pulls.{Takes}
-use Rattle.group_peers.proofs.StepLemmas.{failed_there, ignored_there, invariant_stays, same_phase, takes_named}
+use Rattle.group_peers.proofs.StepLemmas.{both_taken, failed_there, ignored_there, invariant_stays, same_phase, takes_named}
 use Rattle.group_peers.proofs.peers.Peers.take.Goals as goal
 
 pub unwrap-place-requires : goal.unwrap-place-requires
@@ -18,7 +18,8 @@ invariant_of-self c =
     let was = c.self.inside.list.items in
     let place = c.unwrap-place.result in
     invariant_stays was c.take_at.new.peers.items place at.after c.self.inside.names.keys at.is
-    (same_phase c.args.datagram.now (get_or was place no_peer) at.after c.take_at.result at.takes) c.self.invariant
+    (same_phase c.args.datagram.now (get_or was place no_peer) at.after c.take_at.result at.takes)
+    (both_taken c.args.datagram.now (get_or was place no_peer) at.after c.take_at.result at.takes) c.self.invariant
 
 pub returns-clause-takes : goal.returns-clause-takes
 returns-clause-takes c =

@@ -17,7 +17,7 @@ pub invariant_of-self-in_err-send : goal.invariant_of-self-in_err-send
 invariant_of-self-in_err-send g c =
     let run = c.self.inside in
     let begun = c.begin_pull.new.self in
-    subst (λ server. IsKept g.D.Disk g.R.Draws server begun.all run.unread run.sent run.pushes.items c.send.new.entries.items)
+    subst (λ server. IsKept g.D.Disk g.R.Draws server begun.all run.unread run.sent run.pushes.items run.board c.send.new.entries.items)
     (sym c.in_err-send.ensures.server)
     (kept_as g.D.Disk g.R.Draws (c.in_err-send.ensures.entries ∙ c.in_ok-reserve.ensures.items)
     (kept_peers g.D.Disk g.R.Draws (keeps_same (has_begun (c.in_ok-begin_pull.ensures.begins [])).same) c.self.invariant))

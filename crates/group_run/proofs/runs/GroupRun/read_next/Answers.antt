@@ -1,5 +1,5 @@
 use Rattle.std.proofs.Common.{◌≡◌, ◌∙◌, inl, inr, IsSome, List, refl, sym, ap, subst}
-use Rattle.group_model.specs.declared.entries.Asked.TheVariants.{Keep, Serve}
+use Rattle.group_model.specs.declared.entries.Asked.TheVariants.{Serve}
 use Rattle.group_model.specs.declared.entries.Entry.{Entry}
 use Rattle.member_steps.specs.Acts.{Ignores}
 use Rattle.member_steps.specs.Members.{Members}
@@ -42,7 +42,7 @@ pub invariant_of-self-in_err-send-in-Sends : goal.invariant_of-self-in_err-send-
 invariant_of-self-in_err-send-in-Sends g c =
     let same = c.items.ensures ∙ c.in_ok-reserve.ensures.items in
     let run = c.self.inside in
-    subst (λ server. IsKept g.D.Disk g.R.Draws server c.read_mail.new.members.all c.read_mail.new.unread run.sent run.pushes.items c.send.new.entries.items)
+    subst (λ server. IsKept g.D.Disk g.R.Draws server c.read_mail.new.members.all c.read_mail.new.unread run.sent run.pushes.items run.board c.send.new.entries.items)
     (sym c.in_err-send-in-Sends.ensures.server)
     (kept_as g.D.Disk g.R.Draws (c.in_err-send-in-Sends.ensures.entries ∙ c.in_ok-reserve.ensures.items)
     (kept_read g.D.Disk g.R.Draws (named_as c.in_ok-read.ensures.peers)

@@ -30,7 +30,7 @@ invariant_of-self-2 g c =
     c.in_ok-reserve-2.ensures.items (c.items.ensures ∙ c.in_ok-reserve.ensures.items)
     c.note_pushes.ensures.noted c.note_pushes.ensures.sent c.self.invariant in
     subst (λ (looked : List Entry). IsKept g.D.Disk g.R.Draws c.reopen-reopened.new.self run.members.all (record { place = length looked; taken = 0 }) run.sent
-    c.note_pushes.new.pushes.items c.add.new.self.items) (sym c.items-2.ensures) (kept_at_rest g.D.Disk g.R.Draws kept)
+    c.note_pushes.new.pushes.items run.board c.add.new.self.items) (sym c.items-2.ensures) (kept_at_rest g.D.Disk g.R.Draws kept)
 
 pub returns-clause-ok : goal.returns-clause-ok
 returns-clause-ok g c =

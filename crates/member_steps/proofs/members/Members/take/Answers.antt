@@ -1,4 +1,4 @@
-use Rattle.std.proofs.Common.{◌∙◌, ◌∷◌, Ok, false, refl, subst, sym}
+use Rattle.std.proofs.Common.{◌∙◌, ◌∷◌, Ok, refl, subst, sym}
 use Rattle.group_peers.specs.Pulls.{Takes}
 use Rattle.member_steps.specs.Steps.{IsKeeping}
 use Rattle.member_steps.specs.Views.{members_with}

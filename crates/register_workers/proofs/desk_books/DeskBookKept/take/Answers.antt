@@ -4,7 +4,7 @@ use Rattle.group_model.specs.declared.entries.Entry.{Entry}
 use Rattle.server_steps.specs.Entries.{noted}
 use Rattle.register_workers.specs.Private.Requests.{Tells, asked_of}
 use Rattle.register_workers.specs.Private.Seats.{Seated}
-use Rattle.register_workers.specs.Shows.{pair_shown, pairs_shown}
+use Rattle.group_steps.specs.Shows.{pair_shown, pairs_shown}
 use Rattle.register_workers.proofs.SeatLemmas.{since_more}
 use Rattle.register_workers.proofs.desk_books.DeskBookKept.take.Goals as goal
 
