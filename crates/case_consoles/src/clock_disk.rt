@@ -5,7 +5,7 @@ ghost use Rattle.group_terms.specs.Faults.{Rose};
 use gd_disk::{Disk, Failed, MemDisk};
 use group_terms::{List, NoMemory, counted_on};
 use std::alloc::Global;
-use std::cell::Cell;
+use std::sync::atomic::{AtomicUsize, Ordering};
 use tree_store::TreeStore;
 
 /// More batches than any journal of the trials has.
@@ -16,7 +16,7 @@ const MOST_BATCHES: usize = 8;
 pub(crate) struct ClockDisk<'a> {
     pub(crate) alloc: Global,
     pub(crate) disk: MemDisk,
-    pub(crate) clock: &'a Cell<usize>,
+    pub(crate) clock: &'a AtomicUsize,
     pub(crate) faults: u64,
 }
 
@@ -79,7 +79,7 @@ impl Disk for ClockDisk<'_> {
     fn sync(&mut self) -> Result<(), Failed> {
         match batches_in(self.alloc, self.disk.image()) {
             Ok(count) => {
-                self.clock.set(count);
+                self.clock.store(count, Ordering::SeqCst);
                 Ok(())
             }
             Err(NoMemory) => Err(self.fail()),

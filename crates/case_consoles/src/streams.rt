@@ -1,8 +1,8 @@
 //! A reader and a writer that fail after any number of octets.
 
-use std::cell::Cell;
 use std::io;
 use std::io::{ErrorKind, Read, Write};
+use std::sync::atomic::{AtomicUsize, Ordering};
 
 /// A reader that gives at most so many octets a call, and fails when no call is left.
 #[derive(Drop)]
@@ -36,7 +36,7 @@ pub(crate) struct OctetByOctet<'a> {
     pub(crate) counted: &'a [u8],
     pub(crate) lines: usize,
     pub(crate) in_time: bool,
-    pub(crate) clock: &'a Cell<usize>,
+    pub(crate) clock: &'a AtomicUsize,
 }
 
 impl Write for OctetByOctet<'_> {
@@ -47,7 +47,7 @@ impl Write for OctetByOctet<'_> {
         self.calls_left -= 1;
         if buf.starts_with(self.counted) {
             self.lines = self.lines.saturating_add(1);
-            self.in_time &= self.clock.get() == self.lines;
+            self.in_time &= self.clock.load(Ordering::SeqCst) == self.lines;
         }
         self.is_due &= self.due.first() == buf.first();
         self.due = self.due.get(1..).unwrap_or_default();

@@ -39,11 +39,12 @@ unfolding rules
 defaults_added rows =
     let after_open = with_default rows (flag (codes "open")) in
     let after_new = with_default after_open (number (codes "new")) in
-    let after_limit = with_default after_new (number (codes "limit")) in
+    let after_soak = with_default after_new (number (codes "soak")) in
+    let after_limit = with_default after_soak (number (codes "limit")) in
     let after_seed = with_default after_limit (number (codes "seed")) in
     let after_workers = with_default after_seed (number (codes "workers")) in
     no_default after_workers help refl ∙ no_default after_seed (number (codes "workers")) refl ∙ no_default after_limit (number (codes "seed")) refl
-    ∙ no_default after_new (number (codes "limit")) refl ∙ no_default after_open (number (codes "new")) refl
+    ∙ no_default after_soak (number (codes "limit")) refl ∙ no_default after_new (number (codes "soak")) refl ∙ no_default after_open (number (codes "new")) refl
 
 find_end : (p : Row → Bool) (rows : List Row) (row : Row) → p row ≡ false → find p (rows ++ row ∷ []) ≡ find p rows
 find_end p [] row miss = rw miss refl
@@ -67,9 +68,9 @@ open_default name rows miss = elim (cases_Bool (has_row (codes "open") rows)) [
 
 -- ---- the whole command line
 
-same_texts : (f g : Text → Option Text) → f (codes "new") ≡ g (codes "new") → f (codes "limit") ≡ g (codes "limit") → f (codes "seed") ≡ g (codes "seed")
-    → f (codes "workers") ≡ g (codes "workers") → command_given f ≡ command_given g
-same_texts f g new limit seed workers = rw (new, limit, seed, workers) refl
+same_texts : (f g : Text → Option Text) → f (codes "new") ≡ g (codes "new") → f (codes "soak") ≡ g (codes "soak") → f (codes "limit") ≡ g (codes "limit")
+    → f (codes "seed") ≡ g (codes "seed") → f (codes "workers") ≡ g (codes "workers") → command_given f ≡ command_given g
+same_texts f g new soak limit seed workers = rw (new, soak, limit, seed, workers) refl
 
 four : (a b c d : Bool) → a ≡ true → b ≡ true → c ≡ true → d ≡ true → (a && (b && (c && d))) ≡ true
 four a b c d first second third fourth = and_from a _ first (and_from b _ second (and_from c d third fourth))
@@ -106,8 +107,8 @@ accepted_as words arguments command is h =
       taken = and_from _ _ simple_is (ap (λ (app : App). built_takes app nothing_held words) built_is ∙ level);
       says = ap (λ rows. command_given (λ name. first_of name rows)) found
           ∙ same_texts (λ name. first_of name (with_default all.rows (flag (codes "open")))) (λ name. first_of name all.rows)
-          (open_default (codes "new") all.rows refl) (open_default (codes "limit") all.rows refl) (open_default (codes "seed") all.rows refl)
-          (open_default (codes "workers") all.rows refl)
+          (open_default (codes "new") all.rows refl) (open_default (codes "soak") all.rows refl) (open_default (codes "limit") all.rows refl)
+          (open_default (codes "seed") all.rows refl) (open_default (codes "workers") all.rows refl)
           ∙ say.says;
     }
 
@@ -125,8 +126,8 @@ pub says_so : (words : List Text) (command : Command) (found : Found) → comman
     → command_given (λ name. first_value found name) ≡ Some command
 says_so words command found asked rows =
     same_texts (λ name. first_value found name) (λ name. first_of name (matches_of program words))
-    (first_value-rows found (codes "new") ∙ ap (first_of (codes "new")) rows) (first_value-rows found (codes "limit") ∙ ap (first_of (codes "limit")) rows)
-    (first_value-rows found (codes "seed") ∙ ap (first_of (codes "seed")) rows)
+    (first_value-rows found (codes "new") ∙ ap (first_of (codes "new")) rows) (first_value-rows found (codes "soak") ∙ ap (first_of (codes "soak")) rows)
+    (first_value-rows found (codes "limit") ∙ ap (first_of (codes "limit")) rows) (first_value-rows found (codes "seed") ∙ ap (first_of (codes "seed")) rows)
     (first_value-rows found (codes "workers") ∙ ap (first_of (codes "workers")) rows)
     ∙ (accepted words command asked).says
 

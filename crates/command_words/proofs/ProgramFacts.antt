@@ -28,7 +28,8 @@ help = record help_rule { parser = Some parsers.String; range = Some (record { s
 
 -- the arguments in their order
 unfoldable pub rules : List Rule
-rules = flag (codes "open") ∷ number (codes "new") ∷ number (codes "limit") ∷ number (codes "seed") ∷ number (codes "workers") ∷ help ∷ []
+rules =
+    flag (codes "open") ∷ number (codes "new") ∷ number (codes "soak") ∷ number (codes "limit") ∷ number (codes "seed") ∷ number (codes "workers") ∷ help ∷ []
 
 -- the command line
 abbrev pub shape : Shape
@@ -75,6 +76,10 @@ pub record IsNumber (name : List ℕ) : Type 0 where
 pub new_is : IsNumber (codes "new")
 unfolding rules
 new_is = record { long = refl; by_id = refl; alone = refl; joined = λ text. refl; alone_goes_on = refl; joined_goes_on = λ text. refl; same = refl }
+
+pub soak_is : IsNumber (codes "soak")
+unfolding rules
+soak_is = record { long = refl; by_id = refl; alone = refl; joined = λ text. refl; alone_goes_on = refl; joined_goes_on = λ text. refl; same = refl }
 
 pub limit_is : IsNumber (codes "limit")
 unfolding rules

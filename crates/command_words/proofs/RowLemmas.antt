@@ -1,8 +1,9 @@
 -- What `clap` found, as rows, each for one argument of the words.
-use Rattle.std.proofs.Common.{◌≡◌, ◌∙◌, ◌⊎◌, ℕ, suc, ◌≤◌, ◌-◌, ◌^◌, true, false, cond, List, [], ◌∷◌, ◌++◌, length, Option, Some, None, option_map, filter_map, refl, sym, ap, subst, inl, inr, arith, bytes_eq, codes, append_assoc}
+use Rattle.std.proofs.Common.{◌≡◌, ◌∙◌, ◌⊎◌, ℕ, suc, ◌≤◌, ◌-◌, ◌^◌, true, false, cond, List, [], ◌∷◌, ◌++◌, length, Option, Some, None, option_map, filter_map, refl, sym, ap, ap₂, subst, inl, inr, arith, bytes_eq, codes, append_assoc}
 use Rattle.std.specs.List.{AllZip, cons_option}
 use Rattle.std.specs.Option.{is_some}
 use Rattle.std.proofs.lemmas.Bool.{cases_Bool, or_from, or_parts, true≢false}
+use Rattle.std.proofs.lemmas.List.{nil_from_length}
 use Rattle.std.proofs.lemmas.Option.{none-some, same_Some}
 use Rattle.clap.specs.Walk.{Row, at_row, first_of, has_row}
 use Rattle.clap.specs.declared.builder.value_parser.Reading.TheVariants as readings
@@ -11,7 +12,7 @@ use Rattle.command_words.specs.declared.arguments.Argument.{Argument}
 use Rattle.command_words.specs.declared.arguments.Argument.TheVariants.{Opens, Limit, Seed, Workers}
 use Rattle.command_words.specs.declared.commands.Command.{Command}
 use Rattle.command_words.specs.declared.commands.Opening.{Opening}
-use Rattle.command_words.specs.declared.commands.Opening.TheVariants.{New, Open}
+use Rattle.command_words.specs.declared.commands.Opening.TheVariants.{New, Open, Soak}
 use Rattle.command_words.specs.Arguments.{number_between}
 use Rattle.command_words.specs.Commands.{command_from, limit_in, opening_in, seed_in, workers_in}
 use Rattle.command_words.specs.Options.{one, one_or}
@@ -31,6 +32,7 @@ pub record HasNumber (name : List ℕ) (least greatest number : ℕ) (row : Row)
 abbrev pub IsRowOf : Row → Argument → Type 0
 IsRowOf row (Opens (New depth)) = HasNumber (codes "new") 1 9 depth row
 IsRowOf row (Opens Open) = row ≡ row_for (codes "open") (codes "true")
+IsRowOf row (Opens (Soak number)) = HasNumber (codes "soak") 0 (2 ^ 64 - 1) number row
 IsRowOf row (Limit limit) = HasNumber (codes "limit") 1 (2 ^ 32 - 1) limit row
 IsRowOf row (Seed seed) = HasNumber (codes "seed") 0 (2 ^ 64 - 1) seed row
 IsRowOf row (Workers workers) = HasNumber (codes "workers") 1 16 workers row
@@ -42,6 +44,7 @@ AreRowsOf = AllZip IsRowOf
 abbrev pub name_of : Argument → List ℕ
 name_of (Opens (New depth)) = codes "new"
 name_of (Opens Open) = codes "open"
+name_of (Opens (Soak number)) = codes "soak"
 name_of (Limit limit) = codes "limit"
 name_of (Seed seed) = codes "seed"
 name_of (Workers workers) = codes "workers"
@@ -49,6 +52,7 @@ name_of (Workers workers) = codes "workers"
 row_id : (row : Row) (argument : Argument) → IsRowOf row argument → row.id ≡ name_of argument
 row_id row (Opens (New depth)) h = ap (λ (row : Row). row.id) h.is
 row_id row (Opens Open) h = ap (λ (row : Row). row.id) h
+row_id row (Opens (Soak number)) h = ap (λ (row : Row). row.id) h.is
 row_id row (Limit limit) h = ap (λ (row : Row). row.id) h.is
 row_id row (Seed seed) h = ap (λ (row : Row). row.id) h.is
 row_id row (Workers workers) h = ap (λ (row : Row). row.id) h.is
@@ -94,6 +98,7 @@ FitsAfter before (row ∷ rows) = (has_row row.id before ≡ false) × FitsAfter
 record IsOnce (rows : List Row) : Type 0 where
   new : rows_named (codes "new") rows ≤ 1
   open_group : rows_named (codes "open") rows ≤ 1
+  soak : rows_named (codes "soak") rows ≤ 1
   limit : rows_named (codes "limit") rows ≤ 1
   seed : rows_named (codes "seed") rows ≤ 1
   workers : rows_named (codes "workers") rows ≤ 1
@@ -101,6 +106,7 @@ record IsOnce (rows : List Row) : Type 0 where
 once_of : (rows : List Row) (argument : Argument) → IsOnce rows → rows_named (name_of argument) rows ≤ 1
 once_of rows (Opens (New depth)) once = once.new
 once_of rows (Opens Open) once = once.open_group
+once_of rows (Opens (Soak number)) once = once.soak
 once_of rows (Limit limit) once = once.limit
 once_of rows (Seed seed) once = once.seed
 once_of rows (Workers workers) once = once.workers
@@ -108,6 +114,7 @@ once_of rows (Workers workers) once = once.workers
 same_name : (argument : Argument) → bytes_eq (name_of argument) (name_of argument) ≡ true
 same_name (Opens (New depth)) = refl
 same_name (Opens Open) = refl
+same_name (Opens (Soak number)) = refl
 same_name (Limit limit) = refl
 same_name (Seed seed) = refl
 same_name (Workers workers) = refl
@@ -177,6 +184,12 @@ open_opens row (Limit limit) is h = h
 open_opens row (Seed seed) is h = h
 open_opens row (Workers workers) is h = h
 
+soak_opens : HasKind (codes "soak") opening_in
+soak_opens row (Opens opening) is h = refl
+soak_opens row (Limit limit) is h = h
+soak_opens row (Seed seed) is h = h
+soak_opens row (Workers workers) is h = h
+
 -- ---- texts by their names
 
 skipped : (name : List ℕ) (row : Row) (rows : List Row) → bytes_eq row.id name ≡ false → first_of name (row ∷ rows) ≡ first_of name rows
@@ -222,6 +235,7 @@ module _ (name : List ℕ) (least greatest : ℕ) (kind : Argument → Option �
 limit_splits : Splits (codes "limit") 1 (2 ^ 32 - 1) limit_in
 limit_splits row (Opens (New depth)) h = inr (refl, refl)
 limit_splits row (Opens Open) h = inr (refl, refl)
+limit_splits row (Opens (Soak number)) h = inr (refl, refl)
 limit_splits row (Limit limit) h = inl (limit, refl, h)
 limit_splits row (Seed seed) h = inr (refl, refl)
 limit_splits row (Workers workers) h = inr (refl, refl)
@@ -229,6 +243,7 @@ limit_splits row (Workers workers) h = inr (refl, refl)
 seed_splits : Splits (codes "seed") 0 (2 ^ 64 - 1) seed_in
 seed_splits row (Opens (New depth)) h = inr (refl, refl)
 seed_splits row (Opens Open) h = inr (refl, refl)
+seed_splits row (Opens (Soak number)) h = inr (refl, refl)
 seed_splits row (Limit limit) h = inr (refl, refl)
 seed_splits row (Seed seed) h = inl (seed, refl, h)
 seed_splits row (Workers workers) h = inr (refl, refl)
@@ -236,44 +251,58 @@ seed_splits row (Workers workers) h = inr (refl, refl)
 workers_splits : Splits (codes "workers") 1 16 workers_in
 workers_splits row (Opens (New depth)) h = inr (refl, refl)
 workers_splits row (Opens Open) h = inr (refl, refl)
+workers_splits row (Opens (Soak number)) h = inr (refl, refl)
 workers_splits row (Limit limit) h = inr (refl, refl)
 workers_splits row (Seed seed) h = inr (refl, refl)
 workers_splits row (Workers workers) h = inl (workers, refl, h)
 
 -- ---- the opening
 
-not_nil : {X : Type 0} (item : X) (items : List X) → item ∷ items ≡ [] → ⊥
-not_nil item items h = let bad : suc (length items) ≡ 0 = ap length h in absurd (omega (arith, bad))
+-- where no argument opens a group, no row has a name of one that does
+nothing_named : (name : List ℕ) → HasKind name opening_in → (rows : List Row) (arguments : List Argument) → AreRowsOf rows arguments
+    → filter_map opening_in arguments ≡ [] → first_of name rows ≡ None
+nothing_named name links [] arguments are none = refl
+nothing_named name links (row ∷ rows) [] are none = absurd are
+nothing_named name links (row ∷ rows) (argument ∷ arguments) are none =
+    let others = filter_map opening_in arguments in
+    let empty : length (cons_option (opening_in argument) others) ≡ 0 = ap length none in
+    elim (cases_Bool (bytes_eq row.id name)) [
+      | inl hit ↦
+          let opens = links row argument are.0 (subst (λ id. bytes_eq id name ≡ true) (row_id row argument are.0) hit) in
+          absurd (omega (arith, empty, suc-le_cons (opening_in argument) others 0 opens (omega arith)))
+      | inr miss ↦
+          let rest : others ≡ [] = nil_from_length others (omega (arith, empty, le_cons (opening_in argument) others)) in
+          skipped name row rows miss ∙ nothing_named name links rows arguments are.1 rest
+    ]
 
-nothing_new : (rows : List Row) (arguments : List Argument) → AreRowsOf rows arguments → filter_map opening_in arguments ≡ []
-    → first_of (codes "new") rows ≡ None
-nothing_new [] arguments are none = refl
-nothing_new (row ∷ rows) [] are none = absurd are
-nothing_new (row ∷ rows) (Opens opening ∷ arguments) are none = absurd (not_nil opening (filter_map opening_in arguments) none)
-nothing_new (row ∷ rows) (Limit limit ∷ arguments) are none =
-    ap (λ row. first_of (codes "new") (row ∷ rows)) are.0.is ∙ nothing_new rows arguments are.1 none
-nothing_new (row ∷ rows) (Seed seed ∷ arguments) are none =
-    ap (λ row. first_of (codes "new") (row ∷ rows)) are.0.is ∙ nothing_new rows arguments are.1 none
-nothing_new (row ∷ rows) (Workers workers ∷ arguments) are none =
-    ap (λ row. first_of (codes "new") (row ∷ rows)) are.0.is ∙ nothing_new rows arguments are.1 none
+-- the opening that the texts of rows ask for
+abbrev opening_by : List Row → Option Opening
+opening_by rows = opening_given (first_of (codes "new") rows) (first_of (codes "soak") rows)
 
 opening_found : (rows : List Row) (arguments : List Argument) → AreRowsOf rows arguments → (opening : Opening)
-    → one (filter_map opening_in arguments) ≡ Some opening → opening_given (first_of (codes "new") rows) ≡ Some opening
+    → one (filter_map opening_in arguments) ≡ Some opening → opening_by rows ≡ Some opening
 opening_found [] [] are opening h = absurd (none-some opening h)
 opening_found [] (argument ∷ arguments) are opening h = absurd are
 opening_found (row ∷ rows) [] are opening h = absurd are
 opening_found (row ∷ rows) (Opens (New depth) ∷ arguments) are opening h =
-    ap (λ row. opening_given (first_of (codes "new") (row ∷ rows))) are.0.is ∙ ap (option_map (λ depth. New depth)) are.0.reads
+    ap (λ row. opening_by (row ∷ rows)) are.0.is ∙ ap (option_map (λ depth. New depth)) are.0.reads
     ∙ ap Some (one_alone (New depth) (filter_map opening_in arguments) opening h).1
 opening_found (row ∷ rows) (Opens Open ∷ arguments) are opening h =
     let alone = one_alone Open (filter_map opening_in arguments) opening h in
-    ap (λ row. opening_given (first_of (codes "new") (row ∷ rows))) are.0 ∙ ap opening_given (nothing_new rows arguments are.1 alone.0) ∙ ap Some alone.1
+    ap (λ row. opening_by (row ∷ rows)) are.0
+    ∙ ap₂ opening_given (nothing_named (codes "new") new_opens rows arguments are.1 alone.0) (nothing_named (codes "soak") soak_opens rows arguments are.1 alone.0)
+    ∙ ap Some alone.1
+opening_found (row ∷ rows) (Opens (Soak number) ∷ arguments) are opening h =
+    let alone = one_alone (Soak number) (filter_map opening_in arguments) opening h in
+    ap (λ row. opening_by (row ∷ rows)) are.0.is
+    ∙ ap (λ new. opening_given new (Some are.0.text)) (nothing_named (codes "new") new_opens rows arguments are.1 alone.0)
+    ∙ ap (option_map (λ number. Soak number)) are.0.reads ∙ ap Some alone.1
 opening_found (row ∷ rows) (Limit limit ∷ arguments) are opening h =
-    ap (λ row. opening_given (first_of (codes "new") (row ∷ rows))) are.0.is ∙ opening_found rows arguments are.1 opening h
+    ap (λ row. opening_by (row ∷ rows)) are.0.is ∙ opening_found rows arguments are.1 opening h
 opening_found (row ∷ rows) (Seed seed ∷ arguments) are opening h =
-    ap (λ row. opening_given (first_of (codes "new") (row ∷ rows))) are.0.is ∙ opening_found rows arguments are.1 opening h
+    ap (λ row. opening_by (row ∷ rows)) are.0.is ∙ opening_found rows arguments are.1 opening h
 opening_found (row ∷ rows) (Workers workers ∷ arguments) are opening h =
-    ap (λ row. opening_given (first_of (codes "new") (row ∷ rows))) are.0.is ∙ opening_found rows arguments are.1 opening h
+    ap (λ row. opening_by (row ∷ rows)) are.0.is ∙ opening_found rows arguments are.1 opening h
 
 -- ---- all of it
 
@@ -323,6 +352,7 @@ rows_say rows arguments command are h =
     let few = one_at_most openings parts.first parts.opens in
     let news = named_at_most (codes "new") opening_in new_opens rows arguments are in
     let opens = named_at_most (codes "open") opening_in open_opens rows arguments are in
+    let soaks = named_at_most (codes "soak") opening_in soak_opens rows arguments are in
     let limits_few = named_at_most (codes "limit") limit_in (kind_by_name (codes "limit") 1 (2 ^ 32 - 1) limit_in limit_splits) rows arguments are in
     let seeds_few = named_at_most (codes "seed") seed_in (kind_by_name (codes "seed") 0 (2 ^ 64 - 1) seed_in seed_splits) rows arguments are in
     let workers_few = named_at_most (codes "workers") workers_in (kind_by_name (codes "workers") 1 16 workers_in workers_splits) rows arguments are in
@@ -330,6 +360,7 @@ rows_say rows arguments command are h =
       fits = fits [] rows arguments are (record {
         new = omega (arith, few, news);
         open_group = omega (arith, few, opens);
+        soak = omega (arith, few, soaks);
         limit = omega (arith, one_or_at_most (2 ^ 32 - 1) limits parts.second parts.limits, limits_few);
         seed = omega (arith, one_or_at_most 0 seeds parts.third parts.seeds, seeds_few);
         workers = omega (arith, one_or_at_most 1 workers parts.fourth parts.works, workers_few);

@@ -11,9 +11,9 @@ use Rattle.clap.specs.Walk.{Row, Text}
 use Rattle.script_text.specs.Numbers.{is_digit, is_number}
 use Rattle.command_words.specs.declared.arguments.Argument.{Argument}
 use Rattle.command_words.specs.declared.arguments.Argument.TheVariants.{Opens, Limit, Seed, Workers}
-use Rattle.command_words.specs.declared.commands.Opening.TheVariants.{New, Open}
+use Rattle.command_words.specs.declared.commands.Opening.TheVariants.{New, Open, Soak}
 use Rattle.command_words.specs.Arguments.{argument_in, argument_with, arguments_of, followed_by, is_equals_sign, lone_argument, number_between}
-use Rattle.command_words.proofs.ProgramFacts.{IsNumber, limit_is, new_is, seed_is, workers_is}
+use Rattle.command_words.proofs.ProgramFacts.{IsNumber, limit_is, new_is, seed_is, soak_is, workers_is}
 use Rattle.command_words.proofs.RowLemmas.{AreRowsOf, IsRowOf, row_for}
 use Rattle.command_words.proofs.StepLemmas.{Goes, apart_goes, flag_goes, goes_on, joined_goes, nothing_goes}
 
@@ -68,16 +68,20 @@ argument_is_named : (word text : Text) (argument : Argument) → argument_with w
 argument_is_named word text argument h = elim (cases_Bool (bytes_eq word (codes "--new"))) [
   | inl hit ↦ named_by (codes "new") word text argument 1 9 (λ depth. Opens (New depth)) new_is hit
       (λ depth reads. record { text = text; is = refl; reads = reads }) (rw hit at h)
-  | inr no_new ↦ elim (cases_Bool (bytes_eq word (codes "--limit"))) [
-    | inl hit ↦ named_by (codes "limit") word text argument 1 4294967295 Limit limit_is hit
-        (λ limit reads. record { text = text; is = refl; reads = reads }) (rw (no_new, hit) at h)
-    | inr no_limit ↦ elim (cases_Bool (bytes_eq word (codes "--seed"))) [
-      | inl hit ↦ named_by (codes "seed") word text argument 0 18446744073709551615 Seed seed_is hit
-          (λ seed reads. record { text = text; is = refl; reads = reads }) (rw (no_new, no_limit, hit) at h)
-      | inr no_seed ↦ elim (cases_Bool (bytes_eq word (codes "--workers"))) [
-        | inl hit ↦ named_by (codes "workers") word text argument 1 16 Workers workers_is hit
-            (λ workers reads. record { text = text; is = refl; reads = reads }) (rw (no_new, no_limit, no_seed, hit) at h)
-        | inr none ↦ absurd (none-some argument (rw (no_new, no_limit, no_seed, none) at h))
+  | inr no_new ↦ elim (cases_Bool (bytes_eq word (codes "--soak"))) [
+    | inl hit ↦ named_by (codes "soak") word text argument 0 18446744073709551615 (λ number. Opens (Soak number)) soak_is hit
+        (λ number reads. record { text = text; is = refl; reads = reads }) (rw (no_new, hit) at h)
+    | inr no_soak ↦ elim (cases_Bool (bytes_eq word (codes "--limit"))) [
+      | inl hit ↦ named_by (codes "limit") word text argument 1 4294967295 Limit limit_is hit
+          (λ limit reads. record { text = text; is = refl; reads = reads }) (rw (no_new, no_soak, hit) at h)
+      | inr no_limit ↦ elim (cases_Bool (bytes_eq word (codes "--seed"))) [
+        | inl hit ↦ named_by (codes "seed") word text argument 0 18446744073709551615 Seed seed_is hit
+            (λ seed reads. record { text = text; is = refl; reads = reads }) (rw (no_new, no_soak, no_limit, hit) at h)
+        | inr no_seed ↦ elim (cases_Bool (bytes_eq word (codes "--workers"))) [
+          | inl hit ↦ named_by (codes "workers") word text argument 1 16 Workers workers_is hit
+              (λ workers reads. record { text = text; is = refl; reads = reads }) (rw (no_new, no_soak, no_limit, no_seed, hit) at h)
+          | inr none ↦ absurd (none-some argument (rw (no_new, no_soak, no_limit, no_seed, none) at h))
+        ]
       ]
     ]
   ]

@@ -1,12 +1,12 @@
--- The arguments of the command line: `--new` with a number from 1 to 9, `--open` with none, `--limit` with a number from 1 to 2^32 - 1,
--- `--seed` with a number from 0 to 2^64 - 1, and `--workers` with a number from 1 to 16. A number is the next word, or it is in the same word
--- after an equals sign.
+-- The arguments of the command line: `--new` with a number from 1 to 9, `--open` with none, `--soak` with a number from 0 to 2^64 - 1, `--limit` with a
+-- number from 1 to 2^32 - 1, `--seed` with a number from 0 to 2^64 - 1, and `--workers` with a number from 1 to 16. A number is the next word, or it is in
+-- the same word after an equals sign.
 use Rattle.std.specs.Prelude.{ℕ, ◌+◌, ◌-◌, ◌^◌, ◌==◌, nat_le, Bool, List, [], ◌∷◌, take, drop, position, Option, None, Some, if◌then◌else◌}
 use Rattle.std.specs.Prelude.{codes}
 use Rattle.std.specs.Option.{is_some, option_map, option_map_or}
 use Rattle.std.specs.Str.{bytes_eq}
 use Rattle.script_text.specs.Numbers.{decimal_in}
-use Rattle.command_words.specs.declared.commands.Opening.TheVariants.{New, Open}
+use Rattle.command_words.specs.declared.commands.Opening.TheVariants.{New, Open, Soak}
 use Rattle.command_words.specs.declared.arguments.Argument.{Argument}
 use Rattle.command_words.specs.declared.arguments.Argument.TheVariants.{Opens, Limit, Seed, Workers}
 use Rattle.command_words.specs.Options.{◌>>=◌}
@@ -21,10 +21,11 @@ number_between least greatest text = do
 abbrev pub argument_with : List ℕ → List ℕ → Option Argument
 argument_with name text =
     if bytes_eq name (codes "--new") then option_map (λ depth. Opens (New depth)) (number_between 1 9 text)
+    else (if bytes_eq name (codes "--soak") then option_map (λ number. Opens (Soak number)) (number_between 0 (2 ^ 64 - 1) text)
     else (if bytes_eq name (codes "--limit") then option_map Limit (number_between 1 (2 ^ 32 - 1) text)
     else (if bytes_eq name (codes "--seed") then option_map Seed (number_between 0 (2 ^ 64 - 1) text)
     else (if bytes_eq name (codes "--workers") then option_map Workers (number_between 1 16 text)
-    else None)))
+    else None))))
 
 -- whether a character is the equals sign
 abbrev pub is_equals_sign : ℕ → Bool

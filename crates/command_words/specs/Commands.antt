@@ -2,7 +2,7 @@
 use Rattle.std.specs.Prelude.{◌≤◌, ℕ, ◌-◌, ◌^◌, List, Option, None, Some}
 use Rattle.std.specs.List.{filter_map}
 use Rattle.command_words.specs.declared.commands.Opening.{Opening}
-use Rattle.command_words.specs.declared.commands.Opening.TheVariants.{New, Open}
+use Rattle.command_words.specs.declared.commands.Opening.TheVariants.{New, Open, Soak}
 use Rattle.command_words.specs.declared.commands.Command.{Command}
 use Rattle.command_words.specs.declared.arguments.Argument.{Argument}
 use Rattle.command_words.specs.declared.arguments.Argument.TheVariants.{Opens, Limit, Seed, Workers}
@@ -42,10 +42,11 @@ command_from arguments = do
 unfoldable pub command_of : List (List ℕ) → Option Command
 command_of words = arguments_of words >>= command_from
 
--- a depth from 1 to 9
+-- a depth from 1 to 9, where it has one
 abbrev pub HasDepth : Opening → Type 0
 HasDepth (New depth) = (1 ≤ depth) × (depth ≤ 9)
 HasDepth Open = Unit {0}
+HasDepth (Soak number) = Unit {0}
 
 -- a command has a depth from 1 to 9, where it has one, a limit of 1 at least, and from 1 to 16 workers
 pub record IsWithin (command : Command) : Type 0 where

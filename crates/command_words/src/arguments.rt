@@ -82,6 +82,9 @@ fn read_argument_with(name: &[u8], number: &[u8]) -> Option<Argument>
     if name == b"--new".as_slice() {
         let depth = read_between(1, MOST_DEPTH, number)?;
         Some(Argument::Opens(Opening::New { depth: depth as u8 }))
+    } else if name == b"--soak".as_slice() {
+        let number = read_between(0, u64::MAX, number)?;
+        Some(Argument::Opens(Opening::Soak { number }))
     } else if name == b"--limit".as_slice() {
         let limit = read_between(1, MOST_LIMIT, number)?;
         Some(Argument::Limit(limit as u32))

@@ -11,6 +11,8 @@ pub enum Opening {
     New { depth: u8 },
     /// The group of the disk is opened.
     Open,
+    /// A group is made, and the script of the soak of this number is run on it.
+    Soak { number: u64 },
 }
 
 /// What the words of the command line ask for.
@@ -27,9 +29,9 @@ pub struct Command {
 
 /// The command that the words ask for, after the name of the program; `None` exactly where they are not of the grammar.
 ///
-/// `--new` with a number from 1 to 9 or `--open`, and where they are given `--limit` with a number from 1 to 2^32 - 1, `--seed` with a number from 0
-/// to 2^64 - 1 and `--workers` with a number from 1 to 16, in any order and each once at most. A number, of 1 to 20 decimal digits, is the next word,
-/// or it is in the same word after an equals sign.
+/// `--new` with a number from 1 to 9, `--open`, or `--soak` with a number from 0 to 2^64 - 1; and where they are given `--limit` with a number from 1 to
+/// 2^32 - 1, `--seed` with a number from 0 to 2^64 - 1 and `--workers` with a number from 1 to 16; in any order and each once at most. A number, of 1 to
+/// 20 decimal digits, is the next word, or it is in the same word after an equals sign.
 pub fn read_words(words: &[String]) -> Option<Command>
     ensures command { result ≡ command_of (map string_bytes words.now) }
     ensures within { IfSome result IsWithin }

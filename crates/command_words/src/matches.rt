@@ -7,7 +7,7 @@ ghost use Rattle.clap.specs.Values.{kind_of};
 ghost use Rattle.clap.specs.Walk.{rows_of, rule_of};
 ghost use Rattle.clap.specs.declared.error.kind.ErrorKind.TheVariants.{OutOfMemory};
 ghost use Rattle.command_words.specs.Commands.{HasDepth, IsWithin, command_of};
-ghost use Rattle.command_words.specs.Private.Program.{command_given, flag_rule, number_given, number_rule, opening_given, program};
+ghost use Rattle.command_words.specs.Private.Program.{command_given, flag_rule, number_given, number_rule, opening_given, program, soak_given};
 
 use crate::arguments::{MOST_DEPTH, MOST_LIMIT, MOST_WORKERS};
 use crate::commands::{Command, Opening};
@@ -44,16 +44,17 @@ fn matches_in<'a>(alloc: Global, words: &'a [String]) -> Result<ArgMatches<'a>, 
     asked.try_get_matches_from(words)
 }
 
-/// The command line: five arguments, whose texts are looked at when they are read.
+/// The command line: six arguments, whose texts are looked at when they are read.
 fn command_line<'a>(alloc: Global) -> Result<CommandLine<'a>, AllocError>
     ensures { IfOk result (λ command_line. app_of command_line ≡ program) }
 {
     let none = CommandLine::new(alloc, "gdoi_console").no_binary_name(true);
     let first = none.arg(flag(alloc, "open"))?;
     let second = first.arg(number(alloc, "new"))?;
-    let third = second.arg(number(alloc, "limit"))?;
-    let fourth = third.arg(number(alloc, "seed"))?;
-    fourth.arg(number(alloc, "workers"))
+    let third = second.arg(number(alloc, "soak"))?;
+    let fourth = third.arg(number(alloc, "limit"))?;
+    let fifth = fourth.arg(number(alloc, "seed"))?;
+    fifth.arg(number(alloc, "workers"))
 }
 
 fn flag<'a>(alloc: Global, name: &'a str) -> Arg<'a>
@@ -87,15 +88,29 @@ fn command_in(matches: &ArgMatches<'_>) -> Option<Command>
     })
 }
 
-/// The opening that the text of `--new` asks for; that of the group on the disk where there is none.
+/// The opening that the text of `--new` asks for; where there is none, that of `--soak`.
 fn opening_in(matches: &ArgMatches<'_>) -> Option<Opening>
-    ensures opening { result ≡ opening_given (first_value (found_of matches.now) (codes "new")) }
+    ensures opening { result ≡ opening_given (first_value (found_of matches.now) (codes "new")) (first_value (found_of matches.now) (codes "soak")) }
     ensures depth { IfSome result HasDepth }
 {
     match matches.get_str("new") {
         Some(text) => {
             let depth = read_between(1, MOST_DEPTH, text.as_bytes())?;
             Some(Opening::New { depth: depth as u8 })
+        }
+        None => soak_in(matches),
+    }
+}
+
+/// The soak that the text of `--soak` asks for; where there is none, the group of the disk is opened.
+fn soak_in(matches: &ArgMatches<'_>) -> Option<Opening>
+    ensures opening { result ≡ soak_given (first_value (found_of matches.now) (codes "soak")) }
+    ensures depth { IfSome result HasDepth }
+{
+    match matches.get_str("soak") {
+        Some(text) => {
+            let number = read_between(0, u64::MAX, text.as_bytes())?;
+            Some(Opening::Soak { number })
         }
         None => Some(Opening::Open),
     }

@@ -25,7 +25,7 @@ use Rattle.member_steps.specs.Members.{Mail, Members}
 use Rattle.member_steps.proofs.PeerLemmas.{found_named, peer_put}
 use Rattle.script_text.specs.declared.lines.Line.{Line}
 use Rattle.script_text.specs.declared.lines.Line.TheVariants.{Nothing, Allow, Deny, Join, Again, Lose, Leave, Batch, Deliver, DeliverAll, Key, Derive}
-use Rattle.script_text.specs.declared.lines.Line.TheVariants.{Halt, Reopen, Show}
+use Rattle.script_text.specs.declared.lines.Line.TheVariants.{Halt, Reopen, Show, Now, Together, End}
 use Rattle.console_run.specs.Lines.{Asks, AsksAfter, AsksBy, AsksFirst, AsksNext, AsksToIntroduce, AsksToPull, GivesWhatIsDue}
 use Rattle.console_run.specs.Lines.{JoinsAfter, asked_again, last_of}
 
@@ -67,15 +67,15 @@ phase_named peers m phase is =
 -- ---- what members do
 
 module _ (block : ℕ → List ℕ) (group : Name) where
-  acts_then : (n : ℕ) (a b c : Members) → AreActs block group n a b → Acts block group b c → Acts block group a c
+  pub acts_then : (n : ℕ) (a b c : Members) → AreActs block group n a b → Acts block group b c → Acts block group a c
   acts_then zero a b c same h = subst (λ a. Acts block group a c) same h
   acts_then (suc n) a b c more h = let later = acts_then n more.0 b c more.2 h in (suc later.0, (more.0, more.1, later.1))
 
-  ignoring_acts : (n : ℕ) (a b : Members) → Ignore n a b → Acts block group a b
+  pub ignoring_acts : (n : ℕ) (a b : Members) → Ignore n a b → Acts block group a b
   ignoring_acts zero a b same = (zero, same)
   ignoring_acts (suc n) a b more = let later = ignoring_acts n more.0 b more.2 in (suc later.0, (more.0, inl more.1, later.1))
 
-  one_act : (a b : Members) → IsAct block group a b → Acts block group a b
+  pub one_act : (a b : Members) → IsAct block group a b → Acts block group a b
   one_act a b h = (suc zero, (b, h, refl))
 
   -- after what they ignored
@@ -148,7 +148,7 @@ module _ (block : ℕ → List ℕ) (group : Name) where
     pull_can m members asked acted h =
         can_ask members asked (requests.Serve m h.2) acted h.0 (one_act members h.0 (inr (inr (inr (inl (m, h.1))))), h.3) h.4
 
-    use_can : (m : Name) (members used : Members) (b : Bool) → MatchBool b (used ≡ members) (IsFirstUse block m members used) → Acts block group members used
+    pub use_can : (m : Name) (members used : Members) (b : Bool) → MatchBool b (used ≡ members) (IsFirstUse block m members used) → Acts block group members used
     use_can m members used true same = subst (λ used. Acts block group members used) (sym same) (stays members)
     use_can m members used false first = one_act members used (inr (inr (inl (m, first))))
 
@@ -202,6 +202,9 @@ module _ (block : ℕ → List ℕ) (group : Name) where
     first_can Halt members asked acted h = can_ask members asked requests.Halt acted members (stays members, tt) h
     first_can Reopen members asked acted h = can_ask members asked requests.Reopen acted members (stays members, tt) h
     first_can Show members asked acted h = can_ask members asked requests.Show acted members (stays members, tt) h
+    first_can Now members asked acted h = can_ask members asked requests.Now acted members (stays members, tt) h
+    first_can Together members asked acted h = nothing_asked (asked, acted) h
+    first_can End members asked acted h = nothing_asked (asked, acted) h
 
     after_join : (m : Name) (request : Asked) (answer : Answer) (asked : Asked) (acted : Members)
         → JoinsAfter block group run before so_far m request answer (Some (asked, acted)) → CanAsk run.members asked acted

@@ -2,8 +2,8 @@
 -- What a line gives is a recursion over its entries (`GoesThrough`), each of which answers what `AsksNext` says; `GoesThrough-then` adds one at the end, where
 -- code adds. `Going` is a loop of requests with a property of the run (`keeps`): the last delivery for deliver-all, `any_run` for a line of one request.
 -- What is said of the keys of the engine (`keys_of`) is said of the keys of a run (`same_keys`).
-use Rattle.std.proofs.Common.{◌≡◌, ℕ, false, ◌||◌, List, [], ◌∷◌, ◌++◌, Option, None, Some, Result, Ok, Err, sym, refl, ap, ◌∙◌, subst, inl, inr, append_assoc}
-use Rattle.std.specs.Prelude.{IfErr, MatchResult, OnOk}
+use Rattle.std.proofs.Common.{◌≡◌, ◌⊎◌, ℕ, false, ◌||◌, List, [], ◌∷◌, ◌++◌, Option, None, Some, Result, Ok, Err, sym, refl, ap, ◌∙◌, subst, inl, inr, ⊎_elim, append_assoc}
+use Rattle.std.specs.Prelude.{IfErr, MatchResult, OnOk, option_and_then}
 use Rattle.std.proofs.lemmas.Bool.{or_parts}
 use Rattle.std.proofs.lemmas.List.{append-nil}
 use Rattle.std.proofs.lemmas.List.Folds.{list_any-append}
@@ -21,7 +21,6 @@ use Rattle.group_run.specs.Reflects.{Reflects}
 use Rattle.group_run.specs.Views.{View}
 use Rattle.group_steps.specs.Devices.{Devices, Keying, keying}
 use Rattle.group_steps.specs.Runs.{Run, with_members}
-use Rattle.group_steps.specs.Steps.{IsAnswered, IsAnsweredAfter}
 use Rattle.member_steps.specs.Members.{Members}
 use Rattle.server_steps.specs.Reflects.{IsServerOf}
 use Rattle.script_text.specs.Lines.{line_of}
@@ -33,11 +32,15 @@ use Rattle.run_report.specs.declared.stops.Stop.TheVariants.{Line, Source, Sink,
 use Rattle.run_report.specs.declared.endings.Ending.{Ending}
 use Rattle.run_report.specs.declared.endings.Ending.TheVariants.{Sink as SinkEnding, Memory as MemoryEnding}
 use Rattle.console_run.specs.Names.{console_name}
-use Rattle.console_run.specs.Lines.{AsksAfter, AsksBy, AsksFirst, AsksNext, BeginsToGive, GoesThrough}
+use Rattle.console_run.specs.Lines.{AsksAfter, AsksBy, AsksFirst, AsksNext, BeginsAt, BeginsToGive, GivesAt, GoesThrough, IsAnsweredHere, IsGivenAfter}
 use Rattle.run_report.specs.Reports.{BreaksOff, Puts, ReportBreaksOff}
-use Rattle.console_run.specs.Private.Asks.{Answers, StopsIn}
+use Rattle.console_run.specs.Blocks.{BlockSoFar, after_in_block, after_line, after_outside, after_text}
+use Rattle.console_run.specs.Breaks.{LineBreaksOff}
+use Rattle.register_workers.specs.declared.lines.BlockAsk.{BlockAsk}
+use Rattle.console_run.specs.Private.Asks.{Answers, RunsAt, RunsBlock, RunsLine, RunsLineAt, StopsAtLine, StopsIn}
 use Rattle.console_run.specs.Private.Reports.{EntryStops}
-use Rattle.console_run.specs.Private.Runs.{Drawing, ReportsUntil, Runs, Stands, Stops, begun_by_text, by_line, by_text}
+use Rattle.console_run.specs.Private.Runs.{Drawing, Giving, ReportsThere, ReportsUntil, Runs, RunsThere, Stands, StopsThere, begun_at, begun_by_block, begun_by_text, by_block}
+use Rattle.console_run.specs.Private.Runs.{by_line, by_text, given_at}
 use Rattle.run_report.proofs.KnownLemmas.{Puts-entries, Puts-entry, Puts-none, ReportBreaksOff-last}
 use Rattle.console_run.proofs.ActLemmas.{last_is}
 
@@ -55,7 +58,7 @@ module _ {D G R : Type 0} (draws : DrawGhosts R) (peers : Drawing) (held : View 
 module _ {D G V R : Type 0} (on : Devices D G V) (draws : DrawGhosts R) (peers : Drawing) (old new : View D G R) where
   -- what a step does that answers a request, with the server that the group has
   abbrev pub MovesBy : Members → Asked → Type 0
-  MovesBy acted request = Moves on.disks draws (IsAnswered on (keys_of draws peers old) old.entries request) acted request old new
+  MovesBy acted request = Moves on.disks draws (IsAnsweredHere on (keys_of draws peers old) old.entries request) acted request old new
 
   pub Answers-by : (acted : Members) (request : Asked) → MovesBy acted request → Answers on draws peers acted request old new
   Answers-by acted request moves = record {
@@ -65,9 +68,9 @@ module _ {D G V R : Type 0} (on : Devices D G V) (draws : DrawGhosts R) (peers :
     each = λ by run stands.
         let next = moves.each run stands.reflects in (
           next.0,
-          subst (λ by. IsAnsweredAfter on by acted old.entries run moves.entry next.0) (same_keys draws peers old on.disks by run stands) (record {
+          subst (λ by. IsGivenAfter on by acted old.entries run moves.entry next.0) (same_keys draws peers old on.disks by run stands) (record {
             answered = subst
-                (λ asked. IsAnswered on (keys_of draws peers old) old.entries asked (with_members run acted) moves.entry.answer moves.entry.outside next.0)
+                (λ asked. IsAnsweredHere on (keys_of draws peers old) old.entries asked (with_members run acted) moves.entry.answer moves.entry.outside next.0)
                 (sym moves.asked) next.1.answered;
             keeps = next.1.keeps;
             counts = next.1.counts;
@@ -128,7 +131,7 @@ module _ {D G V : Type 0} (on : Devices D G V) (by : Keying G) (line : ScriptLin
   pub GoesThrough-then : (so_far : List Entry) (run : Run D) (more : List Entry) (middle : Run D) (entry : Entry) (acted : Members) (after : Run D)
       → any_ran_out more ≡ false → GoesThrough on by line before so_far run more middle
       → AsksNext by.members_block by.group middle before (so_far ++ more) line (Some (entry.asked, acted))
-      → IsAnsweredAfter on by acted (before ++ (so_far ++ more)) middle entry after
+      → IsGivenAfter on by acted (before ++ (so_far ++ more)) middle entry after
       → GoesThrough on by line before so_far run (more ++ entry ∷ []) after
   GoesThrough-then so_far run [] middle entry acted after enough same asks step = (
     acted,
@@ -136,8 +139,8 @@ module _ {D G V : Type 0} (on : Devices D G V) (by : Keying G) (line : ScriptLin
         (subst (λ list. AsksNext by.members_block by.group middle before list line (Some (entry.asked, acted))) (append-nil so_far) asks),
     inl refl,
     after,
-    subst (λ (run : Run D). IsAnsweredAfter on by acted (before ++ so_far) run entry after) same
-        (subst (λ list. IsAnsweredAfter on by acted (before ++ list) middle entry after) (append-nil so_far) step),
+    subst (λ (run : Run D). IsGivenAfter on by acted (before ++ so_far) run entry after) same
+        (subst (λ list. IsGivenAfter on by acted (before ++ list) middle entry after) (append-nil so_far) step),
     refl,
   )
   GoesThrough-then so_far run (first ∷ more) middle entry acted after enough goes asks step =
@@ -150,7 +153,7 @@ module _ {D G V : Type 0} (on : Devices D G V) (by : Keying G) (line : ScriptLin
         goes.4,
         GoesThrough-then (so_far ++ first ∷ []) goes.3 more middle entry acted after enough_memory.1 goes.5
             (subst (λ list. AsksNext by.members_block by.group middle before list line (Some (entry.asked, acted))) same asks)
-            (subst (λ list. IsAnsweredAfter on by acted (before ++ list) middle entry after) same step),
+            (subst (λ list. IsGivenAfter on by acted (before ++ list) middle entry after) same step),
       )
 
 -- one entry more, at which the report stopped
@@ -241,7 +244,7 @@ module _ {D G V R : Type 0} (on : Devices D G V) (draws : DrawGhosts R) (peers :
         stood : Stands on.disks draws peers by middle middle_run
         kept : keeps more middle_run
         after : Run D
-        step : IsAnsweredAfter on by acted middle.entries middle_run answers.entry after
+        step : IsGivenAfter on by acted middle.entries middle_run answers.entry after
         gives : BeginsToGive on by line old.entries run all_now after
         stands : Stands on.disks draws peers by new after
 
@@ -258,14 +261,14 @@ module _ {D G V R : Type 0} (on : Devices D G V) (draws : DrawGhosts R) (peers :
             gives = GoesThrough-then on by line old.entries [] run more h.0 answers.entry acted next.0 going.enough h.1
                 (subst (λ asked. AsksNext by.members_block by.group h.0 old.entries more line (Some (asked, acted))) (sym answers.asked)
                 (asks_by on draws peers middle line more (Some (request, acted)) by h.0 h.2 old.entries (asks h.0 h.2.reflects h.3)))
-                (subst (λ entries. IsAnsweredAfter on by acted entries h.0 answers.entry next.0) going.grown next.1);
+                (subst (λ entries. IsGivenAfter on by acted entries h.0 answers.entry next.0) going.grown next.1);
             stands = next.2;
           }
 
       -- and reported
       pub Going-more : (keeps_now : List Entry → Run D → Type 0) (now : Shown)
           → ((by : Keying G) (run next : Run D) → Stands on.disks draws peers by middle run → keeps more run
-          → IsAnsweredAfter on by acted middle.entries run answers.entry next → keeps_now all_now next)
+          → IsGivenAfter on by acted middle.entries run answers.entry next → keeps_now all_now next)
           → Puts seen now (entry_text answers.entry) → ran_out answers.entry.answer ≡ false → Going keeps_now all_now old new was now
       Going-more keeps_now now kept puts enough = record {
         grown = grown_now;
@@ -332,53 +335,217 @@ pub Stops-unbegun : {D G V R : Type 0} (on : Devices D G V) (draws : DrawGhosts 
 Stops-unbegun on draws peers line old new was server entries =
     Stops-unasked on draws peers line any_run [] old old was was (Going-none on draws peers line any_run old was (λ run reflects. tt)) new server entries
 
--- a line of nothing
-pub Runs-nothing : {D G V R : Type 0} (on : Devices D G V) (draws : DrawGhosts R) (peers : Drawing) (held : View D G R) (out : Shown)
-    → held.members.mail ≡ [] → Runs on.disks draws peers (by_line on lines.Nothing) held held out out
-Runs-nothing on draws peers held out rest =
-    Runs-all on draws peers lines.Nothing any_run [] held held out out (Going-none on draws peers lines.Nothing any_run held out (λ run reflects. tt))
-    (λ run reflects kept. (held.members, (reflects.members, rest), refl))
+-- a line that asks nothing
+pub Runs-nothing : {D G V R : Type 0} (on : Devices D G V) (draws : DrawGhosts R) (peers : Drawing) (held : View D G R) (out : Shown) (line : ScriptLine)
+    → ((run : Run D) (members : Members) → AsksFirst peers.block console_name run held.entries [] line members None) → held.members.mail ≡ []
+    → Runs on.disks draws peers (by_line on line) held held out out
+Runs-nothing on draws peers held out line nothing rest =
+    Runs-all on draws peers line any_run [] held held out out (Going-none on draws peers line any_run held out (λ run reflects. tt))
+    (λ run reflects kept. (held.members, (reflects.members, rest), nothing run held.members))
 
--- ---- texts
+-- ---- where lines stand
 
-module _ {D G V R : Type 0} (on : Devices D G V) (draws : DrawGhosts R) (peers : Drawing) (text : List ℕ) (old new : View D G R) (was now : Shown) where
-  Runs-text : (line : ScriptLine) → line_of text ≡ Some line → Runs on.disks draws peers (by_line on line) old new was now
-      → Runs on.disks draws peers (by_text on text) old new was now
-  Runs-text line is run = record {
-    more = run.more;
-    grown = run.grown;
-    each = λ by start stands. let h = run.each by start stands in (h.0, (line, is, h.1), h.2);
-    puts = run.puts;
+-- a report of one line that broke off
+pub line_breaks : (ending : Ending) (was now : Shown) (more : List Entry) → ReportBreaksOff ending was now more → LineBreaksOff ending was now more
+line_breaks ending was now more breaks =
+    record { told = more; untold = []; parts = sym (append-nil more); breaks = breaks; block = inl refl }
+
+reports_there : (stop : Stop) (was now : Shown) (more : List Entry) → ReportsUntil stop was now more → ReportsThere stop was now more
+reports_there Line was now more h = h
+reports_there Source was now more h = h
+reports_there Sink was now more h = line_breaks SinkEnding was now more h
+reports_there Memory was now more h = h
+reports_there Unreported was now more h = line_breaks MemoryEnding was now more h
+
+module _ {D G V R : Type 0} (on : Devices D G V) (draws : DrawGhosts R) (peers : Drawing) (old new : View D G R) (was now : Shown) where
+  -- the same where growth is told of each run
+  runs_there : (gives : Giving D G) → Runs on.disks draws peers gives old new was now → RunsThere on.disks draws peers gives old new was now
+  runs_there gives h = record {
+    more = h.more;
+    each = λ by run stands. let each = h.each by run stands in record { after = each.0; grown = h.grown; given = each.1; stands = each.2 };
+    puts = h.puts;
   }
 
-  Stops-text : (line : ScriptLine) → line_of text ≡ Some line → (stop : Stop) → StopsIn on draws peers line stop old new was now
-      → Stops on.disks draws peers (begun_by_text on text) stop old new was now
-  Stops-text line is stop h = record {
-    more = h.stops.more;
-    grown = h.stops.grown;
-    each = λ by start stands. let each = h.stops.each by start stands in (each.0, inr (line, is, each.1), each.2);
-    reports = h.stops.reports;
-  }
-
-  -- a text is such a line
-  module _ (line : ScriptLine) (is : line_of text ≡ Some line) (result : Result Unit Stop)
-      (ends : MatchResult result (λ _. Runs on.disks draws peers (by_line on line) old new was now) (λ stop. StopsIn on draws peers line stop old new was now))
-    where
-      pub ok_by_text : OnOk result (Runs on.disks draws peers (by_text on text) old new was now)
-      ok_by_text = MatchResult-weaker result ends (λ _ run. Runs-text line is run) (λ stop h. tt)
-
-      pub stops_by_text : IfErr result (λ stop. Stops on.disks draws peers (begun_by_text on text) stop old new was now)
-      stops_by_text = MatchResult-weaker result ends (λ _ run. tt) (λ stop h. Stops-text line is stop h)
-
-  -- or it is none
-  pub Stops-faulty : new ≡ old → now ≡ was → Stops on.disks draws peers (begun_by_text on text) Line old new was now
-  Stops-faulty same put = record {
+  -- nothing was given
+  stops_nothing : (stop : Stop) (begins : Giving D G)
+      → ((by : Keying G) (before : List Entry) (run : Run D) → begins by before run [] run) → new.server ≡ old.server → new.entries ≡ old.entries
+      → ReportsThere stop was now [] → StopsThere on.disks draws peers begins stop old new was now
+  stops_nothing stop begins nothing server entries reports = record {
     more = [];
-    grown = ap (λ (held : View D G R). held.entries) same ∙ sym (append-nil old.entries);
     each = λ by run stands. (
-      run,
-      inl (refl, refl),
-      subst (λ (held : View D G R). IsServerOf on.disks draws held.server run.host) (sym same) stands.reflects.server,
+      record {
+        after = run;
+        grown = entries ∙ sym (append-nil old.entries);
+        given = nothing by old.entries run;
+        stands = subst (λ server. IsServerOf on.disks draws server run.host) (sym server) stands.reflects.server;
+      },
+      reports,
     );
-    reports = (refl, subst (λ now. Puts was now []) (sym put) (Puts-none was));
   }
+
+  module _ (workers : ℕ) (block : BlockSoFar) where
+    -- a line that may not stand there
+    pub stops_faulty : (line : ScriptLine) → after_line block line ≡ None → new ≡ old → now ≡ was
+        → StopsAtLine on draws peers workers block line Line old new was now
+    stops_faulty line faulty same put = record {
+      stops = stops_nothing Line (begun_at on workers block line) (λ by before run. inl (refl, refl)) (ap (λ (held : View D G R). held.server) same)
+          (ap (λ (held : View D G R). held.entries) same) (refl, subst (λ now. Puts was now []) (sym put) (Puts-none was));
+      faulty = λ is. faulty;
+      other = λ is. absurd (cc is);
+    }
+
+    -- or for which there was no memory
+    pub stops_short : (line : ScriptLine) → new ≡ old → now ≡ was → StopsAtLine on draws peers workers block line Memory old new was now
+    stops_short line same put = record {
+      stops = stops_nothing Memory (begun_at on workers block line) (λ by before run. inl (refl, refl)) (ap (λ (held : View D G R). held.server) same)
+          (ap (λ (held : View D G R). held.entries) same) (subst (λ now. Puts was now []) (sym put) (Puts-none was));
+      faulty = λ is. absurd (cc is);
+      other = λ is. absurd (cc is);
+    }
+
+    -- one of these
+    pub stops_either : (line : ScriptLine) (stop : Stop) → (stop ≡ Line) ⊎ (stop ≡ Memory) → (stop ≡ Line → after_line block line ≡ None) → new ≡ old → now ≡ was
+        → StopsAtLine on draws peers workers block line stop old new was now
+    stops_either line stop (inl is) faulty same put =
+        subst (λ stop. StopsAtLine on draws peers workers block line stop old new was now) (sym is) (stops_faulty line (faulty is) same put)
+    stops_either line stop (inr is) faulty same put =
+        subst (λ stop. StopsAtLine on draws peers workers block line stop old new was now) (sym is) (stops_short line same put)
+
+    -- a line gave nothing
+    pub runs_none : (line : ScriptLine) (next : BlockSoFar) → after_line block line ≡ Some next
+        → ((by : Keying G) (before : List Entry) (run : Run D) → GivesAt on by workers block line before run [] run) → new ≡ old → now ≡ was
+        → RunsAt on draws peers workers block line next old new was now
+    runs_none line next stands nothing same put = record {
+      stands = stands;
+      runs = record {
+        more = [];
+        each = λ by run there. record {
+          after = run;
+          grown = ap (λ (held : View D G R). held.entries) same ∙ sym (append-nil old.entries);
+          given = nothing by old.entries run;
+          stands = subst (λ held. Stands on.disks draws peers by held run) (sym same) there;
+        };
+        puts = subst (λ now. Puts was now []) (sym put) (Puts-none was);
+      };
+    }
+
+  module _ (workers : ℕ) where
+    -- a line outside a block, that begins and ends none
+    pub runs_outside : (line : ScriptLine) (result : Result Unit Stop) → after_outside line ≡ Some None
+        → RunsLine on draws peers line result old new was now → RunsLineAt on draws peers workers None line None result old new was now
+    runs_outside line result stands ends =
+        MatchResult-weaker result ends (λ _ run. record { stands = stands; runs = runs_there (given_at on workers None line) run })
+        (λ stop h. record {
+          stops = record {
+            more = h.stops.more;
+            each = λ by run there.
+                let each = h.stops.each by run there in (
+                  record { after = each.0; grown = h.stops.grown; given = inr (None, stands, each.1); stands = each.2 },
+                  reports_there stop was now h.stops.more h.stops.reports,
+                );
+          };
+          faulty = λ is. absurd (h.known is);
+          other = λ is. subst (λ stop. ReportsUntil stop was now h.stops.more) is h.stops.reports;
+        })
+
+    -- the line that ends a block, which was run
+    pub runs_block : (asks : List BlockAsk) (result : Result Unit Stop) → after_in_block asks lines.End ≡ Some None
+        → RunsBlock on draws peers (by_block on workers asks) (begun_by_block on workers asks) result old new was now
+        → RunsLineAt on draws peers workers (Some asks) lines.End None result old new was now
+    runs_block asks result stands ends =
+        MatchResult-weaker result ends (λ _ run. record { stands = stands; runs = run })
+        (λ stop h. record {
+          stops = record {
+            more = h.stops.more;
+            each = λ by run there.
+                let each = h.stops.each by run there in (
+                  record { after = each.0.after; grown = each.0.grown; given = inr (None, stands, each.0.given); stands = each.0.stands },
+                  each.1,
+                );
+          };
+          faulty = λ is. absurd (h.known is);
+          other = h.other;
+        })
+
+    -- ---- texts
+
+    module _ (text : List ℕ) (block next : BlockSoFar) where
+      text_runs : (line : ScriptLine) → line_of text ≡ Some line → RunsAt on draws peers workers block line next old new was now
+          → RunsThere on.disks draws peers (by_text on workers block text next) old new was now
+      text_runs line is h = record {
+        more = h.runs.more;
+        each = λ by run there.
+            let each = h.runs.each by run there in record {
+              after = each.after;
+              grown = each.grown;
+              given = record { line = line; is = is; stands = h.stands; gives = each.given };
+              stands = each.stands;
+            };
+        puts = h.runs.puts;
+      }
+
+      text_stops : (line : ScriptLine) → line_of text ≡ Some line → (stop : Stop) → StopsAtLine on draws peers workers block line stop old new was now
+          → StopsThere on.disks draws peers (begun_by_text on workers block text) stop old new was now
+      text_stops line is stop h = record {
+        more = h.stops.more;
+        each = λ by run there.
+            let each = h.stops.each by run there in (
+              record {
+                after = each.0.after;
+                grown = each.0.grown;
+                given = ⊎_elim (λ (none : (h.stops.more ≡ []) × (each.0.after ≡ run)). inl none)
+                    (λ (begins : (next : BlockSoFar) × (after_line block line ≡ Some next)
+                    × BeginsAt on by workers block line old.entries run h.stops.more each.0.after).
+                    inr (record { line = line; is = is; next = begins.0; stands = begins.1; begins = begins.2 })) each.0.given;
+                stands = each.0.stands;
+              },
+              each.1,
+            );
+      }
+
+      -- a text is such a line
+      module _ (line : ScriptLine) (is : line_of text ≡ Some line) (result : Result Unit Stop)
+          (ends : RunsLineAt on draws peers workers block line next result old new was now) where
+        pub ok_by_text : OnOk result (RunsThere on.disks draws peers (by_text on workers block text next) old new was now)
+        ok_by_text = MatchResult-weaker result ends (λ _ run. text_runs line is run) (λ stop h. tt)
+
+        pub stops_by_text : IfErr result (λ stop. StopsThere on.disks draws peers (begun_by_text on workers block text) stop old new was now)
+        stops_by_text = MatchResult-weaker result ends (λ _ run. tt) (λ stop h. text_stops line is stop h)
+
+        faulty_at : (found : Result Unit Stop) → RunsLineAt on draws peers workers block line next found old new was now → found ≡ Err Line
+            → after_text block text ≡ None
+        faulty_at (Ok u) ends fails = absurd (cc fails)
+        faulty_at (Err stop) ends fails = ap (option_and_then (after_line block)) is ∙ ends.faulty (cc fails)
+
+        other_at : (found : Result Unit Stop) → RunsLineAt on draws peers workers block line next found old new was now → found ≡ Err Source → ⊥
+        other_at (Ok u) ends fails = absurd (cc fails)
+        other_at (Err stop) ends fails = ends.other (cc fails)
+
+        pub other_by_text : result ≡ Err Source → ⊥
+        other_by_text fails = other_at result ends fails
+
+        pub faulty_by_text : result ≡ Err Line → after_text block text ≡ None
+        faulty_by_text fails = faulty_at result ends fails
+
+      -- or it is none
+      pub no_line_stops : new ≡ old → now ≡ was → StopsThere on.disks draws peers (begun_by_text on workers block text) Line old new was now
+      no_line_stops same put =
+          stops_nothing Line (begun_by_text on workers block text) (λ by before run. inl (refl, refl)) (ap (λ (held : View D G R). held.server) same)
+          (ap (λ (held : View D G R). held.entries) same) (refl, subst (λ now. Puts was now []) (sym put) (Puts-none was))
+
+      pub no_line_faulty : line_of text ≡ None → after_text block text ≡ None
+      no_line_faulty none = ap (option_and_then (after_line block)) none
+
+-- what holds whatever the result
+pub holds_ok : {T E : Type 0} {P : Type 0} (result : Result T E) → P → OnOk result P
+holds_ok (Ok t) h = h
+holds_ok (Err e) h = tt
+
+-- the line that begins a block
+pub begins_runs : {D G V R : Type 0} (on : Devices D G V) (draws : DrawGhosts R) (peers : Drawing) (held : View D G R) (out : Shown) (workers : ℕ)
+    → held.members.mail ≡ [] → RunsAt on draws peers workers None lines.Together (Some []) held held out out
+begins_runs on draws peers held out workers rest = record {
+  stands = refl;
+  runs = runs_there on draws peers held held out out (by_line on lines.Together)
+      (Runs-nothing on draws peers held out lines.Together (λ run members. refl) rest);
+}

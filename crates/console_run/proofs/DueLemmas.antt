@@ -27,13 +27,13 @@ use Rattle.member_store.specs.Stores.{Store}
 use Rattle.member_steps.specs.Members.{Members}
 use Rattle.member_steps.specs.Steps.{Gives, IsDelivery}
 use Rattle.group_steps.specs.Runs.{Run, with_members}
-use Rattle.group_steps.specs.Steps.{IsAnswered, IsAnsweredAfter, push_sent}
+use Rattle.group_steps.specs.Steps.{push_sent}
 use Rattle.script_text.specs.declared.lines.Line.TheVariants as lines
 use Rattle.run_report.specs.declared.stops.Stop.{Stop}
 use Rattle.run_report.specs.declared.stops.Stop.TheVariants.{Memory}
 use Rattle.group_steps.specs.Devices.{Devices, Keying}
 use Rattle.console_run.specs.Names.{console_name}
-use Rattle.console_run.specs.Lines.{Asks, AsksNext, GivesWhatIsDue, WasGivenLast}
+use Rattle.console_run.specs.Lines.{IsAnsweredHere, IsGivenAfter, Asks, AsksNext, GivesWhatIsDue, WasGivenLast}
 use Rattle.console_run.specs.Private.Asks.{Answers, StopsIn}
 use Rattle.console_run.specs.Private.Runs.{Drawing, drawing, Runs, Stands, by_line}
 use Rattle.console_run.proofs.ActLemmas.{ignores_all, ignores_none}
@@ -218,10 +218,10 @@ module _ {D G V R : Type 0} (on : Devices D G V) (draws : DrawGhosts R) (peers :
           )
 
       given : (by : Keying G) (run next : Run D) → Stands on.disks draws peers by middle run → goes_on last more run
-          → IsAnsweredAfter on by middle.members middle.entries run answers.entry next → goes_on (Some delivery) (more ++ answers.entry ∷ []) next
+          → IsGivenAfter on by middle.members middle.entries run answers.entry next → goes_on (Some delivery) (more ++ answers.entry ∷ []) next
       given by run next stands kept step =
           let acts = subst
-          (λ asked. IsAnswered on by middle.entries asked (with_members run middle.members) answers.entry.answer answers.entry.outside next)
+          (λ asked. IsAnsweredHere on by middle.entries asked (with_members run middle.members) answers.entry.answer answers.entry.outside next)
           answers.asked step.answered in
           let keeps = places_given middle.members next.members on.verifiers on.verifier delivery.member answers.entry.answer
           (push_sent middle.entries delivery.number) acts.acted in
@@ -285,7 +285,7 @@ module _ {D G V R : Type 0} (on : Devices D G V) (draws : DrawGhosts R) (peers :
           (Going-more on draws peers lines.DeliverAll stopped [] old old was was none new old.members requests.DeliverAll answers_all asks_all stopped now
           (λ by run next stands kept step.
           let answered = subst
-          (λ asked. IsAnswered on by old.entries asked (with_members run old.members) answers_all.entry.answer answers_all.entry.outside next)
+          (λ asked. IsAnsweredHere on by old.entries asked (with_members run old.members) answers_all.entry.answer answers_all.entry.outside next)
           answers_all.asked step.answered in
           ap (λ (host : Host D). host.server.needs_reopen) answered.served.says.stays ∙ kept)
           told.0 told.1)

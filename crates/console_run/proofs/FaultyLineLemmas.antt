@@ -1,10 +1,10 @@
--- A script whose lines are all of the grammar has no faulty line.
+-- A script whose lines may all stand where they stand has no faulty line.
 use Rattle.std.proofs.Common.{◌≡◌, ℕ, Bool, ◌+◌, ◌<◌, ◌≤◌, true, false, cond, List, [], ◌∷◌, ◌++◌, Option, length, sym, refl, ap, ◌∙◌, arith, inl, inr}
-use Rattle.std.specs.Prelude.{◌⊎◌, nat_le, is_some, Some, None}
-use Rattle.std.specs.List.{fold, list_any, list_all}
-use Rattle.std.proofs.lemmas.Bool.{cases_Bool, cases_lt, lt-ltb, or_parts, and_parts, ne_eqb, leb-true, false≢true}
+use Rattle.std.specs.Prelude.{◌⊎◌, option_and_then, Some, None}
+use Rattle.std.specs.List.{fold, list_any}
+use Rattle.std.proofs.lemmas.Bool.{cases_Bool, lt-ltb, ne_eqb, or_parts}
 use Rattle.std.proofs.lemmas.List.{append_assoc, append-nil, length-append}
-use Rattle.std.proofs.lemmas.List.Folds.{list_all-append}
+use Rattle.std.proofs.lemmas.Option.{none-some, same_Some}
 use Rattle.std.proofs.lemmas.List.Sums.{fold-append}
 use Rattle.group_model.specs.declared.entries.Entry.{Entry}
 use Rattle.group_model.specs.declared.entries.Asked.{Asked}
@@ -12,11 +12,13 @@ use Rattle.group_steps.specs.Runs.{Run}
 use Rattle.script_text.specs.Lines.{line_of, line_of_words}
 use Rattle.script_text.specs.Words.{words_of}
 use Rattle.group_steps.specs.Devices.{Devices, Keying}
-use Rattle.console_run.specs.Scripts.{ends_line, EndsLine, unfinished, script_lines, is_line, are_lines}
-use Rattle.console_run.specs.Causes.{CameFrom, EndsAtLine, Given, IsOver}
+use Rattle.console_run.specs.Blocks.{AreLines, BlockSoFar, after_line, after_text, after_texts}
+use Rattle.console_run.specs.Scripts.{ends_line, EndsLine, unfinished, script_lines}
+use Rattle.console_run.specs.Causes.{CameFrom, EndsAtFaultyLine, EndsAtLine, EndsInBlock, Given, IsOver}
 use Rattle.console_run.specs.Promises.{ShowsScript}
 use Rattle.console_run.specs.Private.Cuts.{Cut, cut_more, cut_of}
 use Rattle.console_run.proofs.CutLemmas.{cut_of-more, lines_cut, unfinished-some}
+use Rattle.console_run.proofs.LineLemmas.{inside_leaves, run_leads, texts_after}
 
 -- the lines of a cut, and what has come of the next
 abbrev lines_at : Cut → List (List ℕ)
@@ -134,46 +136,44 @@ lines_from before text others ends one_line =
     ∙ ap (λ cut. fold cut_more cut others) (kept_octets (script_lines before) [] text one_line))
 
 -- a line of the grammar has at most 200 octets
-short_line : (text : List ℕ) → is_line text ≡ true → length text ≤ 200
+long_line : (block : BlockSoFar) (text : List ℕ) → 200 < length text → after_text block text ≡ None
 unfolding line_of
-short_line text h = elim (cases_lt 200 (length text)) [
-  | inl long ↦ absurd (false≢true (sym (ap (λ b. is_some (cond b None (line_of_words (words_of text)))) (lt-ltb 200 (length text) long)) ∙ h))
-  | inr short ↦ short
-]
+long_line block text long = ap (λ b. option_and_then (after_line block) (cond b None (line_of_words (words_of text)))) (lt-ltb 200 (length text) long)
 
-empty_line : is_line [] ≡ true
+empty_line : (block next : BlockSoFar) → next ≡ block → after_text block [] ≡ None → ⊥
 unfolding line_of words_of
-empty_line = refl
+empty_line None next same is = none-some None (sym is)
+empty_line (Some asks) next same is = none-some (Some asks) (sym is)
 
-good_line : (lines more : List (List ℕ)) (line : List ℕ) → list_all is_line (lines ++ line ∷ more) ≡ true → is_line line ≡ true
-good_line lines more line h =
-    (and_parts (is_line line) (list_all is_line more)
-    (and_parts (list_all is_line lines) (list_all is_line (line ∷ more)) (sym (list_all-append is_line lines (line ∷ more)) ∙ h)).1).0
+-- a text that may not stand where it stands
+bad_text : (block : BlockSoFar) (text : List ℕ) (more : List (List ℕ)) → after_text block text ≡ None → after_texts block (text ∷ more) ≡ Some None → ⊥
+bad_text block text more bad is =
+    none-some None (sym (ap (option_and_then (λ (next : BlockSoFar). after_texts next more)) bad) ∙ is)
 
-module _ (octets before text after : List ℕ) (ended : Bool) (ends : EndsLine before) (one_line : list_any ends_line text ≡ false)
-    (good : are_lines (script_lines octets) ≡ true) where
-  all_good : (nat_le (length (script_lines octets)) 16384 ≡ true) × (list_all is_line (script_lines octets) ≡ true)
-  all_good = and_parts (nat_le (length (script_lines octets)) 16384) (list_all is_line (script_lines octets)) good
+module _ (octets before text after : List ℕ) (block : BlockSoFar) (ended : Bool) (ends : EndsLine before) (one_line : list_any ends_line text ≡ false)
+    (good : AreLines (script_lines octets)) (leads : after_texts None (script_lines before) ≡ Some block) where
+  -- a line after those before it may stand there
+  not_bad : (more : List (List ℕ)) (line : List ℕ) → script_lines octets ≡ script_lines before ++ line ∷ more → after_text block line ≡ None → ⊥
+  not_bad more line same bad =
+      bad_text block line more bad
+      (sym (texts_after (script_lines before) (line ∷ more) None block leads) ∙ ap (after_texts None) (sym same) ∙ good.stand)
 
-  not_bad : (lines more : List (List ℕ)) (line : List ℕ) → script_lines octets ≡ lines ++ line ∷ more → is_line line ≡ true
-  not_bad lines more line same = good_line lines more line (ap (list_all is_line) (sym same) ∙ all_good.1)
-
-  -- the text is a line, which was over
+  -- the text may stand there, where it was over
   no_bad_line : IsOver ended after → (ended ≡ true → octets ≡ before ++ (text ++ after)) → (others : List ℕ) → octets ≡ before ++ (text ++ (after ++ others))
-      → is_line text ≡ false → ⊥
+      → after_text block text ≡ None → ⊥
   no_bad_line over taken others whole bad = elim over [
     | inl here ↦ (
         let from = lines_from before text (after ++ others) ends one_line
         ∙ ap (λ octets. lines_at (fold cut_more (record { lines = script_lines before; rest = text }) (octets ++ others))) here.1 in
         let more = ended_line (script_lines before) text (here.0 ++ others) in
-        false≢true (sym bad ∙ not_bad (script_lines before) more.0 text (ap script_lines whole ∙ from ∙ more.1))
+        not_bad more.0 text (ap script_lines whole ∙ from ∙ more.1) bad
         )
     | inr end ↦ elim (some_or_none text) [
-      | inl none ↦ false≢true (sym bad ∙ ap is_line none ∙ empty_line)
+      | inl none ↦ empty_line block block refl (ap (after_text block) (sym none) ∙ bad)
       | inr some ↦ (
           let all : octets ≡ before ++ (text ++ []) = taken end.1 ∙ ap (λ after. before ++ (text ++ after)) end.0 in
-          false≢true (sym bad ∙ not_bad (script_lines before) [] text
-          (ap script_lines all ∙ lines_from before text [] ends one_line ∙ ap (λ last. script_lines before ++ last) (unfinished-some text some)))
+          not_bad [] text (ap script_lines all ∙ lines_from before text [] ends one_line ∙ ap (λ last. script_lines before ++ last) (unfinished-some text some))
+          bad
           )
     ]
   ]
@@ -187,13 +187,8 @@ module _ (octets before text after : List ℕ) (ended : Bool) (ends : EndsLine b
       let more = begun_line lines (text ++ octet ∷ []) later (omega (arith, length-append text (octet ∷ []))) in
       let from = lines_from before text (octet ∷ later) ends one_line ∙ ap (λ b. lines_at (fold cut_more (cond b ended kept) later)) (ne_eqb octet 10 other) in
       let line = (text ++ octet ∷ []) ++ more.0 in
-      omega (
-        arith,
-        long,
-        length-append text (octet ∷ []),
-        length-append (text ++ octet ∷ []) more.0,
-        short_line line (not_bad lines more.1 line (ap script_lines whole ∙ from ∙ more.2)),
-      )
+      not_bad more.1 line (ap script_lines whole ∙ from ∙ more.2)
+      (long_line block line (omega (arith, long, length-append text (octet ∷ []), length-append (text ++ octet ∷ []) more.0)))
 
   -- there are no more lines than there may be
   no_late_line : (others : List ℕ) → 0 < length others → octets ≡ before ++ (text ++ others) → length (script_lines before) < 16384
@@ -201,31 +196,49 @@ module _ (octets before text after : List ℕ) (ended : Bool) (ends : EndsLine b
       let lines = script_lines before in
       let more = one_more_line lines text others some in
       let same = ap (λ octets. length (script_lines octets)) whole ∙ ap length (lines_from before text others ends one_line) in
-      omega (arith, more, same, leb-true (length (script_lines octets)) 16384 all_good.0)
+      omega (arith, more, same, good.few)
 
--- no line of such a script is faulty
-module _ {D G V : Type 0} (on : Devices D G V) (by : Keying G) (given : Given) (request : Asked) (start : Run D) (number : ℕ) (entries : List Entry)
-    (after : Run D) where
-  pub no_faulty_line : (had left : Option (List ℕ)) → ShowsScript had → CameFrom had left given → EndsAtLine on by given request start number entries after → ⊥
-  no_faulty_line None left good came h = good
-  no_faulty_line (Some octets) None good came h = came.consumed
-  no_faulty_line (Some octets) (Some others) good came h =
+-- no line of such a script is faulty, and it ends in no block
+module _ {D G V : Type 0} (on : Devices D G V) (by : Keying G) (workers : ℕ) (given : Given) (request : Asked) (start : Run D) (number : ℕ)
+    (entries : List Entry) (after : Run D) where
+  not_inside : (octets : List ℕ) → AreLines (script_lines octets) → octets ≡ given.taken → EndsInBlock on by workers given request start number entries after → ⊥
+  not_inside octets good all h =
+      let before = run_leads on by workers request start h.front None entries after h.run in
+      let begun : after_text None h.first ≡ Some (Some []) = ap (option_and_then (after_line None)) h.begins in
+      let inside : after_texts None (h.first ∷ h.inner) ≡ Some (Some h.asks) =
+      ap (option_and_then (λ (next : BlockSoFar). after_texts next h.inner)) begun ∙ inside_leaves h.inner [] h.asks h.inside in
+      let left : after_texts None (script_lines octets) ≡ Some (Some h.asks) =
+      ap (λ octets. after_texts None (script_lines octets)) all ∙ ap (after_texts None) h.lines
+      ∙ texts_after h.front (h.first ∷ h.inner) None None before ∙ inside in
+      none-some h.asks (same_Some None (Some h.asks) (sym good.stand ∙ left))
+
+  no_faulty : (octets others : List ℕ) → AreLines (script_lines octets) → CameFrom (Some octets) (Some others) given
+      → EndsAtFaultyLine on by workers given request start number entries after → ⊥
+  no_faulty octets others good came h =
       let taken : octets ≡ (h.before ++ (h.text ++ h.rest)) ++ others = came.consumed ∙ ap (λ taken. taken ++ others) h.cut.parts in
       let whole : octets ≡ h.before ++ (h.text ++ (h.rest ++ others)) =
       taken ∙ append_assoc h.before (h.text ++ h.rest) others ∙ ap (λ octets. h.before ++ octets) (append_assoc h.text h.rest others) in
+      let leads = run_leads on by workers request start (script_lines h.before) h.block entries after h.run in
       elim h.faulty [
         | inl late ↦ omega (
           arith,
           late.0,
           h.counted,
-          no_late_line octets h.before h.text h.rest given.ended h.cut.whole_lines h.cut.one_line good (h.rest ++ others)
+          no_late_line octets h.before h.text h.rest h.block given.ended h.cut.whole_lines h.cut.one_line good leads (h.rest ++ others)
               (omega (arith, late.1, length-append h.rest others)) whole,
         )
         | inr (inl long) ↦ (
             let next = long.1 in
-            no_long_line octets h.before h.text h.rest given.ended h.cut.whole_lines h.cut.one_line good long.0 next.0 (next.1 ++ others) next.3
+            no_long_line octets h.before h.text h.rest h.block given.ended h.cut.whole_lines h.cut.one_line good leads long.0 next.0 (next.1 ++ others) next.3
             (whole ∙ ap (λ rest. h.before ++ (h.text ++ (rest ++ others))) next.2)
             )
-        | inr (inr bad) ↦ no_bad_line octets h.before h.text h.rest given.ended h.cut.whole_lines h.cut.one_line good bad.1
+        | inr (inr bad) ↦ no_bad_line octets h.before h.text h.rest h.block given.ended h.cut.whole_lines h.cut.one_line good leads bad.1
             (λ all. came.whole all ∙ h.cut.parts) others whole bad.0
       ]
+
+  pub no_faulty_line : (had left : Option (List ℕ)) → ShowsScript had → CameFrom had left given
+      → EndsAtLine on by workers given request start number entries after → ⊥
+  no_faulty_line None left good came h = good
+  no_faulty_line (Some octets) None good came h = came.consumed
+  no_faulty_line (Some octets) (Some others) good came (inl h) = no_faulty octets others good came h
+  no_faulty_line (Some octets) (Some others) good came (inr h) = not_inside octets good (came.whole h.ended) h

@@ -1,5 +1,5 @@
 -- A run from its opening on.
-use Rattle.std.proofs.Common.{◌≡◌, ℕ, true, false, List, [], ◌∷◌, ◌++◌, sym, refl, subst}
+use Rattle.std.proofs.Common.{◌≡◌, ℕ, true, false, List, [], ◌∷◌, ◌++◌, Option, None, sym, refl, ap, ◌∙◌, subst}
 use Rattle.std.proofs.lemmas.Bool.{false≢true}
 use Rattle.std.proofs.KnownBytes.{Consumes-nil}
 use Rattle.gd_edges.specs.Shown.{Shown}
@@ -11,6 +11,7 @@ use Rattle.script_text.specs.Report.{entry_text, entries_text}
 use Rattle.run_report.specs.declared.stops.Stop.{Stop}
 use Rattle.run_report.specs.declared.stops.Stop.TheVariants.{Line, Source as SourceStop, Sink as SinkStop, Memory as MemoryStop, Unreported}
 use Rattle.run_report.specs.declared.endings.Ending.TheVariants.{Whole}
+use Rattle.console_run.specs.declared.open_blocks.OpenBlock.{OpenBlock}
 use Rattle.console_run.specs.Causes.{CameFrom}
 use Rattle.group_steps.specs.Devices.{Devices}
 use Rattle.run_report.specs.Reports.{Puts}
@@ -28,21 +29,29 @@ SourceFails-report SinkStop was out entry faults h = refl
 SourceFails-report MemoryStop was out entry faults h = refl
 SourceFails-report Unreported was out entry faults h = refl
 
+-- what is known of the last entry of a group is known where it is another value
+pub of_held : {D G R : Type 0} (a b : View D G R) (P : Entry → Type 0) → a ≡ b
+    → ((front : List Entry) (entry : Entry) → a.entries ≡ front ++ entry ∷ [] → P entry)
+    → (front : List Entry) (entry : Entry) → b.entries ≡ front ++ entry ∷ [] → P entry
+of_held {D = D} {G = G} {R = R} a b P same h front entry is = h front entry (ap (λ (held : View D G R). held.entries) same ∙ is)
+
 -- before the source was asked
 nothing_came : (had : Shown) → CameFrom had.octets had.octets (given_of [] false)
 nothing_came had = record { consumed = Consumes-nil had.octets; octets = refl; whole = λ ended. absurd (false≢true ended) }
 
 -- A group that was opened, with the line and the count of a run before its script. Then its last entry was reported, or the report broke off.
-module _ {D G V R : Type 0} (on : Devices D G V) (draws : DrawGhosts R) (start : Start D G) (held : View D G R) (line : List ℕ) (count : ℕ) (was out : Shown)
-    (peers : Drawing) (same : start.was ≡ was) (opened : IsOpened on draws peers start held) (none : line ≡ []) (zeroth : count ≡ 0) where
+module _ {D G V R : Type 0} (on : Devices D G V) (draws : DrawGhosts R) (workers : ℕ) (start : Start D G) (held : View D G R) (block : Option OpenBlock)
+    (line : List ℕ) (count : ℕ) (was out : Shown)
+    (peers : Drawing) (same : start.was ≡ was) (opened : IsOpened on draws peers start held) (closed : block ≡ None) (none : line ≡ [])
+    (zeroth : count ≡ 0) where
   -- a moment before the script
-  same_moment : moment held [] 0 out peers ≡ moment held line count out peers
-  same_moment = λ i. moment held (sym none i) (sym zeroth i) out peers
+  same_moment : moment held None [] 0 out peers ≡ moment held block line count out peers
+  same_moment = λ i. moment held (sym closed i) (sym none i) (sym zeroth i) out peers
 
   -- the report of the opening broke off
   pub run_stopped_at_opening : (had : Shown) (stop : Stop)
       → ((front : List Entry) (entry : Entry) → held.entries ≡ front ++ entry ∷ [] → EntryStops stop was out entry)
-      → IsRunUntil on draws stop start had had (moment held line count out peers)
+      → IsRunUntil on draws workers stop start had had (moment held block line count out peers)
   run_stopped_at_opening had stop stops =
       let first = opened.opens.first in
       let here : EntryStops stop start.was out first.entry = subst (λ was. EntryStops stop was out first.entry) (sym same) (stops [] first.entry first.alone) in
@@ -50,7 +59,7 @@ module _ {D G V R : Type 0} (on : Devices D G V) (draws : DrawGhosts R) (start :
         given = given_of [] false;
         came = nothing_came had;
         source = SourceFails-report stop start.was out first.entry had.faults here;
-        stopped = subst (IsStoppedAt on draws stop (given_of [] false) start) same_moment (stopped_at_opening on draws start held out peers opened stop here);
+        stopped = subst (IsStoppedAt on draws workers stop (given_of [] false) start) same_moment (stopped_at_opening on draws workers start held out peers opened stop here);
       }
 
   module _ (reported : (front : List Entry) (entry : Entry) → held.entries ≡ front ++ entry ∷ []
@@ -58,25 +67,25 @@ module _ {D G V R : Type 0} (on : Devices D G V) (draws : DrawGhosts R) (start :
     all_reported : Puts start.was out (entries_text held.entries)
     all_reported =
         let first = opened.opens.first in
-        opening_reported on draws start held out peers opened
+        opening_reported on draws workers start held out peers opened
         (subst (λ was. Puts was out (entry_text first.entry)) (sym same) (reported [] first.entry first.alone).0)
 
     -- out of memory before going on
-    pub run_out_of_memory : (had : Shown) → IsRunUntil on draws MemoryStop start had had (moment held line count out peers)
+    pub run_out_of_memory : (had : Shown) → IsRunUntil on draws workers MemoryStop start had had (moment held block line count out peers)
     run_out_of_memory had = record {
       given = given_of [] false;
       came = nothing_came had;
       source = refl;
-      stopped = subst (IsStoppedAt on draws MemoryStop (given_of [] false) start) same_moment
-          (no_memory_after_opening on draws start held out peers opened all_reported);
+      stopped = subst (IsStoppedAt on draws workers MemoryStop (given_of [] false) start) same_moment
+          (no_memory_after_opening on draws workers start held out peers opened all_reported);
     }
 
-    so_far : IsSoFar on draws start [] (moment held line count out peers)
-    so_far = subst (IsSoFar on draws start []) same_moment (first_so_far on draws start held out peers opened all_reported)
+    so_far : IsSoFar on draws workers start [] (moment held block line count out peers)
+    so_far = subst (IsSoFar on draws workers start []) same_moment (first_so_far on draws workers start held out peers opened all_reported)
 
     -- the script was taken up to where the run stopped
-    pub run_stopped : (had left : Shown) (stop : Stop) (new : Moment D G R) → TakesAndStops on draws stop had left (moment held line count out peers) new
-        → IsRunUntil on draws stop start had left new
+    pub run_stopped : (had left : Shown) (stop : Stop) (new : Moment D G R) → TakesAndStops on draws workers stop had left (moment held block line count out peers) new
+        → IsRunUntil on draws workers stop start had left new
     run_stopped had left stop new h = record {
       given = given_of h.taken false;
       came = record { consumed = h.consumed; octets = h.small; whole = λ ended. absurd (false≢true ended) };
@@ -84,19 +93,19 @@ module _ {D G V R : Type 0} (on : Devices D G V) (draws : DrawGhosts R) (start :
       stopped = h.stops start [] so_far;
     }
 
-    module _ (had left : Shown) (middle : Moment D G R) (taken : TakesAndGoesOn on draws had left (moment held line count out peers) middle) where
-      all_so_far : IsSoFar on draws start taken.taken middle
+    module _ (had left : Shown) (middle : Moment D G R) (taken : TakesAndGoesOn on draws workers had left (moment held block line count out peers) middle) where
+      all_so_far : IsSoFar on draws workers start taken.taken middle
       all_so_far = taken.goes start [] so_far
 
       came : CameFrom had.octets left.octets (given_of taken.taken true)
       came = record { consumed = taken.consumed; octets = all_so_far.small; whole = λ ended. taken.whole }
 
       -- it was taken whole, and what comes after its last line end was run
-      pub run_whole : (new : Moment D G R) → Ends on draws middle new → IsRunTo on draws Whole start had left new
+      pub run_whole : (new : Moment D G R) → Ends on draws workers middle new → IsRunTo on draws workers Whole start had left new
       run_whole new ends = record { given = given_of taken.taken true; came = came; source = taken.no_fault; reported = ends start taken.taken all_so_far }
 
       -- or the run stopped there
-      pub run_stopped_at_end : (stop : Stop) (new : Moment D G R) → SourceFails stop had.faults left.faults → StopsAtEnd on draws stop middle new
-          → IsRunUntil on draws stop start had left new
+      pub run_stopped_at_end : (stop : Stop) (new : Moment D G R) → SourceFails stop had.faults left.faults → StopsAtEnd on draws workers stop middle new
+          → IsRunUntil on draws workers stop start had left new
       run_stopped_at_end stop new source stops =
           record { given = given_of taken.taken true; came = came; source = source; stopped = stops start taken.taken all_so_far }

@@ -21,7 +21,6 @@ use Rattle.group_run.specs.Views.{View}
 use Rattle.group_steps.specs.Devices.{Devices}
 use Rattle.group_steps.specs.Gets.{introduced_by}
 use Rattle.group_steps.specs.Runs.{Run, with_members}
-use Rattle.group_steps.specs.Steps.{IsAnswered}
 use Rattle.member_steps.specs.Acts.{BeginsPull, IsFirstUse}
 use Rattle.member_steps.specs.Members.{Members}
 use Rattle.script_text.specs.declared.lines.Line.{Line as ScriptLine}
@@ -29,7 +28,7 @@ use Rattle.script_text.specs.declared.lines.Line.TheVariants as lines
 use Rattle.run_report.specs.declared.stops.Stop.{Stop}
 use Rattle.run_report.specs.declared.stops.Stop.TheVariants.{Line, Memory}
 use Rattle.console_run.specs.Names.{console_name}
-use Rattle.console_run.specs.Lines.{AsksNext, AsksToIntroduce, AsksToPull, JoinsAfter, asked_again}
+use Rattle.console_run.specs.Lines.{IsAnsweredHere, AsksNext, AsksToIntroduce, AsksToPull, JoinsAfter, asked_again}
 use Rattle.console_run.specs.Private.Asks.{Answers, StopsIn}
 use Rattle.console_run.specs.Private.Mail.{begun_by_mail, by_mail}
 use Rattle.console_run.specs.Private.Runs.{Drawing, Runs, Stops, by_line}
@@ -273,7 +272,7 @@ module _ {D G V R : Type 0} (on : Devices D G V) (draws : DrawGhosts R) (peers :
         Going-more on draws peers (lines.Join m) any_run [] old old was was (none_yet on draws peers (lines.Join m) old was) middle used request answers
         asks_introduce has_introduced seen
         (λ by run next stands kept step.
-        (subst (λ asked. IsAnswered on by old.entries asked (with_members run used) answers.entry.answer answers.entry.outside next) answers.asked
+        (subst (λ asked. IsAnsweredHere on by old.entries asked (with_members run used) answers.entry.answer answers.entry.outside next) answers.asked
         step.answered).gets)
         put.0 put.1
 

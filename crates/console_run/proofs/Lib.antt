@@ -1,5 +1,8 @@
 mod ActLemmas
 mod AskLemmas
+mod BlockMemoryLemmas
+mod BlockRunLemmas
+mod BlockStepLemmas
 mod CutLemmas
 mod DueLemmas
 mod EndingLemmas
@@ -10,9 +13,12 @@ mod HistoryLemmas
 mod JoinLemmas
 mod LineLemmas
 mod MailLemmas
+mod OpenBlockLemmas
 mod OpenedLemmas
 mod PromiseLemmas
 mod ServeLemmas
+mod SoakLemmas
+mod SoakRunLemmas
 mod SoFarLemmas
 mod StopLemmas
 mod StoreLemmas

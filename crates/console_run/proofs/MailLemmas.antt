@@ -18,7 +18,6 @@ use Rattle.group_run.specs.Tells.{AllIsRead, HasReadSome, KeepsNext, SendsNext}
 use Rattle.group_run.specs.Views.{View}
 use Rattle.group_steps.specs.Devices.{Devices, Keying}
 use Rattle.group_steps.specs.Runs.{Run}
-use Rattle.group_steps.specs.Steps.{IsAnsweredAfter}
 use Rattle.member_pull.specs.Views.{Pull}
 use Rattle.member_pull.specs.declared.pulls.Step.{Step}
 use Rattle.member_pull.specs.declared.pulls.Step.TheVariants as steps
@@ -32,7 +31,7 @@ use Rattle.run_report.specs.declared.endings.Ending.{Ending}
 use Rattle.run_report.specs.declared.endings.Ending.TheVariants.{Sink as SinkEnding, Memory as MemoryEnding}
 use Rattle.run_report.specs.Reports.{Puts, ReportBreaksOff}
 use Rattle.run_report.proofs.KnownLemmas.{Puts-entries, Puts-entry, Puts-none}
-use Rattle.console_run.specs.Lines.{Asks, AsksAfter, AsksNext, BeginsToGive, GoesThrough}
+use Rattle.console_run.specs.Lines.{IsGivenAfter, Asks, AsksAfter, AsksNext, BeginsToGive, GoesThrough}
 use Rattle.console_run.specs.Private.Asks.{Answers, StopsIn}
 use Rattle.console_run.specs.Private.Mail.{begun_by_mail, by_mail}
 use Rattle.console_run.specs.Private.Runs.{Drawing, ReportsUntil, Runs, Stands, Stops, by_line}
@@ -209,14 +208,14 @@ module _ {D G V R : Type 0} (on : Devices D G V) (draws : DrawGhosts R) (peers :
 module _ {D G V : Type 0} (on : Devices D G V) (by : Keying G) where
   mail_then : (before : List Entry) (run : Run D) (more : List Entry) (middle : Run D) (entry : Entry) (acted : Members) (after : Run D)
       → any_ran_out more ≡ false → begun_by_mail on by before run more middle → ReadsMail middle.members (Some (entry.asked, acted))
-      → IsAnsweredAfter on by acted (before ++ more) middle entry after → begun_by_mail on by before run (more ++ entry ∷ []) after
+      → IsGivenAfter on by acted (before ++ more) middle entry after → begun_by_mail on by before run (more ++ entry ∷ []) after
   mail_then before run [] middle entry acted after enough same asks step = (
     acted,
     subst (λ (run : Run D). ReadsMail run.members (Some (entry.asked, acted))) same asks,
     inl refl,
     after,
-    subst (λ (run : Run D). IsAnsweredAfter on by acted before run entry after) same
-        (subst (λ list. IsAnsweredAfter on by acted list middle entry after) (append-nil before) step),
+    subst (λ (run : Run D). IsGivenAfter on by acted before run entry after) same
+        (subst (λ list. IsGivenAfter on by acted list middle entry after) (append-nil before) step),
     refl,
   )
   mail_then before run (first ∷ more) middle entry acted after enough h asks step =
@@ -227,7 +226,7 @@ module _ {D G V : Type 0} (on : Devices D G V) (by : Keying G) where
         h.3,
         h.4,
         mail_then (before ++ first ∷ []) h.3 more middle entry acted after memory.1 h.5 asks
-            (subst (λ list. IsAnsweredAfter on by acted list middle entry after) (sym (append_assoc before (first ∷ []) more)) step),
+            (subst (λ list. IsGivenAfter on by acted list middle entry after) (sym (append_assoc before (first ∷ []) more)) step),
       )
 
 module _ {D G V R : Type 0} (on : Devices D G V) (draws : DrawGhosts R) (peers : Drawing) where
@@ -330,7 +329,7 @@ module _ {D G V R : Type 0} (on : Devices D G V) (draws : DrawGhosts R) (peers :
             next.0,
             mail_then on by old.entries run reading.more h.0 entry reads.acted next.0 reading.enough h.1
                 (subst (λ asked. ReadsMail h.0.members (Some (asked, reads.acted))) (sym reads.answers.asked) asks)
-                (subst (λ entries. IsAnsweredAfter on by reads.acted entries h.0 entry next.0) reading.grown next.1),
+                (subst (λ entries. IsGivenAfter on by reads.acted entries h.0 entry next.0) reading.grown next.1),
             next.2,
           )
 

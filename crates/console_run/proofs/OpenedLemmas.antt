@@ -2,7 +2,7 @@
 use Rattle.std.proofs.Common.{◌≡◌, ◌∙◌, ◌⊎◌, ℕ, List, [], refl, sym, ap, subst, inl, inr}
 use Rattle.std.specs.Prelude.{IfErr, IfOk, Result, Ok, Err}
 use Rattle.command_words.specs.declared.commands.Opening.{Opening}
-use Rattle.command_words.specs.declared.commands.Opening.TheVariants.{New, Open}
+use Rattle.command_words.specs.declared.commands.Opening.TheVariants.{New, Open, Soak}
 use Rattle.gd_edges.specs.Shown.{Shown}
 use Rattle.gd_edges.specs.declared.draws.Draws.{Ghosts as DrawGhosts}
 use Rattle.group_terms.specs.Names.{Name}
@@ -16,12 +16,13 @@ use Rattle.group_model.specs.declared.entries.Refusal.TheVariants.{NoMemory}
 use Rattle.group_run.specs.Openings.{FailsToOpen, Opens as OpensAs}
 use Rattle.group_run.specs.Views.{View}
 use Rattle.server_steps.specs.Hosts.{Host}
+use Rattle.server_steps.specs.Openings.{IsCreation}
 use Rattle.group_steps.specs.Runs.{Run}
 use Rattle.group_steps.specs.Steps.{IsAnswered, IsAnsweredAfter, IsOpening, IsStepBy}
 use Rattle.run_report.specs.declared.endings.Ending.{Ending}
 use Rattle.console_run.specs.Causes.{CannotOpen}
 use Rattle.group_steps.specs.Devices.{Devices, Keying}
-use Rattle.console_run.specs.Promises.{request_of}
+use Rattle.console_run.specs.Promises.{request_of, soak_depth}
 use Rattle.console_run.specs.Private.Follows.{IsOpened, RunsScript}
 use Rattle.console_run.specs.Private.Openings.{step_of}
 use Rattle.console_run.specs.Private.Runs.{Drawing}
@@ -57,18 +58,25 @@ module _ {D G V : Type 0} (on : Devices D G V) (by : Keying G) where
           → IsOpening [] (step_of on.disks on.signers by.signer by.block opening) start answer outside after
           → IsAnswered on by [] (request_of opening) start answer outside after
       answered (New depth) start answer outside after h = h
+      answered (Soak number) start answer outside after h = h
       answered Open start answer outside after h = h
 
-  -- why an opening is refused
-  why_refused : (opening : Opening) (start : Host D) (answer : Answer) (outside : Outside) (after : Host D) (why : Refusal) → answer ≡ Refused why
-      → step_of on.disks on.signers by.signer by.block opening start answer outside after → (why ≡ NoMemory) ⊎ CannotOpen why
-  why_refused (New depth) start answer outside after why refused h = elim h.ends [
+  -- why the making of a group is refused
+  why_not_made : (depth : ℕ) (start : Host D) (answer : Answer) (outside : Outside) (after : Host D) (why : Refusal) → answer ≡ Refused why
+      → IsCreation on.disks by.block depth start answer outside after → (why ≡ NoMemory) ⊎ CannotOpen why
+  why_not_made depth start answer outside after why refused h = elim h.ends [
     | inl makes ↦ cc (makes.answers, refused)
     | inr fails ↦ elim fails.causes [
       | inl fault ↦ inr (inl (cc (fault, fails.answers, refused)))
       | inr memory ↦ inl (cc (memory.0, fails.answers, refused))
     ]
   ]
+
+  -- why an opening is refused
+  why_refused : (opening : Opening) (start : Host D) (answer : Answer) (outside : Outside) (after : Host D) (why : Refusal) → answer ≡ Refused why
+      → step_of on.disks on.signers by.signer by.block opening start answer outside after → (why ≡ NoMemory) ⊎ CannotOpen why
+  why_refused (New depth) start answer outside after why refused h = why_not_made depth start answer outside after why refused h
+  why_refused (Soak number) start answer outside after why refused h = why_not_made soak_depth start answer outside after why refused h
   why_refused Open start answer outside after why refused h = elim h.ends [
     | inl begins ↦ cc (begins.finds.answers, refused)
     | inr fails ↦ elim fails.causes [
@@ -81,16 +89,16 @@ module _ {D G V : Type 0} (on : Devices D G V) (by : Keying G) where
   ]
 
   -- a run that opened no group
-  pub unopened_runs : (opening : Opening) (start : Run D) (had was now : Shown) (ending : Ending) (history entries : List Entry) (disk left : D)
+  pub unopened_runs : (workers : ℕ) (opening : Opening) (start : Run D) (had was now : Shown) (ending : Ending) (history entries : List Entry) (disk left : D)
       → FailsToOpen on.disks (step_of on.disks on.signers by.signer by.block opening) (request_of opening) start history disk → entries ≡ history → left ≡ disk
-      → UnopenedEnds history ending was now → RunsScript on by (request_of opening) start had had was now ending entries left
-  unopened_runs opening start had was now ending history entries disk left (inl h) same kept ends =
-      refused on by (request_of opening) start had was now ending entries h.after left (h.left ∙ sym kept)
+      → UnopenedEnds history ending was now → RunsScript on by workers (request_of opening) start had had was now ending entries left
+  unopened_runs workers opening start had was now ending history entries disk left (inl h) same kept ends =
+      refused on by workers (request_of opening) start had was now ending entries h.after left (h.left ∙ sym kept)
       (record { entry = h.entry; alone = same ∙ h.alone; asked = h.asked; step = opening_step opening start h.entry h.after h.asked h.stepped })
       h.why h.refused (why_refused opening start.host h.entry.answer h.entry.outside h.after.host h.why h.refused h.stepped.answered.opens)
       (subst (λ history. UnopenedEnds history ending was now) h.alone ends)
-  unopened_runs opening start had was now ending history entries disk left (inr h) same kept ends =
-      ran_out_at_once on by (request_of opening) start had was now ending entries start left (sym (kept ∙ h.left))
+  unopened_runs workers opening start had was now ending history entries disk left (inr h) same kept ends =
+      ran_out_at_once on by workers (request_of opening) start had was now ending entries start left (sym (kept ∙ h.left))
       (subst (λ history. UnopenedEnds history ending was now) h.nothing ends) (same ∙ h.nothing) refl
 
 -- a group that was opened as a command asks

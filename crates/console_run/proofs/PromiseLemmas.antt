@@ -5,7 +5,7 @@ use Rattle.gd_edges.specs.Shown.{Shown}
 use Rattle.group_terms.specs.Faults.{Rose}
 use Rattle.command_words.specs.declared.commands.Command.{Command}
 use Rattle.command_words.specs.declared.commands.Opening.{Opening}
-use Rattle.command_words.specs.declared.commands.Opening.TheVariants.{New, Open}
+use Rattle.command_words.specs.declared.commands.Opening.TheVariants.{New, Open, Soak}
 use Rattle.group_model.specs.Answers.{opens}
 use Rattle.group_model.specs.declared.entries.Answer.{Answer}
 use Rattle.group_model.specs.declared.entries.Answer.TheVariants.{Refused}
@@ -29,13 +29,14 @@ use Rattle.run_report.specs.declared.endings.Ending.TheVariants.{Whole, NoGroup,
 use Rattle.group_steps.specs.Devices.{Devices, Keying}
 use Rattle.console_run.specs.Causes.{CameFrom, CannotOpen, CauseOf, EndsUnopened, SourceAt}
 use Rattle.run_report.specs.Reports.{BreaksOff}
-use Rattle.console_run.specs.Promises.{CanOpen, CanRun, IsBroken, IsEnded, LeavesMomentsAfterOpening, Streams, request_of, start_of}
+use Rattle.console_run.specs.Promises.{CanOpen, CanRun, IsBroken, IsEnded, LeavesMomentsAfterOpening, ShowsScript, Streams, request_of, soak_depth, start_of}
 use Rattle.console_run.proofs.FaultyLineLemmas.{no_faulty_line}
 use Rattle.console_run.proofs.HistoryLemmas.{HasRun, cause_history, parts_history}
 
 -- a command asks for an opening
 pub opens_group : (opening : Opening) → opens (request_of opening) ≡ true
 opens_group (New depth) = refl
+opens_group (Soak number) = refl
 opens_group Open = refl
 
 -- a fault that is noted was counted
@@ -46,11 +47,11 @@ rose_where_noted d host outside why old new beside fault counts =
 
 module _ {D G V : Type 0} (on : Devices D G V) (by : Keying G) where
   -- however a run ends, its history is one of steps, and nothing more was asked where memory ran out
-  pub ran_history : (request : Asked) (start : Run D) → opens request ≡ true → (streams : Streams) (ending : Ending) (entries : List Entry) (after : Run D)
-      → IsEnded on by streams request start ending entries after ⊎ IsBroken on by streams request start ending entries after
+  pub ran_history : (workers : ℕ) (request : Asked) (start : Run D) → opens request ≡ true → (streams : Streams) (ending : Ending) (entries : List Entry) (after : Run D)
+      → IsEnded on by workers streams request start ending entries after ⊎ IsBroken on by workers streams request start ending entries after
       → HasRun on by start entries after
-  ran_history request start opening streams ending entries after (inl h) = cause_history on by request opening start streams.given h.due entries after h.cause
-  ran_history request start opening streams ending entries after (inr h) = parts_history on by request opening start streams.given entries after h.history
+  ran_history workers request start opening streams ending entries after (inl h) = cause_history on by workers request opening start streams.given h.due entries after h.cause
+  ran_history workers request start opening streams ending entries after (inr h) = parts_history on by workers request opening start streams.given entries after h.history
 
   -- ---- a group that could be opened was
 
@@ -92,25 +93,60 @@ module _ {D G V : Type 0} (on : Devices D G V) (by : Keying G) where
       → Rose (on.disks.faults start.host.disk) (on.disks.faults after.host.disk)
   fails other (New depth) start entry after why refused cannot can h counts =
       create_fails depth start.host entry.answer entry.outside after.host why refused cannot h.opens counts
+  fails other (Soak number) start entry after why refused cannot can h counts =
+      create_fails soak_depth start.host entry.answer entry.outside after.host why refused cannot h.opens counts
   fails other Open start entry after why refused cannot can h counts =
       begin_fails other start.host entry.answer entry.outside after.host why refused cannot can h.opens counts
+
+  -- ---- endings
+
+  -- the source has a script, and neither it nor the sink failed
+  module _ (streams : Streams) (command : Command) (place members_place : ℕ) (old : D) (entries : List Entry) (after : Run D)
+      (came : CameFrom streams.source_before.octets streams.source_after.octets streams.given) (script : ShowsScript streams.source_before.octets)
+      (source : Rose streams.source_before.faults streams.source_after.faults → ⊥) (sink : Rose streams.sink_before.faults streams.sink_after.faults → ⊥) where
+    -- an ending that is due then; the last of them for this reason
+    abbrev pub Ends : Ending → Type 0
+    Ends ending = ((ending ≡ Whole) ⊎ (ending ≡ Memory))
+        ⊎ ((ending ≡ NotOpened) × EndsUnopened on by command.workers streams.given (request_of command.opening) (start_of command old place members_place) entries after)
+
+    breaks : (ending : Ending) (middle : Shown) (text : List ℕ) → middle.faults ≡ streams.sink_before.faults → BreaksOff ending middle streams.sink_after text
+        → Ends ending
+    breaks Whole middle text same h = inl (inl refl)
+    breaks NoGroup middle text same h = absurd h
+    breaks (BadLine line) middle text same h = absurd h
+    breaks Source middle text same h = absurd h
+    breaks Sink middle text same h = absurd (sink (subst (λ faults. Rose faults streams.sink_after.faults) same h.0))
+    breaks Memory middle text same h = inl (inr refl)
+    breaks NotOpened middle text same h = absurd h
+
+    due_one : (due : Ending) → CauseOf on by command.workers streams.given (request_of command.opening) (start_of command old place members_place) due entries after
+        → SourceAt due streams.source_before.faults streams.source_after.faults → Ends due
+    due_one Whole cause faults = inl (inl refl)
+    due_one NoGroup cause faults = absurd cause
+    due_one (BadLine line) cause faults =
+        absurd (no_faulty_line on by command.workers streams.given (request_of command.opening)
+        (start_of command old place members_place) line entries after streams.source_before.octets streams.source_after.octets
+        script came cause)
+    due_one Source cause faults = absurd (source faults)
+    due_one Sink cause faults = absurd cause
+    due_one Memory cause faults = inl (inr refl)
+    due_one NotOpened cause faults = inr (refl, cause)
+
+    pub ran_to_end : (ending : Ending) → IsEnded on by command.workers streams (request_of command.opening) (start_of command old place members_place) ending entries after
+        ⊎ IsBroken on by command.workers streams (request_of command.opening) (start_of command old place members_place) ending entries after → Ends ending
+    ran_to_end ending (inl h) = elim h.last [
+      | inl put ↦ subst Ends put.0 (due_one h.due h.cause h.source)
+      | inr broke ↦ breaks ending h.middle _ h.report.no_fault broke
+    ]
+    ran_to_end ending (inr h) =
+        let broke = h.breaks.breaks in breaks ending broke.middle _ (broke.puts.no_fault ∙ h.report.no_fault) broke.breaks
 
   -- ---- completeness
 
   module _ (other : IsOneOrOther) (streams : Streams) (command : Command) (place members_place : ℕ) (old new : D) (entries : List Entry) (after : Run D)
       (left : after.host.disk ≡ new) (came : CameFrom streams.source_before.octets streams.source_after.octets streams.given)
       (can : CanRun on by streams command.opening old new) where
-    breaks : (ending : Ending) (middle : Shown) (text : List ℕ) → middle.faults ≡ streams.sink_before.faults → BreaksOff ending middle streams.sink_after text
-        → (ending ≡ Whole) ⊎ (ending ≡ Memory)
-    breaks Whole middle text same h = inl refl
-    breaks NoGroup middle text same h = absurd h
-    breaks (BadLine line) middle text same h = absurd h
-    breaks Source middle text same h = absurd h
-    breaks Sink middle text same h = absurd (can.sink (subst (λ faults. Rose faults streams.sink_after.faults) same h.0))
-    breaks Memory middle text same h = inr refl
-    breaks NotOpened middle text same h = absurd h
-
-    not_opened : EndsUnopened on by streams.given (request_of command.opening) (start_of command old place members_place) entries after → ⊥
+    not_opened : EndsUnopened on by command.workers streams.given (request_of command.opening) (start_of command old place members_place) entries after → ⊥
     not_opened h =
         can.disk (subst (λ disk. Rose (on.disks.faults old) (on.disks.faults disk)) left
         (fails other command.opening (start_of command old place members_place) h.first.entry after h.why
@@ -119,27 +155,13 @@ module _ {D G V : Type 0} (on : Devices D G V) (by : Keying G) where
         h.first.entry.outside after) h.first.asked h.first.step.answered)
         h.first.step.counts))
 
-    due_whole : (due : Ending) → CauseOf on by streams.given (request_of command.opening) (start_of command old place members_place) due entries after
-        → SourceAt due streams.source_before.faults streams.source_after.faults → (due ≡ Whole) ⊎ (due ≡ Memory)
-    due_whole Whole cause faults = inl refl
-    due_whole NoGroup cause faults = absurd cause
-    due_whole (BadLine line) cause faults =
-        absurd (no_faulty_line on by streams.given (request_of command.opening)
-        (start_of command old place members_place) line entries after streams.source_before.octets streams.source_after.octets
-        can.script came cause)
-    due_whole Source cause faults = absurd (can.source faults)
-    due_whole Sink cause faults = absurd cause
-    due_whole Memory cause faults = inr refl
-    due_whole NotOpened cause faults = absurd (not_opened cause)
-
-    pub ran_whole : (ending : Ending) → IsEnded on by streams (request_of command.opening) (start_of command old place members_place) ending entries after
-        ⊎ IsBroken on by streams (request_of command.opening) (start_of command old place members_place) ending entries after → (ending ≡ Whole)
+    pub ran_whole : (ending : Ending) → IsEnded on by command.workers streams (request_of command.opening) (start_of command old place members_place) ending entries after
+        ⊎ IsBroken on by command.workers streams (request_of command.opening) (start_of command old place members_place) ending entries after → (ending ≡ Whole)
         ⊎ (ending ≡ Memory)
-    ran_whole ending (inl h) = elim h.last [
-      | inl put ↦ subst (λ (ending : Ending). (ending ≡ Whole) ⊎ (ending ≡ Memory)) put.0 (due_whole h.due h.cause h.source)
-      | inr broke ↦ breaks ending h.middle _ h.report.no_fault broke
+    ran_whole ending ran = elim (ran_to_end streams command place members_place old entries after came can.script can.source can.sink ending ran) [
+      | inl either ↦ either
+      | inr unopened ↦ absurd (not_opened unopened.1)
     ]
-    ran_whole ending (inr h) = breaks ending h.breaks.middle _ (h.breaks.puts.no_fault ∙ h.report.no_fault) h.breaks.breaks
 
   -- ---- crashes
 

@@ -12,8 +12,12 @@ use Rattle.group_steps.specs.Devices.{Devices, Keying}
 use Rattle.group_steps.specs.Runs.{Run}
 use Rattle.run_report.specs.declared.endings.Ending.{Ending}
 use Rattle.run_report.specs.declared.endings.Ending.TheVariants.{Whole, NoGroup, BadLine, Source, Sink, Memory, NotOpened}
-use Rattle.console_run.specs.Scripts.{EndsLine, are_octets, ends_line, is_line, longest_line, longest_piece, most_lines, script_lines}
-use Rattle.console_run.specs.Lines.{IsOpeningEntry, IsRunOf, LineBegins}
+use Rattle.script_text.specs.Lines.{line_of}
+use Rattle.script_text.specs.declared.lines.Line.TheVariants.{Together}
+use Rattle.register_workers.specs.declared.lines.BlockAsk.{BlockAsk}
+use Rattle.console_run.specs.Blocks.{BlockSoFar, after_text, inside_block}
+use Rattle.console_run.specs.Scripts.{EndsLine, are_octets, ends_line, longest_line, longest_piece, most_lines, script_lines}
+use Rattle.console_run.specs.Lines.{IsOpeningEntry, IsRunOf, TextBegins}
 
 -- What the source gave to a run: the octets that were taken from it, and whether it then had no more.
 pub record Given : Type 0 where
@@ -46,35 +50,57 @@ abbrev pub IsOver : Bool → List ℕ → Type 0
 IsOver ended after = ((later : List ℕ) × (after ≡ 10 ∷ later)) ⊎ ((after ≡ []) × (ended ≡ true))
 
 -- The line of this number is faulty: it has an octet and is past the last that there may be, it goes on after as many octets as it may have,
--- or it is over and not of the grammar.
-abbrev pub IsFaulty : Bool → ℕ → List ℕ → List ℕ → Type 0
-IsFaulty ended number text after =
+-- or it is over and may not stand where it stands, after lines that left this state: it is not of the grammar, or no line for there.
+abbrev pub IsFaulty : BlockSoFar → Bool → ℕ → List ℕ → List ℕ → Type 0
+IsFaulty block ended number text after =
     ((most_lines < number) × (0 < length after))
     ⊎ (((length text ≡ longest_line) × ((octet : ℕ) × (later : List ℕ) × (after ≡ octet ∷ later) × (octet ≡ 10 → ⊥)))
-    ⊎ ((is_line text ≡ false) × IsOver ended after))
+    ⊎ ((after_text block text ≡ None) × IsOver ended after))
 
 -- the disk failed, or it has the journal of no group
 abbrev pub CannotOpen : Refusal → Type 0
 CannotOpen why = (why ≡ DiskFault) ⊎ ((at : ℕ) × (why ≡ NotAJournal at))
 
--- Of a run on these devices, for which an opening was requested: what the source gave, the run before the opening, the history, and the run after it.
-module _ {D G V : Type 0} (on : Devices D G V) (by : Keying G) (given : Given) (request : Asked) (start : Run D) where
-  -- the lines before the one of this number were run, and that one is faulty
-  pub record EndsAtLine (number : ℕ) (entries : List Entry) (after : Run D) : Type 0 where
+-- Of a run on these devices, with so many workers, for which an opening was requested: what the source gave, the run before the opening, the history, and the
+-- run after it.
+module _ {D G V : Type 0} (on : Devices D G V) (by : Keying G) (workers : ℕ) (given : Given) (request : Asked) (start : Run D) where
+  -- the lines before the one of this number were run, but for those of a block that is open, and that one is faulty
+  pub record EndsAtFaultyLine (number : ℕ) (entries : List Entry) (after : Run D) : Type 0 where
     pub before : List ℕ
     pub text : List ℕ
     pub rest : List ℕ
     pub cut : IsCut given.taken before text rest
-    pub run : IsRunOf on by request start (script_lines before) entries after
+    pub block : BlockSoFar
+    pub run : IsRunOf on by workers request start (script_lines before) block entries after
     pub counted : number ≡ length (script_lines before) + 1
-    pub faulty : IsFaulty given.ended number text rest
+    pub faulty : IsFaulty block given.ended number text rest
 
-  -- Nothing came after the text. The lines that ended were run, and nothing of the one that has begun. (`SourceAt` says that the source failed.)
+  -- The script ended in a block, and has no line too many. The line of this number began it, and those before that were run.
+  pub record EndsInBlock (number : ℕ) (entries : List Entry) (after : Run D) : Type 0 where
+    pub ended : given.ended ≡ true
+    pub front : List (List ℕ)
+    pub first : List ℕ
+    pub inner : List (List ℕ)
+    pub few : length (script_lines given.taken) ≤ most_lines
+    pub lines : script_lines given.taken ≡ front ++ first ∷ inner
+    pub run : IsRunOf on by workers request start front None entries after
+    pub begins : line_of first ≡ Some Together
+    pub asks : List BlockAsk
+    pub inside : inside_block [] inner ≡ Some asks
+    pub counted : number ≡ length front + 1
+
+  -- one of these
+  abbrev pub EndsAtLine : ℕ → List Entry → Run D → Type 0
+  EndsAtLine number entries after = EndsAtFaultyLine number entries after ⊎ EndsInBlock number entries after
+
+  -- Nothing came after the text. The lines that ended were run, but for those of a block that is open, and nothing of the one that has begun. (`SourceAt` says that
+  -- the source failed.)
   pub record EndsAtSource (entries : List Entry) (after : Run D) : Type 0 where
     pub before : List ℕ
     pub text : List ℕ
     pub cut : IsCut given.taken before text []
-    pub run : IsRunOf on by request start (script_lines before) entries after
+    pub block : BlockSoFar
+    pub run : IsRunOf on by workers request start (script_lines before) block entries after
 
   -- the disk, or what it has, did not let the group be opened; nothing of the script was taken
   pub record EndsUnopened (entries : List Entry) (after : Run D) : Type 0 where
@@ -97,9 +123,10 @@ module _ {D G V : Type 0} (on : Devices D G V) (by : Keying G) (given : Given) (
     pub text : List ℕ
     pub rest : List ℕ
     pub cut : IsCut given.taken before text rest
+    pub block : BlockSoFar
     pub middle : Run D
-    pub run : IsRunOf on by request start (script_lines before) done middle
-    pub begins : LineBegins on by text done middle more after
+    pub run : IsRunOf on by workers request start (script_lines before) block done middle
+    pub begins : TextBegins on by workers block text done middle more after
     pub over : (more ≡ []) ⊎ (IsOver given.ended rest × (length (script_lines before) < most_lines))
 
   -- what the opening and the lines before the one begun last gave, and what that one began to give
@@ -130,10 +157,10 @@ module _ {D G V : Type 0} (on : Devices D G V) (by : Keying G) (given : Given) (
   abbrev pub EndsForMemory : List Entry → Run D → Type 0
   EndsForMemory entries after = RunsOutAtOpening entries after ⊎ RunsOutInLines entries after
 
-  -- the whole script was run
+  -- the whole script was run, and no block is open
   pub record IsWhole (entries : List Entry) (after : Run D) : Type 0 where
     pub ended : given.ended ≡ true
-    pub run : IsRunOf on by request start (script_lines given.taken) entries after
+    pub run : IsRunOf on by workers request start (script_lines given.taken) None entries after
 
   -- why an ending was due
   abbrev pub CauseOf : Ending → List Entry → Run D → Type 0

@@ -1,3 +1,5 @@
+pub mod Blocks
+pub mod Breaks
 pub mod Causes
 pub mod Following
 pub mod Lines

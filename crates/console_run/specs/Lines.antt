@@ -9,20 +9,25 @@ use Rattle.group_model.specs.declared.entries.Answer.TheVariants.{Done}
 use Rattle.group_model.specs.declared.entries.Asked.{Asked}
 use Rattle.group_model.specs.declared.entries.Asked.TheVariants as requests
 use Rattle.group_model.specs.declared.entries.Entry.{Entry}
+use Rattle.group_model.specs.declared.entries.Outside.{Outside}
 use Rattle.group_peers.specs.Peers.{phase_of, sent_by, was_introduced}
 use Rattle.group_peers.specs.declared.members.Peer.{Peer}
+use Rattle.group_run.specs.Blocks.{IsBlock, Point, StopsShort}
 use Rattle.group_run.specs.Deliveries.{IsFirstDue, NoneIsDue}
+use Rattle.group_run.specs.Looks.{ShowsLast}
 use Rattle.group_run.specs.Reads.{AreAtRest, Ask, ReadsMail}
 use Rattle.group_run.specs.declared.deliveries.Delivery.{Delivery}
 use Rattle.member_steps.specs.Acts.{BeginsPull, IsUse}
 use Rattle.member_steps.specs.Members.{Members}
 use Rattle.group_steps.specs.Devices.{Devices, Keying}
-use Rattle.group_steps.specs.Runs.{Run}
-use Rattle.group_steps.specs.Steps.{IsAnsweredAfter}
+use Rattle.group_steps.specs.Runs.{Run, with_members}
+use Rattle.group_steps.specs.Steps.{AreRunSteps, IsAnswered, IsAnsweredAfter, IsStepBy}
+use Rattle.register_workers.specs.declared.lines.BlockAsk.{BlockAsk}
 use Rattle.script_text.specs.Lines.{line_of}
 use Rattle.script_text.specs.declared.lines.Line.{Line}
 use Rattle.script_text.specs.declared.lines.Line.TheVariants.{Nothing, Allow, Deny, Join, Again, Lose, Leave, Batch, Deliver, DeliverAll, Key, Derive}
-use Rattle.script_text.specs.declared.lines.Line.TheVariants.{Halt, Reopen, Show}
+use Rattle.script_text.specs.declared.lines.Line.TheVariants.{Halt, Reopen, Show, Now, Together, End}
+use Rattle.console_run.specs.Blocks.{BlockSoFar, after_line}
 use Rattle.console_run.specs.Scripts.{most_lines}
 
 -- ---- what a line asks next
@@ -104,6 +109,9 @@ module _ (block : ℕ → List ℕ) (group : Name) {D : Type 0} (run : Run D) (b
   AsksFirst Halt members next = Asks requests.Halt members next
   AsksFirst Reopen members next = Asks requests.Reopen members next
   AsksFirst Show members next = Asks requests.Show members next
+  AsksFirst Now members next = Asks requests.Now members next
+  AsksFirst Together members next = next ≡ None
+  AsksFirst End members next = next ≡ None
 
   -- what it asks after an entry that it gave: a line that sends something goes on until nothing is on its way
   abbrev pub AsksAfter : Line → Entry → Option Ask → Type 0
@@ -124,13 +132,28 @@ module _ (block : ℕ → List ℕ) (group : Name) {D : Type 0} (run : Run D) (b
 
 -- ---- what a script gives
 
+-- after these entries, which made this run, with the members as they are since
+abbrev pub point : {D : Type 0} → List Entry → Run D → Members → Point D
+point entries run present = record { entries = entries; run = run; present = present }
+
 module _ {D G V : Type 0} (on : Devices D G V) (by : Keying G) where
+  -- ---- a line
+
+  -- The answer to what a line asks is that of a step. A look shows the pair that all entries before it showed last.
+  abbrev pub IsAnsweredHere : List Entry → Asked → Run D → Answer → Outside → Run D → Type 0
+  IsAnsweredHere before requests.Now run answer outside next = ShowsLast before run answer outside next
+  IsAnsweredHere before asked run answer outside next = IsAnswered on by before asked run answer outside next
+
+  -- once the members acted so, an entry answers what a line asks
+  abbrev pub IsGivenAfter : Members → List Entry → Run D → Entry → Run D → Type 0
+  IsGivenAfter acted before run entry next = IsStepBy on.disks (IsAnsweredHere before entry.asked) (with_members run acted) entry next
+
   -- Entries one after the other, after the entries that a line gave so far. Each answers what the line asks next, and memory ran out in the last of them at most.
   abbrev pub GoesThrough : Line → List Entry → List Entry → Run D → List Entry → Run D → Type 0
   GoesThrough line before so_far run [] after = after ≡ run
   GoesThrough line before so_far run (entry ∷ more) after =
       (acted : Members) × AsksNext by.members_block by.group run before so_far line (Some (entry.asked, acted)) × ((more ≡ []) ⊎ (ran_out entry.answer ≡ false))
-      × (next : Run D) × IsAnsweredAfter on by acted (before ++ so_far) run entry next × GoesThrough line before (so_far ++ entry ∷ []) next more after
+      × (next : Run D) × IsGivenAfter acted (before ++ so_far) run entry next × GoesThrough line before (so_far ++ entry ∷ []) next more after
 
   -- A line begins to give these entries: the first ones that it gives, perhaps none. The last of them may have run out of memory.
   abbrev pub BeginsToGive : Line → List Entry → Run D → List Entry → Run D → Type 0
@@ -142,20 +165,7 @@ module _ {D G V : Type 0} (on : Devices D G V) (by : Keying G) where
     pub no_more : AsksNext by.members_block by.group after before more line None
     pub enough_memory : any_ran_out more ≡ false
 
-  -- a text is a line of the grammar, which gives these entries
-  abbrev pub LineGives : List ℕ → List Entry → Run D → List Entry → Run D → Type 0
-  LineGives text before run more after = (line : Line) × (line_of text ≡ Some line) × Gives line before run more after
-
-  -- a text begins to give these entries; one that is no line of the grammar gives none
-  abbrev pub LineBegins : List ℕ → List Entry → Run D → List Entry → Run D → Type 0
-  LineBegins text before run more after =
-      ((more ≡ []) × (after ≡ run)) ⊎ ((line : Line) × (line_of text ≡ Some line) × BeginsToGive line before run more after)
-
-  -- lines, one after the other, lead from the entries before them to these
-  abbrev pub LinesGive : List Entry → Run D → List (List ℕ) → List Entry → Run D → Type 0
-  LinesGive before run [] entries after = (entries ≡ before) × (after ≡ run)
-  LinesGive before run (line ∷ lines) entries after =
-      (more : List Entry) × (next : Run D) × LineGives line before run more next × LinesGive (before ++ more) next lines entries after
+  -- ---- the opening
 
   -- one entry answers the opening that is requested; members do nothing before it
   pub record IsOpeningEntry (request : Asked) (start : Run D) (entries : List Entry) (after : Run D) : Type 0 where
@@ -169,10 +179,75 @@ module _ {D G V : Type 0} (on : Devices D G V) (by : Keying G) where
     pub first : IsOpeningEntry request start entries after
     pub is_open : is_open first.entry.answer ≡ true
 
-  -- The history of a group that was opened as requested, and on which these lines were run, and the run after it.
-  pub record IsRunOf (request : Asked) (start : Run D) (lines : List (List ℕ)) (entries : List Entry) (after : Run D) : Type 0 where
-    pub opening : List Entry
-    pub opened : Run D
-    pub opens : Opens request start opening opened
-    pub few : length lines ≤ most_lines
-    pub gives : LinesGive opening opened lines entries after
+  -- ---- blocks of lines, by so many workers
+
+  module _ (workers : ℕ) where
+    -- a block of these lines gives these entries, and memory did not run out
+    pub record BlockGives (asks : List BlockAsk) (before : List Entry) (run : Run D) (more : List Entry) (after : Run D) : Type 0 where
+      pub rest : Members
+      pub at_rest : AreAtRest run.members rest
+      pub new : Point D
+      pub block : IsBlock on.disks on.signers by workers asks (point before run rest) new
+      pub entries : new.entries ≡ before ++ more
+      pub is_after : new.run ≡ after
+      pub enough_memory : any_ran_out more ≡ false
+
+    -- It begins to give these: all that it gives; or what it gave before memory ran out, and then members may have done more since the last of them.
+    pub record BlockBegins (asks : List BlockAsk) (before : List Entry) (run : Run D) (more : List Entry) (after : Run D) : Type 0 where
+      pub rest : Members
+      pub at_rest : AreAtRest run.members rest
+      pub new : Point D
+      pub block : (StopsShort on.disks on.signers by workers asks (point before run rest) new × (new.run.host ≡ after.host))
+          ⊎ (IsBlock on.disks on.signers by workers asks (point before run rest) new × (new.run ≡ after))
+      pub entries : new.entries ≡ before ++ more
+      pub steps : AreRunSteps on by before run more after
+
+    -- ---- a line where it stands
+
+    -- Outside a block a line gives its own entries. In a block it gives none, but for the end, which gives what the whole block gives.
+    abbrev pub GivesAt : BlockSoFar → Line → List Entry → Run D → List Entry → Run D → Type 0
+    GivesAt None line before run more after = Gives line before run more after
+    GivesAt (Some asks) End before run more after = BlockGives asks before run more after
+    GivesAt (Some asks) line before run more after = (more ≡ []) × (after ≡ run)
+
+    -- the same of what it begins to give
+    abbrev pub BeginsAt : BlockSoFar → Line → List Entry → Run D → List Entry → Run D → Type 0
+    BeginsAt None line before run more after = BeginsToGive line before run more after
+    BeginsAt (Some asks) End before run more after = BlockBegins asks before run more after
+    BeginsAt (Some asks) line before run more after = (more ≡ []) × (after ≡ run)
+
+    -- a text is a line that may stand in this state, which it leads to that one, and gives these entries
+    pub record TextGives (block : BlockSoFar) (text : List ℕ) (next : BlockSoFar) (before : List Entry) (run : Run D) (more : List Entry) (after : Run D) : Type 0 where
+      pub line : Line
+      pub is : line_of text ≡ Some line
+      pub stands : after_line block line ≡ Some next
+      pub gives : GivesAt block line before run more after
+
+    -- and begins to give these
+    pub record TextGoes (block : BlockSoFar) (text : List ℕ) (before : List Entry) (run : Run D) (more : List Entry) (after : Run D) : Type 0 where
+      pub line : Line
+      pub is : line_of text ≡ Some line
+      pub next : BlockSoFar
+      pub stands : after_line block line ≡ Some next
+      pub begins : BeginsAt block line before run more after
+
+    -- a text begins to give these entries; one that is no line, or may not stand there, gives none
+    abbrev pub TextBegins : BlockSoFar → List ℕ → List Entry → Run D → List Entry → Run D → Type 0
+    TextBegins block text before run more after = ((more ≡ []) × (after ≡ run)) ⊎ TextGoes block text before run more after
+
+    -- ---- a script
+
+    -- lines, one after the other, lead from this state and the entries before them to that state and these entries
+    abbrev pub LinesGive : BlockSoFar → List Entry → Run D → List (List ℕ) → BlockSoFar → List Entry → Run D → Type 0
+    LinesGive block before run [] last entries after = (last ≡ block) × (entries ≡ before) × (after ≡ run)
+    LinesGive block before run (text ∷ texts) last entries after =
+        (next : BlockSoFar) × (more : List Entry) × (middle : Run D) × TextGives block text next before run more middle
+        × LinesGive next (before ++ more) middle texts last entries after
+
+    -- The history of a group that was opened as requested, and on which these lines were run, and the run after it; and which block is open then.
+    pub record IsRunOf (request : Asked) (start : Run D) (lines : List (List ℕ)) (block : BlockSoFar) (entries : List Entry) (after : Run D) : Type 0 where
+      pub opening : List Entry
+      pub opened : Run D
+      pub opens : Opens request start opening opened
+      pub few : length lines ≤ most_lines
+      pub gives : LinesGive None opening opened lines block entries after

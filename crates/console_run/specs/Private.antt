@@ -6,3 +6,4 @@ pub mod Mail
 pub mod Openings
 pub mod Reports
 pub mod Runs
+pub mod Theres

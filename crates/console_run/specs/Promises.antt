@@ -1,8 +1,8 @@
 -- What the console promises of its run.
-use Rattle.std.specs.Prelude.{◌≡◌, ◌⊎◌, ℕ, ◌≤◌, true, List, [], ◌∷◌, ◌++◌, length, Option, None, Some}
+use Rattle.std.specs.Prelude.{◌≡◌, ◌⊎◌, ℕ, ◌≤◌, Bool, true, false, List, [], ◌∷◌, ◌++◌, length, Option, None, Some}
 use Rattle.command_words.specs.declared.commands.Command.{Command}
 use Rattle.command_words.specs.declared.commands.Opening.{Opening}
-use Rattle.command_words.specs.declared.commands.Opening.TheVariants.{New, Open}
+use Rattle.command_words.specs.declared.commands.Opening.TheVariants.{New, Open, Soak}
 use Rattle.gd_disk.specs.Moments.{shown}
 use Rattle.gd_edges.specs.Shown.{Shown}
 use Rattle.group_terms.specs.Faults.{Rose}
@@ -34,21 +34,39 @@ use Rattle.group_steps.specs.TrueSteps.{batches_in}
 use Rattle.law_member_roots.specs.Groups.{Checks}
 use Rattle.sym_closure.specs.Secrecy.{MembersDerive, NoOthersDerive, NobodyDerivesYet}
 use Rattle.script_text.specs.Report.{entries_text}
+use Rattle.script_text.specs.Soak.{soak_script}
 use Rattle.run_report.specs.declared.endings.Ending.{Ending}
-use Rattle.run_report.specs.declared.endings.Ending.TheVariants.{Whole, NoGroup, Memory}
+use Rattle.run_report.specs.declared.endings.Ending.TheVariants.{Whole, NoGroup, Memory, NotOpened}
 use Rattle.console_run.specs.Following.{KeepsReplies, StoresFollow}
 use Rattle.console_run.specs.Memory.{EndsWithoutMemory}
 use Rattle.console_run.specs.Names.{console_name}
 use Rattle.console_run.specs.OwnFourths.{TakesOwnFourths}
 use Rattle.console_run.specs.Serving.{ServesAlong}
-use Rattle.console_run.specs.Scripts.{are_lines, script_lines}
+use Rattle.console_run.specs.Blocks.{AreLines}
+use Rattle.console_run.specs.Scripts.{script_lines}
 use Rattle.console_run.specs.Causes.{CameFrom, CauseOf, Given, IsInParts, SourceAt}
-use Rattle.run_report.specs.Reports.{Puts, ReportBreaksOff, LastLineEnds}
+use Rattle.run_report.specs.Reports.{LastLineEnds, Puts, SummaryEnds}
+use Rattle.console_run.specs.Breaks.{LineBreaksOff}
+
+-- the depth of the tree of a soak
+abbrev pub soak_depth : ℕ
+soak_depth = 7
 
 -- the opening that a command asks for
 abbrev pub request_of : Opening → Asked
 request_of (New depth) = Create depth
+request_of (Soak number) = Create soak_depth
 request_of Open = Begin
+
+-- whether an opening is followed by the script of a source
+abbrev pub is_followed : Opening → Bool
+is_followed (Soak number) = false
+is_followed opening = true
+
+-- whether words ask for a run of that
+abbrev pub reads_source : Option Command → Bool
+reads_source None = false
+reads_source (Some command) = is_followed command.opening
 
 -- how many phase 1 SAs may be introduced
 abbrev pub most_phases : ℕ
@@ -73,34 +91,51 @@ streams_of given had left was now = record { given = given; source_before = had;
 -- the source exposes what it has, and that is a script of the grammar
 abbrev pub ShowsScript : Option (List ℕ) → Type 0
 ShowsScript None = ⊥
-ShowsScript (Some octets) = are_lines (script_lines octets) ≡ true
+ShowsScript (Some octets) = AreLines (script_lines octets)
+
+-- the source of a soak: its script
+abbrev pub soak_source : ℕ → Shown
+soak_source number = record { octets = Some (soak_script number); faults = 0 }
+
+-- a report that nobody keeps
+abbrev pub no_report : Shown
+no_report = record { octets = None; faults = 0 }
+
+-- how the script of a soak may end: whole, out of memory, or since no group could be made
+abbrev pub EndsSoak : Ending → Type 0
+EndsSoak Whole = Unit {0}
+EndsSoak Memory = Unit {0}
+EndsSoak NotOpened = Unit {0}
+EndsSoak ending = ⊥
 
 module _ {D G V : Type 0} (on : Devices D G V) (by : Keying G) where
   -- ---- report and ending
 
   -- The whole history was reported, and then the last line of the ending that was due. Where that line broke off, the run ended because the
   -- sink failed or memory ran out.
-  pub record IsEnded (streams : Streams) (request : Asked) (start : Run D) (ending : Ending) (entries : List Entry) (after : Run D) : Type 0 where
+  pub record IsEnded (workers : ℕ) (streams : Streams) (request : Asked) (start : Run D) (ending : Ending) (entries : List Entry) (after : Run D) : Type 0 where
     pub due : Ending
-    pub cause : CauseOf on by streams.given request start due entries after
+    pub cause : CauseOf on by workers streams.given request start due entries after
     pub source : SourceAt due streams.source_before.faults streams.source_after.faults
     pub middle : Shown
     pub report : Puts streams.sink_before middle (entries_text entries)
     pub last : LastLineEnds due ending middle streams.sink_after
 
-  -- The report of the history broke off in the last entry that the opening or the line begun last gave; all before that was reported. There is no last line.
-  pub record IsBroken (streams : Streams) (request : Asked) (start : Run D) (ending : Ending) (entries : List Entry) (after : Run D) : Type 0 where
-    pub history : IsInParts on by streams.given request start entries after
+  -- The report of the history broke off in the last entry that the opening or the line begun last gave, or, where that ended a block, in any entry of the block;
+  -- all before that was reported. There is no last line.
+  pub record IsBroken (workers : ℕ) (streams : Streams) (request : Asked) (start : Run D) (ending : Ending) (entries : List Entry) (after : Run D) : Type 0 where
+    pub history : IsInParts on by workers streams.given request start entries after
     pub source : streams.source_after.faults ≡ streams.source_before.faults
     pub middle : Shown
     pub report : Puts streams.sink_before middle (entries_text history.done)
-    pub breaks : ReportBreaksOff ending middle streams.sink_after history.more
+    pub breaks : LineBreaksOff ending middle streams.sink_after history.more
 
   -- ---- completeness
 
   -- a group is made, or the disk exposes the journal of one
   abbrev pub CanOpen : Opening → D → Type 0
   CanOpen (New depth) disk = Unit {0}
+  CanOpen (Soak number) disk = Unit {0}
   CanOpen Open disk = (file : List ℕ) × (shown on.disks disk ≡ Some file) × (head : Head) × (list : List Made) × IsGroup file head (stored_list head.depth list)
 
   -- what there must be so that the whole script is run, as far as memory goes: a group that can be opened, a script, and no fault
@@ -135,15 +170,15 @@ module _ {D G V : Type 0} (on : Devices D G V) (by : Keying G) where
     pub after : Run D
     pub disk : after.host.disk ≡ new
     -- History, report and ending belong together. That memory ran out is taken on the console's word.
-    pub run : IsEnded streams (request_of command.opening) (start_of command old place members_place) ending entries after
-        ⊎ IsBroken streams (request_of command.opening) (start_of command old place members_place) ending entries after
+    pub run : IsEnded command.workers streams (request_of command.opening) (start_of command old place members_place) ending entries after
+        ⊎ IsBroken command.workers streams (request_of command.opening) (start_of command old place members_place) ending entries after
     -- Where a group is made, or the disk exposes the journal of one, the source exposes a script, and nothing fails, all lines are run, or memory ran out.
     pub complete : CanRun streams command.opening old new → (ending ≡ Whole) ⊎ (ending ≡ Memory)
     -- Each entry is a step, from the opening on: of the server, its disk and its draws, of the members and their stores. So each push is the text of its batch,
     -- and each refusal but `NoMemory` has its cause, as far as the disk shows it.
     pub history : IsHistory on by (start_of command old place members_place) entries after
-    -- Where memory ran out for an entry, nothing more was asked.
-    pub memory : EndsWithoutMemory entries
+    -- Where memory ran out for an entry, nothing more was asked, but for what ended its block.
+    pub memory : EndsWithoutMemory false entries
     -- At each moment each batch fits the tree that the batches before it left, whatever openings read. One that is in doubt is not counted.
     pub valid : (front : List Entry) (mid : Run D) → IsMoment on by (start_of command old place members_place) entries after front mid
         → IsValid mid.host.server.depth (batches_in mid)
@@ -205,6 +240,26 @@ module _ {D G V : Type 0} (on : Devices D G V) (by : Keying G) where
     -- the disk counts at least one fault for each that is noted, as far as its count goes, and none where none is
     pub faults : CountsFaults on.disks (faults_in entries) old new
 
+  -- The soak of a number: the source is untouched. Its script is run as any other is, but for the report. That is the summary of the history, and then the last
+  -- line of the ending that was due.
+  pub record PromisesSoak (number : ℕ) (streams : Streams) (command : Command) (place members_place : ℕ) (ending : Ending) (entries : List Entry) (old new : D) :
+      Type 0 where
+    pub none_taken : streams.given.taken ≡ []
+    pub source : streams.source_after ≡ streams.source_before
+    pub given : Given
+    pub left : Shown
+    pub came : CameFrom (Some (soak_script number)) left.octets given
+    pub due : Ending
+    pub ends : EndsSoak due
+    pub run : PromisesRun (streams_of given (soak_source number) left no_report no_report) command place members_place due entries old new
+    pub last : SummaryEnds number entries due ending streams.sink_before streams.sink_after
+
+  -- by the opening that is asked for
+  abbrev pub PromisesBy : Opening → Streams → Command → ℕ → ℕ → Ending → List Entry → D → D → Type 0
+  PromisesBy (Soak number) streams command place members_place ending entries old new =
+      PromisesSoak number streams command place members_place ending entries old new
+  PromisesBy opening streams command place members_place ending entries old new = PromisesRun streams command place members_place ending entries old new
+
   -- words that ask for no group: source and disk are untouched, and there is only a last line
   pub record PromisesNothing (streams : Streams) (ending : Ending) (entries : List Entry) (old new : D) : Type 0 where
     pub none_taken : streams.given.taken ≡ []
@@ -216,7 +271,8 @@ module _ {D G V : Type 0} (on : Devices D G V) (by : Keying G) where
   -- by what the words ask for
   abbrev pub PromisesOf : Option Command → Streams → ℕ → ℕ → Ending → List Entry → D → D → Type 0
   PromisesOf None streams place members_place ending entries old new = PromisesNothing streams ending entries old new
-  PromisesOf (Some command) streams place members_place ending entries old new = PromisesRun streams command place members_place ending entries old new
+  PromisesOf (Some command) streams place members_place ending entries old new =
+      PromisesBy command.opening streams command place members_place ending entries old new
 
   -- the octets that were taken are the source's, and the rest is as promised
   pub record Promises (asked : Option Command) (streams : Streams) (place members_place : ℕ) (ending : Ending) (entries : List Entry) (old new : D) : Type 0

@@ -1,7 +1,6 @@
 -- A script as octets, and its lines.
-use Rattle.std.specs.Prelude.{◌≡◌, ◌⊎◌, ℕ, ◌==◌, ◌&&◌, nat_le, nat_lt, Bool, List, [], ◌∷◌, ◌++◌, length, is_some}
+use Rattle.std.specs.Prelude.{◌≡◌, ◌⊎◌, ℕ, ◌==◌, nat_lt, Bool, List, [], ◌∷◌, ◌++◌}
 use Rattle.std.specs.List.{list_all, slice_split}
-use Rattle.script_text.specs.Lines.{line_of}
 
 -- how many octets a line has at most
 abbrev pub longest_line : ℕ
@@ -41,11 +40,3 @@ script_lines octets = lines_of_parts (slice_split ends_line octets)
 -- a text with nothing after its last line end
 abbrev pub EndsLine : List ℕ → Type 0
 EndsLine text = (text ≡ []) ⊎ ((front : List ℕ) × (text ≡ front ++ 10 ∷ []))
-
--- whether a text is a line of the grammar
-abbrev pub is_line : List ℕ → Bool
-is_line text = is_some (line_of text)
-
--- no more lines than there may be, each of the grammar
-abbrev pub are_lines : List (List ℕ) → Bool
-are_lines lines = nat_le (length lines) most_lines && list_all is_line lines

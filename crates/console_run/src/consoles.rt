@@ -1,17 +1,21 @@
 //! The console: words, a script, and a report.
-ghost use Rattle.std.specs.Prelude.{◌≡◌, ℕ, [], None, Some, map, string_bytes, IfOk, IfErr, IsSome};
+ghost use Rattle.std.specs.Prelude.{◌≡◌, ◌≤◌, ℕ, [], None, Some, false, map, string_bytes, IfOk, IfErr, IsSome};
 ghost use Rattle.std.specs.Option.{option_map_or};
 ghost use Rattle.command_words.specs.Commands.{IsWithin, command_of};
 ghost use Rattle.group_run.specs.Openings.{FailsToOpen, Opens};
-ghost use Rattle.group_steps.specs.Devices.{devices, keying};
+ghost use Rattle.group_model.specs.declared.entries.Asked.TheVariants.{Create};
+ghost use Rattle.group_steps.specs.Devices.{Keying, devices, keying};
+ghost use Rattle.group_steps.specs.Runs.{no_run, outset_of};
+ghost use Rattle.server_steps.specs.Openings.{IsCreation};
 ghost use Rattle.console_run.specs.Causes.{Given};
 ghost use Rattle.console_run.specs.Names.{console_name};
-ghost use Rattle.console_run.specs.Promises.{Promises, request_of, start_of, streams_of};
-ghost use Rattle.console_run.specs.Private.Follows.{IsOpened, RunsScript};
+ghost use Rattle.console_run.specs.Promises.{Promises, most_phases, reads_source, request_of, start_of, streams_of};
+ghost use Rattle.console_run.specs.Private.Follows.{IsOpened, RunsKeepPromises, RunsScript};
 ghost use Rattle.console_run.specs.Private.Openings.{step_of};
 ghost use Rattle.console_run.specs.Private.Runs.{Start, drawn_by};
 
 use crate::script_run::ScriptRun;
+use crate::soaks::run_soak;
 use command_words::{Command, Opening, read_words, take_words};
 use gd_disk::Disk;
 use gd_edges::{Draws, Signer, Sink, Source, Verifier};
@@ -30,36 +34,54 @@ use law_store_steps::{
 };
 use run_report::{Finished, end_script, end_unopened, end_without_group};
 use std::alloc::Global;
+use std::sync::Wait;
+use std::thread::Threads;
 use sym_closure::{a_history_serves_its_members, members_derive, no_others_derive};
 use tree_store::a_file_has_one_group;
+use work_shares::Gate;
 
 /// How many phase 1 SAs may be introduced.
 const MOST_PHASES: u32 = 1024;
 
+/// The depth of the tree of a soak.
+const SOAK_DEPTH: u8 = 7;
+
 /// Runs a group (GDOI, RFC 6407) from a script, in its journal on the disk, and reports each entry of its history and then how the run ended.
 ///
-/// The words make a group, `--new DEPTH`, or open the one of the disk, `--open`; `--limit NUMBER` says how far epochs and sequence numbers of a group that is
-/// made may go; `--seed NUMBER` is for who makes the draws (`seed_of`); `--workers NUMBER` is for blocks of lines, which no script has yet, so that it
-/// changes nothing. Words of another form touch neither the source, the disk nor the members' draws. The script has lines of at most 200 octets, at most
-/// 16,384 of them; the lines before one of another form are run. A line past a limit ends the run at the first octet past it, and one of another form at its
-/// end; of what comes from there on at most 4,096 octets are taken. Where the source fails, the lines that came whole are run. Where the group is not opened,
-/// nothing of the script is taken. A request that runs out of memory ends the run; where something may have been done by then, it is in the history as
-/// refused for that, and else it has no entry.
+/// The words make a group, `--new DEPTH`, or open the one of the disk, `--open`; or they ask for a soak, `--soak NUMBER`: the script that is made of the number
+/// (`soak_script`) is run on a new group of depth 7, and its summary is reported, with the last line. `--limit NUMBER` says how far epochs and sequence numbers of
+/// a group that is made may go; `--seed NUMBER` is for who makes the draws (`seed_of`); `--workers NUMBER` says how many workers run the lines of a block side by
+/// side. Words of another form touch neither the source, the disk nor the members' draws.
 ///
-/// What is written is the report of the history and the last line of the ending that was due. Where the sink fails or memory runs out,
-/// it is a part of that from its start: all that the opening and the lines before the one begun last gave is reported.
+/// The script has lines of at most 200 octets, at most 16,384 of them. A line that is not of the grammar, or may not stand where it stands, is told at its own
+/// number once it is over, and a line past a limit at the first octet past it. The lines before it are run; of what comes from there on at most 4,096 octets
+/// are taken.
+///
+/// A block, from `together` to `end`, has 1 to 512 lines out of `join`, `again`, `leave`, `batch` and `now`, and names no member twice. It is run at its end, and
+/// reported once all of it is done. So nothing is run of a block that has a fault, which is told at the faulty line, nor of one without an end, which
+/// is told at its `together`.
+///
+/// Where the source fails, the lines that came whole are run, but for those of a block that is open. Where the group is not opened, nothing of the script is
+/// taken. A request that runs out of memory ends the run, but in a block whose turns have begun the other lines are still run first; where something may have been
+/// done by then, it is in the history as refused for that, and else it has no entry.
+///
+/// What is written is the report of the history, or the summary of a soak, and the last line of the ending that was due. Where the sink fails or memory runs out,
+/// it is a part of that from its start: all that the opening and the lines before the one begun last gave is reported, unless it is a soak.
 ///
 /// `Promises` says this of the history, the report, the source, the sink and the disk. It says also which step each entry is, what a crash leaves, and whom the
 /// keys serve.
 pub fn console<
+    T: Threads + Wait + Sync,
     S: Source,
     K: Sink,
-    D: Disk,
-    G: Signer + Drop,
+    D: Disk + Send + Drop,
+    G: Signer + Send + Drop,
     V: Verifier,
-    R: Draws + Drop,
+    R: Draws + Send + Drop,
     P: Draws,
+    W: Gate + Sync,
 >(
+    rt: &T,
     alloc: Global,
     words: &[String],
     script: &mut S,
@@ -69,15 +91,41 @@ pub fn console<
     verifier: &V,
     draws: R,
     peers: &mut P,
+    gate: &W,
 ) -> Finished<D>
     ensures run { (given : Given) × Promises (devices D.Disk G.Signer V.Verifier verifier.now)
         (keying signer (R.block_at draws) (P.block_at peers.old) console_name)
         (command_of (map string_bytes words.now))
         (streams_of given (S.shows script.old) (S.shows script.new) (K.shows out.old) (K.shows out.new))
         (R.place_of draws) (P.place_of peers.old) result.ending result.history disk result.disk }
-    ensures untouched { command_of (map string_bytes words.now) ≡ None → script.new ≡ script.old }
+    ensures untouched { reads_source (command_of (map string_bytes words.now)) ≡ false → script.new ≡ script.old }
     ensures undrawn { command_of (map string_bytes words.now) ≡ None → peers.new ≡ peers.old }
     ensures blocks { (k : ℕ) → P.block_at peers.new k ≡ P.block_at peers.old k }
+{
+    a_run_keeps_its_promises::<D, G, V>();
+    match read_words(words) {
+        Some(command) => {
+            let parts = Parts {
+                disk,
+                signer,
+                draws,
+            };
+            match command.opening {
+                Opening::Soak { number } => {
+                    run_soak(rt, alloc, number, words, out, parts, verifier, peers, gate)
+                }
+                Opening::New { .. } | Opening::Open => {
+                    run_words(rt, alloc, words, script, out, parts, verifier, peers, gate)
+                }
+            }
+        }
+        None => end_without_group(alloc, disk, out),
+    }
+}
+
+/// What is promised of a run whose group was opened as a command asks, or could not be.
+fn a_run_keeps_its_promises<D: Disk, G: Signer, V: Verifier>()
+    ensures { (verifier : V) (by : Keying G) → RunsKeepPromises (devices D.Disk G.Signer V.Verifier verifier) by }
 {
     a_history_leaves_a_valid_list::<D, G, V>();
     each_moment_ends_a_history::<D, G, V>();
@@ -95,17 +143,6 @@ pub fn console<
     members_derive();
     a_batch_encrypts_few();
     a_history_serves_its_members();
-    match read_words(words) {
-        Some(_) => {
-            let parts = Parts {
-                disk,
-                signer,
-                draws,
-            };
-            run_words(alloc, words, script, out, parts, verifier, peers)
-        }
-        None => end_without_group(alloc, disk, out),
-    }
 }
 
 /// The number of `--seed`, for who makes the draws; 0 where that is absent, or the words are of another form.
@@ -119,7 +156,18 @@ pub fn seed_of(words: &[String]) -> u64
 }
 
 /// Runs a script on the group that words of the grammar ask for.
-fn run_words<S: Source, K: Sink, D: Disk, G: Signer + Drop, V: Verifier, R: Draws + Drop, P: Draws>(
+pub(crate) fn run_words<
+    T: Threads + Wait + Sync,
+    S: Source,
+    K: Sink,
+    D: Disk + Send + Drop,
+    G: Signer + Send + Drop,
+    V: Verifier,
+    R: Draws + Send + Drop,
+    P: Draws,
+    W: Gate + Sync,
+>(
+    rt: &T,
     alloc: Global,
     words: &[String],
     script: &mut S,
@@ -127,30 +175,36 @@ fn run_words<S: Source, K: Sink, D: Disk, G: Signer + Drop, V: Verifier, R: Draw
     parts: Parts<D, G, R>,
     verifier: &V,
     peers: &mut P,
+    gate: &W,
 ) -> Finished<D>
     requires { IsSome (command_of (map string_bytes words.now)) }
     ensures runs { (command : Command) → command_of (map string_bytes words.now) ≡ Some command →
         RunsScript (devices D.Disk G.Signer V.Verifier verifier.now) (keying parts.signer (R.block_at parts.draws) (P.block_at peers.old) console_name)
-        (request_of command.opening) (start_of command parts.disk (R.place_of parts.draws) (P.place_of peers.old))
+        command.workers (request_of command.opening) (start_of command parts.disk (R.place_of parts.draws) (P.place_of peers.old))
         (S.shows script.old) (S.shows script.new) (K.shows out.old) (K.shows out.new) result.ending result.history result.disk }
     ensures blocks { (k : ℕ) → P.block_at peers.new k ≡ P.block_at peers.old k }
 {
     match take_words(alloc, words) {
-        Ok(command) => run_command(alloc, command, script, out, parts, verifier, peers),
+        Ok(command) => run_command(
+            rt, alloc, command, script, out, parts, verifier, peers, gate,
+        ),
         Err(NoMemory) => end_unopened(alloc, List::new(alloc), parts.disk, out),
     }
 }
 
 /// Opens the group that a command asks for, and runs a script on it.
 fn run_command<
+    T: Threads + Wait + Sync,
     S: Source,
     K: Sink,
-    D: Disk,
-    G: Signer + Drop,
+    D: Disk + Send + Drop,
+    G: Signer + Send + Drop,
     V: Verifier,
-    R: Draws + Drop,
+    R: Draws + Send + Drop,
     P: Draws,
+    W: Gate + Sync,
 >(
+    rt: &T,
     alloc: Global,
     command: Command,
     script: &mut S,
@@ -158,15 +212,26 @@ fn run_command<
     parts: Parts<D, G, R>,
     verifier: &V,
     peers: &mut P,
+    gate: &W,
 ) -> Finished<D>
     requires { IsWithin command }
     ensures runs { RunsScript (devices D.Disk G.Signer V.Verifier verifier.now) (keying parts.signer (R.block_at parts.draws) (P.block_at peers.old) console_name)
-        (request_of command.opening) (start_of command parts.disk (R.place_of parts.draws) (P.place_of peers.old))
+        command.workers (request_of command.opening) (start_of command parts.disk (R.place_of parts.draws) (P.place_of peers.old))
         (S.shows script.old) (S.shows script.new) (K.shows out.old) (K.shows out.new) result.ending result.history result.disk }
     ensures blocks { (k : ℕ) → P.block_at peers.new k ≡ P.block_at peers.old k }
 {
     match open_group(alloc, command, parts, peers.place()) {
-        Ok(group) => run_script(alloc, group, script, out, verifier, peers),
+        Ok(group) => run_script(
+            rt,
+            alloc,
+            group,
+            script,
+            out,
+            command.workers,
+            verifier,
+            peers,
+            gate,
+        ),
         Err(Unopened { history, parts }) => end_unopened(alloc, history, parts.disk, out),
     }
 }
@@ -187,16 +252,36 @@ fn open_group<D: Disk, G: Signer, R: Draws>(
         (request_of command.opening) (start_of command parts.disk (R.place_of parts.draws) members_place) unopened.history unopened.parts.disk) }
 {
     match command.opening {
-        Opening::New { depth } => {
-            let group = NewGroup {
-                depth,
-                name: console_name(),
-                limit: command.limit,
-            };
-            GroupRun::create(alloc, parts, &group, MOST_PHASES, members_place)
-        }
+        Opening::New { depth } => make_group(alloc, parts, depth, command.limit, members_place),
+        Opening::Soak { .. } => make_group(alloc, parts, SOAK_DEPTH, command.limit, members_place),
         Opening::Open => GroupRun::open(alloc, parts, MOST_PHASES, members_place),
     }
+}
+
+/// Makes the console's group, of this depth and with this limit.
+fn make_group<D: Disk, G: Signer, R: Draws>(
+    alloc: Global,
+    parts: Parts<D, G, R>,
+    depth: u8,
+    limit: u32,
+    members_place: u64,
+) -> Result<GroupRun<D, G, R>, Unopened<D, G, R>>
+    requires shallow { 1 ≤ depth }
+    requires not_deep { depth ≤ 9 }
+    requires limited { 1 ≤ limit }
+    ensures ok { IfOk result (Opens D.Disk R.Draws (IsCreation D.Disk (R.block_at parts.draws) depth) (Create depth)
+        (no_run (outset_of parts.disk console_name limit (R.place_of parts.draws) members_place most_phases))) }
+    ensures begins { IfOk result (λ run. (run.server.rules ≡ []) × (run.members.mail ≡ []) × (run.members.place ≡ members_place)) }
+    ensures goes_on { IfOk result (λ run. (run.server.core.signer ≡ parts.signer) × ((k : ℕ) → R.block_at run.server.core.draws k ≡ R.block_at parts.draws k)) }
+    ensures err { IfErr result (λ unopened. FailsToOpen D.Disk (IsCreation D.Disk (R.block_at parts.draws) depth) (Create depth)
+        (no_run (outset_of parts.disk console_name limit (R.place_of parts.draws) members_place most_phases)) unopened.history unopened.parts.disk) }
+{
+    let group = NewGroup {
+        depth,
+        name: console_name(),
+        limit,
+    };
+    GroupRun::create(alloc, parts, &group, MOST_PHASES, members_place)
 }
 
 /// The name of the console's group.
@@ -208,32 +293,38 @@ pub(crate) fn console_name() -> GroupName
 
 /// Runs a script on a group that was opened.
 fn run_script<
+    T: Threads + Wait + Sync,
     S: Source,
     K: Sink,
-    D: Disk,
-    G: Signer + Drop,
+    D: Disk + Send + Drop,
+    G: Signer + Send + Drop,
     V: Verifier,
-    R: Draws + Drop,
+    R: Draws + Send + Drop,
     P: Draws,
+    W: Gate + Sync,
 >(
+    rt: &T,
     alloc: Global,
     group: GroupRun<D, G, R>,
     script: &mut S,
     out: &mut K,
+    workers: u8,
     verifier: &V,
     peers: &mut P,
+    gate: &W,
 ) -> Finished<D>
+    requires workers { (1 ≤ workers) × (workers ≤ 16) }
     requires rest { group.members.mail ≡ [] }
     requires place { P.place_of peers.old ≡ group.members.place }
     requires rules { group.server.rules ≡ [] }
     ensures runs { (start : Start D G) → start.was ≡ K.shows out.old → IsOpened (devices D.Disk G.Signer V.Verifier verifier.now) R.Draws
         (drawn_by P.Draws peers.old) start group →
-        RunsScript (devices D.Disk G.Signer V.Verifier verifier.now) start.by start.request start.run
+        RunsScript (devices D.Disk G.Signer V.Verifier verifier.now) start.by workers start.request start.run
         (S.shows script.old) (S.shows script.new) (K.shows out.old) (K.shows out.new) result.ending result.history result.disk }
     ensures blocks { (k : ℕ) → P.block_at peers.new k ≡ P.block_at peers.old k }
 {
     let mut run = ScriptRun::begin(group);
-    let followed = run.follow(alloc, script, verifier, peers, out);
+    let followed = run.follow(rt, alloc, script, workers, verifier, peers, out, gate);
     let line = run.line_number();
     let (history, disk) = take_apart(run);
     end_script(alloc, followed, line, history, disk, out)

@@ -5,14 +5,14 @@ ghost use Rattle.group_model.specs.declared.entries.Entry.{Entry};
 ghost use Rattle.group_peers.specs.Peers.{was_introduced};
 ghost use Rattle.script_text.specs.Report.{entry_text};
 ghost use Rattle.script_text.specs.declared.lines.Line.TheVariants as lines;
-ghost use Rattle.console_run.specs.Scripts.{is_line, most_lines};
+ghost use Rattle.console_run.specs.Scripts.{most_lines};
 ghost use Rattle.run_report.specs.Reports.{Puts};
 ghost use Rattle.group_run.specs.Stays.{RulesStay};
 ghost use Rattle.console_run.specs.Private.Asks.{RunsLine};
 ghost use Rattle.console_run.specs.Private.Mail.{begun_by_mail, by_mail};
 ghost use Rattle.console_run.specs.Private.Reports.{EntryStops};
 ghost use Rattle.group_steps.specs.Devices.{devices};
-ghost use Rattle.console_run.specs.Private.Runs.{Drawing, Runs, Stops, begun_by_text, by_text, drawn_by};
+ghost use Rattle.console_run.specs.Private.Runs.{Drawing, Runs, Stops, drawn_by};
 
 use crate::consoles::console_name;
 use gd_disk::Disk;
@@ -21,40 +21,11 @@ use group_model::MemberName;
 use group_run::GroupRun;
 use group_terms::{Pattern, Rule};
 use run_report::{Stop, report};
-use script_text::{Line, read_line};
+use script_text::Line;
 use std::alloc::Global;
 
-/// Runs a line on a group, and reports what happens.
+/// Runs a line on a group, outside a block, and reports what happens.
 pub(crate) fn run_line<D: Disk, G: Signer, V: Verifier, R: Draws, P: Draws, K: Sink>(
-    alloc: Global,
-    text: &[u8],
-    group: &mut GroupRun<D, G, R>,
-    verifier: &V,
-    peers: &mut P,
-    out: &mut K,
-) -> Result<(), Stop>
-    requires rest { group.old.members.mail ≡ [] }
-    requires place { P.place_of peers.old ≡ group.old.members.place }
-    requires rules { length group.old.server.rules < most_lines }
-    ensures ok { OnOk result (Runs D.Disk R.Draws (drawn_by P.Draws peers.old) (by_text (devices D.Disk G.Signer V.Verifier verifier.now) text.now)
-        group.old group.new (K.shows out.old) (K.shows out.new)) }
-    ensures stops { IfErr result (λ stop. Stops D.Disk R.Draws (drawn_by P.Draws peers.old)
-        (begun_by_text (devices D.Disk G.Signer V.Verifier verifier.now) text.now) stop
-        group.old group.new (K.shows out.old) (K.shows out.new)) }
-    ensures faulty { result ≡ Err Stop.Line → is_line text.now ≡ false }
-    ensures place { OnOk result (P.place_of peers.new ≡ group.new.members.place) }
-    ensures blocks { (k : ℕ) → P.block_at peers.new k ≡ P.block_at peers.old k }
-    ensures rules { OnOk result (length group.new.server.rules ≤ length group.old.server.rules + 1) }
-    ensures rest { OnOk result (group.new.members.mail ≡ []) }
-{
-    match read_line(text) {
-        Some(line) => run(alloc, line, group, verifier, peers, out),
-        None => Err(Stop::Line),
-    }
-}
-
-/// Runs a line of the grammar.
-fn run<D: Disk, G: Signer, V: Verifier, R: Draws, P: Draws, K: Sink>(
     alloc: Global,
     line: Line,
     group: &mut GroupRun<D, G, R>,
@@ -74,6 +45,8 @@ fn run<D: Disk, G: Signer, V: Verifier, R: Draws, P: Draws, K: Sink>(
 {
     let asked = match line {
         Line::Nothing => return Ok(()),
+        Line::Together => return Ok(()),
+        Line::End => return Ok(()),
         Line::Allow { pattern } => group.add_rule(rule(true, pattern)),
         Line::Deny { pattern } => group.add_rule(rule(false, pattern)),
         Line::Join { member } => return run_join(alloc, &member, group, verifier, peers, out),
@@ -88,6 +61,7 @@ fn run<D: Disk, G: Signer, V: Verifier, R: Draws, P: Draws, K: Sink>(
         Line::Halt => group.halt(),
         Line::Reopen => group.reopen(alloc),
         Line::Show => group.show(alloc),
+        Line::Now => group.look(),
     };
     asked?;
     report_last(alloc, group, out)

@@ -1,30 +1,38 @@
 //! Running a script, octet by octet.
-ghost use Rattle.std.specs.Prelude.{◌≡◌, ℕ, ◌+◌, ◌<◌, ◌≤◌, [], ◌∷◌, length, true, Err, IfErr, OnOk};
+ghost use Rattle.std.specs.Prelude.{◌≡◌, ℕ, ◌+◌, ◌<◌, ◌≤◌, [], ◌∷◌, length, true, Err, IfErr, MatchResult, OnOk, None, Some};
 ghost use Rattle.run_report.specs.declared.endings.Ending.TheVariants.{Whole};
 ghost use Rattle.console_run.specs.Scripts.{are_octets, longest_piece, most_lines};
-ghost use Rattle.console_run.specs.Private.Follows.{IsOpened, IsRunTo, IsRunUntil, TakesAndGoesOn, TakesAndStops, at};
+ghost use Rattle.console_run.specs.Private.Follows.{EndsInside, IsOpened, IsRunTo, IsRunUntil, TakesAndGoesOn, TakesAndStops, at};
 ghost use Rattle.group_steps.specs.Devices.{devices};
-ghost use Rattle.console_run.specs.Private.Runs.{Ends, GoesOn, IsReady, Start, StopsAt, StopsAtEnd, StopsWithin, drawn_by, room_left};
+ghost use Rattle.console_run.specs.Blocks.{after_text};
+ghost use Rattle.console_run.specs.Private.Asks.{RunsLineAt};
+ghost use Rattle.console_run.specs.Private.Runs.{AreFine, Ends, GoesOn, IsFine, IsPlaced, IsReady, RunsThere, Start, StopsAt, StopsAtEnd, StopsThere, StopsWithin, begun_by_text, by_text, drawn_by, open_of, room_left};
 
-use crate::line_run::{report_last, run_line};
+use crate::held::Held;
+use crate::line_run::report_last;
+use crate::open_blocks::{OpenBlock, ask_of};
 use arrayvec::ArrayVec;
 use gd_disk::Disk;
 use gd_edges::{Draws, Failed, Signer, Sink, Source, Verifier};
 use group_model::NoMemory;
 use group_run::GroupRun;
 use run_report::Stop;
-use script_text::MOST_LINE_OCTETS;
+use script_text::{Line, MOST_LINE_OCTETS, read_line};
 use std::alloc::Global;
+use std::sync::Wait;
+use std::thread::Threads;
+use work_shares::Gate;
 
 const MOST_LINES: u32 = 16_384;
 
 /// How many octets the source is asked for at a time.
 const PIECE: usize = 4096;
 
-/// A run of a script: the group, what has come of the present line, and how many lines were run before it.
+/// A run of a script: the group, the block that is open, what has come of the present line, and how many lines came before it.
 #[derive(Drop)]
 pub(crate) struct ScriptRun<D: Disk, G: Signer, R: Draws> {
-    pub(crate) group: GroupRun<D, G, R>,
+    pub(crate) group: Held<D, G, R>,
+    block: Option<OpenBlock>,
     line: ArrayVec<u8, MOST_LINE_OCTETS>,
     count: u32,
 }
@@ -33,11 +41,13 @@ impl<D: Disk, G: Signer, R: Draws> ScriptRun<D, G, R> {
     /// A run before its script, with a group that was just opened.
     pub(crate) fn begin(group: GroupRun<D, G, R>) -> Self
         ensures group { result.group ≡ group }
+        ensures state { result.block ≡ None }
         ensures line { result.line.items ≡ [] }
         ensures count { result.count ≡ 0 }
     {
         ScriptRun {
-            group,
+            group: Held::new(group),
+            block: None,
             line: ArrayVec::new(),
             count: 0,
         }
@@ -51,23 +61,177 @@ impl<D: Disk, G: Signer, R: Draws> ScriptRun<D, G, R> {
         self.count + 1
     }
 
-    /// Takes one octet. The line that it ends is run.
-    fn take_octet<V: Verifier, P: Draws, K: Sink>(
+    /// The group.
+    pub(crate) fn into_group(self) -> GroupRun<D, G, R>
+        ensures { result ≡ self.group }
+    {
+        let ScriptRun {
+            group,
+            block: _,
+            line: _,
+            count: _,
+        } = self;
+        group.into_group()
+    }
+}
+
+impl<D: Disk + Send + Drop, G: Signer + Send + Drop, R: Draws + Send + Drop> ScriptRun<D, G, R> {
+    /// Runs the present line, where it stands.
+    fn run_line<T: Threads + Wait + Sync, V: Verifier, P: Draws, K: Sink, W: Gate + Sync>(
+        &mut self,
+        rt: &T,
+        alloc: Global,
+        workers: u8,
+        verifier: &V,
+        peers: &mut P,
+        out: &mut K,
+        gate: &W,
+    ) -> Result<(), Stop>
+        requires workers { (1 ≤ workers) × (workers ≤ 16) }
+        requires ready { IsReady (at self.old (K.shows out.old) (drawn_by P.Draws peers.old)) }
+        requires room { self.old.count < most_lines }
+        ensures ok { OnOk result (RunsThere D.Disk R.Draws (drawn_by P.Draws peers.old)
+            (by_text (devices D.Disk G.Signer V.Verifier verifier.now) workers (open_of self.old.block) self.old.line.items (open_of self.new.block))
+            self.old.group self.new.group (K.shows out.old) (K.shows out.new)) }
+        ensures stops { IfErr result (λ stop. StopsThere D.Disk R.Draws (drawn_by P.Draws peers.old)
+            (begun_by_text (devices D.Disk G.Signer V.Verifier verifier.now) workers (open_of self.old.block) self.old.line.items) stop
+            self.old.group self.new.group (K.shows out.old) (K.shows out.new)) }
+        ensures faulty { result ≡ Err Stop.Line → after_text (open_of self.old.block) self.old.line.items ≡ None }
+        ensures other { result ≡ Err Stop.Source → ⊥ }
+        ensures placed { OnOk result (IsPlaced self.old.count self.old.block self.new.block) }
+        ensures block { OnOk result (AreFine (self.old.count + 1) self.new.block) }
+        ensures line { self.new.line.items ≡ self.old.line.items }
+        ensures count { self.new.count ≡ self.old.count }
+        ensures place { OnOk result (P.place_of peers.new ≡ self.new.group.members.place) }
+        ensures blocks { (k : ℕ) → P.block_at peers.new k ≡ P.block_at peers.old k }
+        ensures rules { OnOk result (length self.new.group.server.rules ≤ length self.old.group.server.rules + 1) }
+        ensures rest { OnOk result (self.new.group.members.mail ≡ []) }
+    {
+        let Some(line) = read_line(self.line.as_slice()) else {
+            return Err(Stop::Line);
+        };
+        match self.block.take() {
+            Some(block) => {
+                self.run_inside(rt, alloc, block, line, workers, verifier, peers, out, gate)
+            }
+            None => self.run_outside(alloc, line, workers, verifier, peers, out),
+        }
+    }
+
+    /// Runs a line outside a block.
+    fn run_outside<V: Verifier, P: Draws, K: Sink>(
         &mut self,
         alloc: Global,
-        octet: u8,
+        line: Line,
+        workers: u8,
         verifier: &V,
         peers: &mut P,
         out: &mut K,
     ) -> Result<(), Stop>
+        requires state { self.old.block ≡ None }
+        requires room { self.old.count < most_lines }
+        requires rest { self.old.group.members.mail ≡ [] }
+        requires place { P.place_of peers.old ≡ self.old.group.members.place }
+        requires rules { length self.old.group.server.rules < most_lines }
+        ensures runs { RunsLineAt (devices D.Disk G.Signer V.Verifier verifier.now) R.Draws (drawn_by P.Draws peers.old) workers None line
+            (open_of self.new.block) result self.old.group self.new.group (K.shows out.old) (K.shows out.new) }
+        ensures placed { OnOk result (IsPlaced self.old.count None self.new.block) }
+        ensures block { OnOk result (AreFine (self.old.count + 1) self.new.block) }
+        ensures line { self.new.line.items ≡ self.old.line.items }
+        ensures count { self.new.count ≡ self.old.count }
+        ensures place { OnOk result (P.place_of peers.new ≡ self.new.group.members.place) }
+        ensures blocks { (k : ℕ) → P.block_at peers.new k ≡ P.block_at peers.old k }
+        ensures rules { OnOk result (length self.new.group.server.rules ≤ length self.old.group.server.rules + 1) }
+        ensures rest { OnOk result (self.new.group.members.mail ≡ []) }
+    {
+        match line {
+            Line::Together => {
+                self.block = Some(OpenBlock::begin(alloc, self.count));
+                Ok(())
+            }
+            Line::End => Err(Stop::Line),
+            line => self.group.run_line(alloc, line, verifier, peers, out),
+        }
+    }
+
+    /// Takes a line into the block that is open. The line that ends it runs it.
+    fn run_inside<T: Threads + Wait + Sync, V: Verifier, P: Draws, K: Sink, W: Gate + Sync>(
+        &mut self,
+        rt: &T,
+        alloc: Global,
+        mut block: OpenBlock,
+        line: Line,
+        workers: u8,
+        verifier: &V,
+        peers: &mut P,
+        out: &mut K,
+        gate: &W,
+    ) -> Result<(), Stop>
+        requires workers { (1 ≤ workers) × (workers ≤ 16) }
+        requires state { self.old.block ≡ None }
+        requires block { IsFine self.old.count block }
+        requires rest { self.old.group.members.mail ≡ [] }
+        requires place { P.place_of peers.old ≡ self.old.group.members.place }
+        ensures runs { RunsLineAt (devices D.Disk G.Signer V.Verifier verifier.now) R.Draws (drawn_by P.Draws peers.old) workers (Some block.asks) line
+            (open_of self.new.block) result self.old.group self.new.group (K.shows out.old) (K.shows out.new) }
+        ensures placed { OnOk result (IsPlaced self.old.count (Some block) self.new.block) }
+        ensures block { OnOk result (AreFine (self.old.count + 1) self.new.block) }
+        ensures line { self.new.line.items ≡ self.old.line.items }
+        ensures count { self.new.count ≡ self.old.count }
+        ensures place { OnOk result (P.place_of peers.new ≡ self.new.group.members.place) }
+        ensures blocks { (k : ℕ) → P.block_at peers.new k ≡ P.block_at peers.old k }
+        ensures rules { OnOk result (length self.new.group.server.rules ≤ length self.old.group.server.rules + 1) }
+        ensures rest { OnOk result (self.new.group.members.mail ≡ []) }
+    {
+        match line {
+            Line::Nothing => {
+                self.block = Some(block);
+                Ok(())
+            }
+            Line::End => {
+                if block.asks.is_empty() {
+                    return Err(Stop::Line);
+                }
+                let asks = block.asks.as_slice();
+                self.group
+                    .run_block(rt, alloc, asks, workers, verifier, peers, out, gate)
+            }
+            line => {
+                let Some(ask) = ask_of(&line) else {
+                    return Err(Stop::Line);
+                };
+                match block.take(ask) {
+                    Ok(()) => {
+                        self.block = Some(block);
+                        Ok(())
+                    }
+                    Err(stop) => Err(stop),
+                }
+            }
+        }
+    }
+
+    /// Takes one octet. The line that it ends is run.
+    fn take_octet<T: Threads + Wait + Sync, V: Verifier, P: Draws, K: Sink, W: Gate + Sync>(
+        &mut self,
+        rt: &T,
+        alloc: Global,
+        octet: u8,
+        workers: u8,
+        verifier: &V,
+        peers: &mut P,
+        out: &mut K,
+        gate: &W,
+    ) -> Result<(), Stop>
+        requires workers { (1 ≤ workers) × (workers ≤ 16) }
         requires ready { IsReady (at self.old (K.shows out.old) (drawn_by P.Draws peers.old)) }
         ensures ready { OnOk result (IsReady (at self.new (K.shows out.new) (drawn_by P.Draws peers.new))) }
-        ensures goes { OnOk result (GoesOn (devices D.Disk G.Signer V.Verifier verifier.now) R.Draws (octet ∷ [])
+        ensures goes { OnOk result (GoesOn (devices D.Disk G.Signer V.Verifier verifier.now) R.Draws workers (octet ∷ [])
             (at self.old (K.shows out.old) (drawn_by P.Draws peers.old)) (at self.new (K.shows out.new) (drawn_by P.Draws peers.new))) }
         ensures nearer { OnOk result (room_left (at self.new (K.shows out.new) (drawn_by P.Draws peers.new)) < room_left
             (at self.old (K.shows out.old) (drawn_by P.Draws peers.old))) }
         ensures count { self.new.count ≤ most_lines }
-        ensures stops { IfErr result (λ stop. StopsAt (devices D.Disk G.Signer V.Verifier verifier.now) R.Draws octet stop
+        ensures stops { IfErr result (λ stop. StopsAt (devices D.Disk G.Signer V.Verifier verifier.now) R.Draws workers octet stop
             (at self.old (K.shows out.old) (drawn_by P.Draws peers.old)) (at self.new (K.shows out.new) (drawn_by P.Draws peers.new))) }
         ensures other { result ≡ Err Stop.Source → ⊥ }
         ensures blocks { (k : ℕ) → P.block_at peers.new k ≡ P.block_at peers.old k }
@@ -76,14 +240,7 @@ impl<D: Disk, G: Signer, R: Draws> ScriptRun<D, G, R> {
             return Err(Stop::Line);
         }
         if octet == b'\n' {
-            run_line(
-                alloc,
-                self.line.as_slice(),
-                &mut self.group,
-                verifier,
-                peers,
-                out,
-            )?;
+            self.run_line(rt, alloc, workers, verifier, peers, out, gate)?;
             self.line.clear();
             self.count += 1;
             return Ok(());
@@ -96,53 +253,68 @@ impl<D: Disk, G: Signer, R: Draws> ScriptRun<D, G, R> {
     }
 
     /// Takes a piece of the script.
-    fn take_piece<V: Verifier, P: Draws, K: Sink>(
+    fn take_piece<T: Threads + Wait + Sync, V: Verifier, P: Draws, K: Sink, W: Gate + Sync>(
         &mut self,
+        rt: &T,
         alloc: Global,
         piece: &[u8],
+        workers: u8,
         verifier: &V,
         peers: &mut P,
         out: &mut K,
+        gate: &W,
     ) -> Result<(), Stop>
         requires short { length piece.now ≤ longest_piece }
+        requires workers { (1 ≤ workers) × (workers ≤ 16) }
         requires ready { IsReady (at self.old (K.shows out.old) (drawn_by P.Draws peers.old)) }
         ensures ready { OnOk result (IsReady (at self.new (K.shows out.new) (drawn_by P.Draws peers.new))) }
-        ensures goes { OnOk result (GoesOn (devices D.Disk G.Signer V.Verifier verifier.now) R.Draws piece.now
+        ensures goes { OnOk result (GoesOn (devices D.Disk G.Signer V.Verifier verifier.now) R.Draws workers piece.now
             (at self.old (K.shows out.old) (drawn_by P.Draws peers.old)) (at self.new (K.shows out.new) (drawn_by P.Draws peers.new))) }
         ensures nearer { OnOk result (room_left (at self.new (K.shows out.new) (drawn_by P.Draws peers.new)) + length piece.now ≤ room_left
             (at self.old (K.shows out.old) (drawn_by P.Draws peers.old))) }
         ensures count { self.new.count ≤ most_lines }
-        ensures stops { IfErr result (λ stop. StopsWithin (devices D.Disk G.Signer V.Verifier verifier.now) R.Draws piece.now stop
+        ensures stops { IfErr result (λ stop. StopsWithin (devices D.Disk G.Signer V.Verifier verifier.now) R.Draws workers piece.now stop
             (at self.old (K.shows out.old) (drawn_by P.Draws peers.old)) (at self.new (K.shows out.new) (drawn_by P.Draws peers.new))) }
         ensures other { result ≡ Err Stop.Source → ⊥ }
         ensures octets { are_octets piece.now ≡ true }
         ensures blocks { (k : ℕ) → P.block_at peers.new k ≡ P.block_at peers.old k }
     {
         for octet in piece {
-            self.take_octet(alloc, *octet, verifier, peers, out)?;
+            self.take_octet(rt, alloc, *octet, workers, verifier, peers, out, gate)?;
         }
         Ok(())
     }
 
     /// Takes all that the source has, in pieces of at most the buffer's length.
-    fn take_script<S: Source, V: Verifier, P: Draws, K: Sink>(
+    fn take_script<
+        T: Threads + Wait + Sync,
+        S: Source,
+        V: Verifier,
+        P: Draws,
+        K: Sink,
+        W: Gate + Sync,
+    >(
         &mut self,
+        rt: &T,
         alloc: Global,
         script: &mut S,
         buffer: &mut [u8],
+        workers: u8,
         verifier: &V,
         peers: &mut P,
         out: &mut K,
+        gate: &W,
     ) -> Result<(), Stop>
         requires buffer { 0 < length buffer.old }
         requires short { length buffer.old ≤ longest_piece }
+        requires workers { (1 ≤ workers) × (workers ≤ 16) }
         requires ready { IsReady (at self.old (K.shows out.old) (drawn_by P.Draws peers.old)) }
         ensures ready { OnOk result (IsReady (at self.new (K.shows out.new) (drawn_by P.Draws peers.new))) }
-        ensures goes { OnOk result (TakesAndGoesOn (devices D.Disk G.Signer V.Verifier verifier.now) R.Draws
+        ensures goes { OnOk result (TakesAndGoesOn (devices D.Disk G.Signer V.Verifier verifier.now) R.Draws workers
             (S.shows script.old) (S.shows script.new) (at self.old (K.shows out.old) (drawn_by P.Draws peers.old))
             (at self.new (K.shows out.new) (drawn_by P.Draws peers.new))) }
         ensures count { self.new.count ≤ most_lines }
-        ensures stops { IfErr result (λ stop. TakesAndStops (devices D.Disk G.Signer V.Verifier verifier.now) R.Draws stop
+        ensures stops { IfErr result (λ stop. TakesAndStops (devices D.Disk G.Signer V.Verifier verifier.now) R.Draws workers stop
             (S.shows script.old) (S.shows script.new) (at self.old (K.shows out.old) (drawn_by P.Draws peers.old))
             (at self.new (K.shows out.new) (drawn_by P.Draws peers.new))) }
         ensures blocks { (k : ℕ) → P.block_at peers.new k ≡ P.block_at peers.old k }
@@ -156,50 +328,70 @@ impl<D: Disk, G: Signer, R: Draws> ScriptRun<D, G, R> {
                 return Ok(());
             }
             let (piece, _) = buffer.split_at(n);
-            self.take_piece(alloc, piece, verifier, peers, out)?;
+            self.take_piece(rt, alloc, piece, workers, verifier, peers, out, gate)?;
         }
     }
 
+    /// Ends the script. Where a block is open, that is told at the line that began it: the run is back there.
+    fn end(&mut self) -> Result<(), Stop>
+        ensures { MatchResult result (λ done. (self.old.block ≡ None) × (self.new ≡ self.old)) (λ stop. EndsInside stop self.old self.new) }
+    {
+        let Some(block) = &self.block else {
+            return Ok(());
+        };
+        self.count = block.before;
+        Err(Stop::Line)
+    }
+
     /// Runs the last line, where the script ends in the middle of it.
-    fn finish<V: Verifier, P: Draws, K: Sink>(
+    fn finish<T: Threads + Wait + Sync, V: Verifier, P: Draws, K: Sink, W: Gate + Sync>(
         &mut self,
+        rt: &T,
         alloc: Global,
+        workers: u8,
         verifier: &V,
         peers: &mut P,
         out: &mut K,
+        gate: &W,
     ) -> Result<(), Stop>
+        requires workers { (1 ≤ workers) × (workers ≤ 16) }
         requires ready { IsReady (at self.old (K.shows out.old) (drawn_by P.Draws peers.old)) }
-        ensures ends { OnOk result (Ends (devices D.Disk G.Signer V.Verifier verifier.now) R.Draws
+        ensures ends { OnOk result (Ends (devices D.Disk G.Signer V.Verifier verifier.now) R.Draws workers
             (at self.old (K.shows out.old) (drawn_by P.Draws peers.old)) (at self.new (K.shows out.new) (drawn_by P.Draws peers.new))) }
         ensures count { self.new.count ≤ most_lines }
-        ensures stops { IfErr result (λ stop. StopsAtEnd (devices D.Disk G.Signer V.Verifier verifier.now) R.Draws stop
+        ensures stops { IfErr result (λ stop. StopsAtEnd (devices D.Disk G.Signer V.Verifier verifier.now) R.Draws workers stop
             (at self.old (K.shows out.old) (drawn_by P.Draws peers.old)) (at self.new (K.shows out.new) (drawn_by P.Draws peers.new))) }
         ensures other { result ≡ Err Stop.Source → ⊥ }
         ensures blocks { (k : ℕ) → P.block_at peers.new k ≡ P.block_at peers.old k }
     {
         if self.line.is_empty() {
-            return Ok(());
+            return self.end();
         }
-        run_line(
-            alloc,
-            self.line.as_slice(),
-            &mut self.group,
-            verifier,
-            peers,
-            out,
-        )?;
-        Ok(())
+        self.run_line(rt, alloc, workers, verifier, peers, out, gate)?;
+        self.end()
     }
 
     /// Reports that the group was opened, and runs the whole script on it.
-    pub(crate) fn follow<S: Source, V: Verifier, P: Draws, K: Sink>(
+    pub(crate) fn follow<
+        T: Threads + Wait + Sync,
+        S: Source,
+        V: Verifier,
+        P: Draws,
+        K: Sink,
+        W: Gate + Sync,
+    >(
         &mut self,
+        rt: &T,
         alloc: Global,
         script: &mut S,
+        workers: u8,
         verifier: &V,
         peers: &mut P,
         out: &mut K,
+        gate: &W,
     ) -> Result<(), Stop>
+        requires workers { (1 ≤ workers) × (workers ≤ 16) }
+        requires state { self.old.block ≡ None }
         requires line { self.old.line.items ≡ [] }
         requires count { self.old.count ≡ 0 }
         requires rest { self.old.group.members.mail ≡ [] }
@@ -207,30 +399,28 @@ impl<D: Disk, G: Signer, R: Draws> ScriptRun<D, G, R> {
         requires rules { self.old.group.server.rules ≡ [] }
         ensures ok { OnOk result ((start : Start D G) → start.was ≡ K.shows out.old →
             IsOpened (devices D.Disk G.Signer V.Verifier verifier.now) R.Draws (drawn_by P.Draws peers.old) start self.old.group →
-            IsRunTo (devices D.Disk G.Signer V.Verifier verifier.now) R.Draws Whole start
+            IsRunTo (devices D.Disk G.Signer V.Verifier verifier.now) R.Draws workers Whole start
             (S.shows script.old) (S.shows script.new) (at self.new (K.shows out.new) (drawn_by P.Draws peers.new))) }
         ensures count { self.new.count ≤ most_lines }
         ensures stops { IfErr result (λ stop. (start : Start D G) → start.was ≡ K.shows out.old →
             IsOpened (devices D.Disk G.Signer V.Verifier verifier.now) R.Draws (drawn_by P.Draws peers.old) start self.old.group →
-            IsRunUntil (devices D.Disk G.Signer V.Verifier verifier.now) R.Draws stop start
+            IsRunUntil (devices D.Disk G.Signer V.Verifier verifier.now) R.Draws workers stop start
             (S.shows script.old) (S.shows script.new) (at self.new (K.shows out.new) (drawn_by P.Draws peers.new))) }
         ensures blocks { (k : ℕ) → P.block_at peers.new k ≡ P.block_at peers.old k }
     {
-        report_last(alloc, &self.group, out)?;
+        report_last(alloc, self.group.get(), out)?;
         let mut buffer = vec![in alloc; 0; PIECE].map_err(NoMemory::from)?;
-        self.take_script(alloc, script, &mut buffer, verifier, peers, out)?;
-        self.finish(alloc, verifier, peers, out)
-    }
-
-    /// The group.
-    pub(crate) fn into_group(self) -> GroupRun<D, G, R>
-        ensures { result ≡ self.group }
-    {
-        let ScriptRun {
-            group,
-            line: _,
-            count: _,
-        } = self;
-        group
+        self.take_script(
+            rt,
+            alloc,
+            script,
+            &mut buffer,
+            workers,
+            verifier,
+            peers,
+            out,
+            gate,
+        )?;
+        self.finish(rt, alloc, workers, verifier, peers, out, gate)
     }
 }

@@ -9,6 +9,9 @@ use std::alloc::AllocError;
 use std::env;
 use std::io::ErrorKind;
 use std::process::ExitCode;
+use std::sync::Wait;
+use std::thread::Threads;
+use work_shares::OpenGate;
 
 /// The file that has the journal.
 const JOURNAL: &str = "group.journal";
@@ -19,27 +22,32 @@ const SERVER_STREAM: u8 = 0;
 const MEMBER_STREAM: u8 = 1;
 
 fn main(rt: HostRuntime) -> ExitCode {
-    match run(&rt) {
+    match run(&rt, &rt) {
         Ok(status) => ExitCode::from(status),
         Err(AllocError) => ExitCode::from(Ending::Memory.status()),
     }
 }
 
 /// Runs the console; its status.
-fn run(rt: &HostRuntime) -> Result<u8, AllocError> {
+fn run<T: Threads + Wait + Sync>(rt: &HostRuntime, threads: &T) -> Result<u8, AllocError> {
     let words = arguments(rt)?;
-    let status = run_words(rt, &words);
+    let status = run_words(rt, threads, &words);
     drop(words);
     status
 }
 
-fn run_words(rt: &HostRuntime, words: &Vec<String>) -> Result<u8, AllocError> {
+fn run_words<T: Threads + Wait + Sync>(
+    rt: &HostRuntime,
+    threads: &T,
+    words: &Vec<String>,
+) -> Result<u8, AllocError> {
     let disk = FileDisk::new(rt.alloc(), rt, JOURNAL).map_err(|_| AllocError)?;
     let draws = ChaChaDraws::new(seed_of(words), SERVER_STREAM);
     let mut peers = ChaChaDraws::new(seed_of(words), MEMBER_STREAM);
     let mut script = StdSource::new(rt.stdin());
     let mut out = StdSink::new(rt.stdout());
     let finished = console(
+        threads,
         rt.alloc(),
         words,
         &mut script,
@@ -49,6 +57,7 @@ fn run_words(rt: &HostRuntime, words: &Vec<String>) -> Result<u8, AllocError> {
         &TestVerifier::new(),
         draws,
         &mut peers,
+        &OpenGate,
     );
     let status = finished.ending.status();
     drop(finished);

@@ -32,7 +32,7 @@ use Rattle.register_workers.specs.declared.lines.BlockAsk.TheVariants.{Again, Jo
 use Rattle.server_steps.specs.Hosts.{Host}
 use Rattle.server_steps.specs.Reflects.{IsServerOf}
 use Rattle.server_steps.specs.Serves.{GoesOn}
-use Rattle.group_run.specs.Blocks.{Adds, Introduces, Joins, Marks, Point, Prepares, PreparesAll, PullsIf, SendsAgain, StopsInLines, StopsInOne, at_present}
+use Rattle.group_run.specs.Blocks.{Adds, Introduces, Joins, Marks, Point, Prepares, PreparesAll, PullsIf, SendsAgain, StopsInLines, StopsInNext, StopsInOne, StopsIntroducing, at_present}
 use Rattle.group_run.specs.Moves.{Acts, Moves}
 use Rattle.group_run.specs.Pulls.{Introduces as MovesIntroduces}
 use Rattle.group_run.specs.Places.{IsAt, IsServedAt, Reaches, ReachesServed, keys_of}
@@ -300,18 +300,44 @@ module _ {D G R : Type 0} (d : DiskGhosts D) (g : SignerGhosts G) (draws : DrawG
 
 -- ---- memory ran out
 
-module _ {D G R : Type 0} (d : DiskGhosts D) (g : SignerGhosts G) (draws : DrawGhosts R) (by : Keying G) {old new : View D G R} where
-  pub served_same : new ≡ old → ReachesServed d draws (StopsInOne d g by) old new
-  served_same same point at = (point, inl refl, subst (λ held. IsServedAt d draws held point) (sym same) at.served)
+module _ {D G : Type 0} (d : DiskGhosts D) (g : SignerGhosts G) (by : Keying G) {old new : Point D} where
+  -- nothing was done for a line
+  stops_still : (ask : BlockAsk) → new ≡ old → StopsInOne d g by ask old new
+  stops_still (Join m) same = inl same
+  stops_still ask same = same
 
-  pub served_introduced : (m : Name) (out : Bool) → Reaches d draws (Introduces d g by out m) old new → ReachesServed d draws (StopsInOne d g by) old new
-  served_introduced m out reaches point at = let made = reaches point at in (made.0, inr (out, m, made.1), made.2.served)
+  pub stops_next : (asks : List BlockAsk) → new ≡ old → StopsInNext d g by asks old new
+  stops_next [] same = same
+  stops_next (ask ∷ asks) same = stops_still ask same
+
+module _ {D G R : Type 0} (d : DiskGhosts D) (g : SignerGhosts G) (draws : DrawGhosts R) (by : Keying G) {old new : View D G R} where
+  still_at : new ≡ old → (point : Point D) → IsAt d draws old point → IsServedAt d draws new point
+  still_at same point at = subst (λ held. IsServedAt d draws held point) (sym same) at.served
+
+  -- before the introduction of a member
+  pub served_before : (m : Name) → new ≡ old → ReachesServed d draws (StopsIntroducing d g by m) old new
+  served_before m same point at = (point, inl refl, still_at same point at)
+
+  -- in it, or after it
+  pub served_introduced : (m : Name) (out : Bool) → Reaches d draws (Introduces d g by out m) old new → ReachesServed d draws (StopsIntroducing d g by m) old new
+  served_introduced m out reaches point at = let made = reaches point at in (made.0, inr (out, made.1), made.2.served)
+
+  -- for a line, of which nothing was done
+  pub served_same : (ask : BlockAsk) → new ≡ old → ReachesServed d draws (StopsInOne d g by ask) old new
+  served_same ask same point at = (point, stops_still d g by ask refl, still_at same point at)
+
+  -- for a join, whose member was not introduced before
+  pub served_join : (m : Name) → was_introduced old.members.all m ≡ false → ReachesServed d draws (StopsIntroducing d g by m) old new
+      → ReachesServed d draws (StopsInOne d g by (Join m)) old new
+  served_join m was stops point at =
+      let made = stops point at in
+      (made.0, inr (ap (λ (members : Members). was_introduced members.all m) at.present ∙ was, made.1), made.2)
 
 -- after an introduction
 pub served_after : {D G R : Type 0} (d : DiskGhosts D) (g : SignerGhosts G) (draws : DrawGhosts R) (by : Keying G) (m : Name) {old mid new : View D G R}
-    → Reaches d draws (Introduces d g by false m) old mid → new ≡ mid → ReachesServed d draws (StopsInOne d g by) old new
+    → Reaches d draws (Introduces d g by false m) old mid → new ≡ mid → ReachesServed d draws (StopsIntroducing d g by m) old new
 served_after d g draws by m {old} {mid} reaches same =
-    subst (λ new. ReachesServed d draws (StopsInOne d g by) old new) (sym same) (served_introduced d g draws by m false reaches)
+    subst (λ new. ReachesServed d draws (StopsIntroducing d g by m) old new) (sym same) (served_introduced d g draws by m false reaches)
 
 -- ---- a line
 
@@ -422,7 +448,15 @@ module _ {D G R P : Type 0} (d : DiskGhosts D) (g : SignerGhosts G) (draws : Dra
   pub stops_at_once : (asks : List BlockAsk) → ReachesServed d draws (StopsInLines d g (keys_of draws old (peers.block_at first) group) asks) old old
   stops_at_once asks point at = (
     point,
-    record { front = []; later = asks; are = refl; handed = []; ready = point; prepares = (refl, refl); last = inl refl },
+    record {
+      front = [];
+      later = asks;
+      are = refl;
+      handed = [];
+      ready = point;
+      prepares = (refl, refl);
+      last = stops_next d g (keys_of draws old (peers.block_at first) group) asks refl;
+    },
     at.served,
   )
 
@@ -456,21 +490,21 @@ module _ {D G R P : Type 0} (d : DiskGhosts D) (g : SignerGhosts G) (draws : Dra
     }
 
     -- memory ran out for the next one
-    pub stops_later : (later : List BlockAsk) {all : List BlockAsk} {new : View D G R} → all ≡ asks ++ later
-        → ReachesServed d draws (StopsInOne d g (keys_of draws mid (peers.block_at middle) group)) mid new
+    pub stops_later : (ask : BlockAsk) (later : List BlockAsk) {all : List BlockAsk} {new : View D G R} → all ≡ asks ++ ask ∷ later
+        → ReachesServed d draws (StopsInOne d g (keys_of draws mid (peers.block_at middle) group) ask) mid new
         → ReachesServed d draws (StopsInLines d g (keys_of draws old (peers.block_at first) group) all) old new
-    stops_later later are stops point at =
+    stops_later ask later are stops point at =
         let so_far = was.reaches point at in
         let made = stops so_far.0 so_far.2 in (
           made.0,
           record {
             front = asks;
-            later = later;
+            later = ask ∷ later;
             are = are;
             handed = handed;
             ready = so_far.0;
             prepares = so_far.1;
-            last = subst (λ (by : Keying G). StopsInOne d g by so_far.0 made.0) same_keys made.1;
+            last = subst (λ (by : Keying G). StopsInOne d g by ask so_far.0 made.0) same_keys made.1;
           },
           made.2,
         )

@@ -179,7 +179,7 @@ pub stops_begun : {D G : Type 0} (d : DiskGhosts D) (g : SignerGhosts G) (by : K
 stops_begun d g by workers asks handed {ready = ready} begun is = record {
   begun = begun.begun;
   begins = begun.begins;
-  stops = record { front = asks; later = []; are = sym (append-nil asks); handed = handed; ready = ready; prepares = begun.prepares; last = inl is };
+  stops = record { front = asks; later = []; are = sym (append-nil asks); handed = handed; ready = ready; prepares = begun.prepares; last = is };
 }
 
 module _ {D G : Type 0} (d : DiskGhosts D) (g : SignerGhosts G) (by : Keying G) where

@@ -198,9 +198,19 @@ module _ {D G : Type 0} (d : DiskGhosts D) (g : SignerGhosts G) (by : Keying G) 
       (mid : Point D) × (is_handed : Bool) × (others : List BlockAsk) × Prepares ask old mid is_handed
       × (handed ≡ (if is_handed then ask ∷ others else others)) × PreparesAll asks others mid new
 
-  -- memory ran out for a line: before it gave anything, or with the introduction of a member
-  abbrev pub StopsInOne : Point D → Point D → Type 0
-  StopsInOne old new = (new ≡ old) ⊎ ((out : Bool) × (m : Name) × Introduces out m old new)
+  -- memory ran out before the introduction of a member, in it, or right after it
+  abbrev pub StopsIntroducing : Name → Point D → Point D → Type 0
+  StopsIntroducing m old new = (new ≡ old) ⊎ ((out : Bool) × Introduces out m old new)
+
+  -- Memory ran out for a line: who was not introduced before may be then, if the line is its join; else nothing was done.
+  abbrev pub StopsInOne : BlockAsk → Point D → Point D → Type 0
+  StopsInOne (Join m) old new = (new ≡ old) ⊎ ((was_introduced old.present.all m ≡ false) × StopsIntroducing m old new)
+  StopsInOne ask old new = new ≡ old
+
+  -- for the next of these lines, if there is one
+  abbrev pub StopsInNext : List BlockAsk → Point D → Point D → Type 0
+  StopsInNext [] old new = new ≡ old
+  StopsInNext (ask ∷ asks) old new = StopsInOne ask old new
 
   -- Memory ran out before the turns, after some of the lines.
   pub record StopsInLines (asks : List BlockAsk) (old new : Point D) : Type 0 where
@@ -210,7 +220,7 @@ module _ {D G : Type 0} (d : DiskGhosts D) (g : SignerGhosts G) (by : Keying G) 
     pub handed : List BlockAsk
     pub ready : Point D
     pub prepares : PreparesAll front handed old ready
-    pub last : StopsInOne ready new
+    pub last : StopsInNext later ready new
 
   -- ---- the turns
 

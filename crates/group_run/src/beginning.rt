@@ -3,7 +3,7 @@ ghost use Rattle.std.specs.Prelude.{◌≡◌, ◌≤◌, ◌+◌, ℕ, true, fa
 ghost use Rattle.group_model.specs.Answers.{ran_out};
 ghost use Rattle.group_model.specs.declared.entries.Entry.{Entry as OneEntry};
 ghost use Rattle.group_peers.specs.Peers.{was_introduced};
-ghost use Rattle.group_run.specs.Blocks.{Introduces, Marks, Prepares, PreparesAll, PullsIf, StopsInLines, StopsInOne};
+ghost use Rattle.group_run.specs.Blocks.{Introduces, Marks, Prepares, PreparesAll, PullsIf, StopsInLines, StopsInOne, StopsIntroducing};
 ghost use Rattle.group_run.specs.Places.{Reaches, ReachesServed, keys_of};
 ghost use Rattle.group_run.specs.Private.Places.{HasSent, KeepsSent, is_mark};
 ghost use Rattle.group_run.specs.Stays.{MailStays};
@@ -87,7 +87,7 @@ impl<D: Disk, G: Signer, R: Draws> GroupRun<D, G, R> {
         ensures rules { OnOk result (self.new.server.rules ≡ self.old.server.rules) }
         ensures mail { OnOk result (self.new.members.mail ≡ self.old.members.mail) }
         ensures err { OnErr result (ReachesServed D.Disk R.Draws
-            (StopsInOne D.Disk G.Signer (keys_of R.Draws self.old (P.block_at draws.old) group.now)) self.old self.new) }
+            (StopsInOne D.Disk G.Signer (keys_of R.Draws self.old (P.block_at draws.old) group.now) ask.now) self.old self.new) }
     {
         match ask {
             BlockAsk::Join { member } => self.begin_join(alloc, draws, group, member),
@@ -116,7 +116,7 @@ impl<D: Disk, G: Signer, R: Draws> GroupRun<D, G, R> {
         ensures rules { OnOk result (self.new.server.rules ≡ self.old.server.rules) }
         ensures mail { OnOk result (self.new.members.mail ≡ self.old.members.mail) }
         ensures err { OnErr result (ReachesServed D.Disk R.Draws
-            (StopsInOne D.Disk G.Signer (keys_of R.Draws self.old (P.block_at draws.old) group.now)) self.old self.new) }
+            (StopsInOne D.Disk G.Signer (keys_of R.Draws self.old (P.block_at draws.old) group.now) (asked.Join member.now)) self.old self.new) }
     {
         if self.was_introduced(member) {
             return self.begin_pull(alloc, draws, group, member);
@@ -141,7 +141,7 @@ impl<D: Disk, G: Signer, R: Draws> GroupRun<D, G, R> {
         ensures rules { OnOk result (self.new.server.rules ≡ self.old.server.rules) }
         ensures mail { OnOk result (self.new.members.mail ≡ self.old.members.mail) }
         ensures err { OnErr result ((group : Name) → ReachesServed D.Disk R.Draws
-            (StopsInOne D.Disk G.Signer (keys_of R.Draws self.old (P.block_at draws.old) group)) self.old self.new) }
+            (StopsIntroducing D.Disk G.Signer (keys_of R.Draws self.old (P.block_at draws.old) group) member.now) self.old self.new) }
     {
         let _ = &self.server;
         self.introduce(draws, member)?;

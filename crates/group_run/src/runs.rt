@@ -53,6 +53,13 @@ impl<D: Disk, G: Signer, R: Draws> GroupRun<D, G, R> {
         self.entries.items().last()
     }
 
+    /// The history.
+    pub fn history(&self) -> &[Entry]
+        ensures { result.now ≡ self.now.entries }
+    {
+        self.entries.items()
+    }
+
     /// Whether the server has to be opened again.
     pub fn needs_reopen(&self) -> bool
         ensures { result ≡ self.now.server.core.needs_reopen }

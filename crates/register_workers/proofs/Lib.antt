@@ -5,8 +5,8 @@ mod FewLemmas
 mod GiveLemmas
 mod LineLemmas
 mod LookLemmas
-mod OwnLemmas
-mod PassingLemmas
+pub mod OwnLemmas
+pub mod PassingLemmas
 mod RunLemmas
 mod SeatLemmas
 mod SeatingLemmas

@@ -5,6 +5,7 @@ use Rattle.group_terms.specs.Faults.{Rose}
 use Rattle.gd_edges.specs.Shown.{Shown}
 use Rattle.group_model.specs.declared.entries.Entry.{Entry}
 use Rattle.script_text.specs.Report.{entries_text, entry_text, end_text}
+use Rattle.script_text.specs.Summary.{summary_text}
 use Rattle.run_report.specs.declared.endings.Ending.{Ending}
 use Rattle.run_report.specs.declared.endings.Ending.TheVariants.{Whole, NoGroup, BadLine, Source, Sink, Memory, NotOpened}
 
@@ -68,3 +69,9 @@ pub record ReportBreaksOff (ending : Ending) (was now : Shown) (entries : List E
 -- The last line of the ending that was due was put. Or it broke off: then the run ended as `Sink` or `Memory`, whatever ending was due.
 abbrev pub LastLineEnds : Ending → Ending → Shown → Shown → Type 0
 LastLineEnds due ending was now = ((due ≡ ending) × Puts was now (last_line ending)) ⊎ BreaksOff ending was now (last_line due)
+
+-- The summary of a soak was put, and then the last line of the ending that was due; or the summary broke off.
+abbrev pub SummaryEnds : ℕ → List Entry → Ending → Ending → Shown → Shown → Type 0
+SummaryEnds number entries due ending was now =
+    ((middle : Shown) × Puts was middle (summary_text number entries) × LastLineEnds due ending middle now)
+    ⊎ BreaksOff ending was now (summary_text number entries)

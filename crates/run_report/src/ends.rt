@@ -2,14 +2,14 @@
 ghost use Rattle.std.specs.Prelude.{◌≡◌, []};
 ghost use Rattle.run_report.specs.declared.endings.Ending.TheVariants.{NoGroup};
 ghost use Rattle.run_report.specs.Ends.{RefusalEnds, ScriptEnds, UnopenedEnds, due_after};
-ghost use Rattle.run_report.specs.Reports.{LastLineEnds};
+ghost use Rattle.run_report.specs.Reports.{LastLineEnds, SummaryEnds};
 
 use crate::endings::Ending;
 use crate::report_sink::{put_lines, report};
 use crate::stops::Stop;
 use gd_edges::{Failed, Sink};
 use group_model::{Entry, List, NoMemory};
-use script_text::end_line;
+use script_text::{end_line, soak_summary};
 use std::alloc::Global;
 
 /// What is left of a run: how it ended, the history of its group, and the disk.
@@ -110,6 +110,51 @@ pub fn end_without_group<D, K: Sink>(alloc: Global, disk: D, out: &mut K) -> Fin
         ending,
         history: List::new(alloc),
         disk,
+    }
+}
+
+/// Ends the soak of a number, whose script was run without a report: puts the summary of its history, and the last line of the ending that was due.
+pub fn end_soak<D, K: Sink>(
+    alloc: Global,
+    number: u64,
+    run: Finished<D>,
+    out: &mut K,
+) -> Finished<D>
+    ensures history { result.history ≡ run.history }
+    ensures disk { result.disk ≡ run.disk }
+    ensures ends { SummaryEnds number run.history run.ending result.ending (K.shows out.old) (K.shows out.new) }
+{
+    let Finished {
+        ending: due,
+        history,
+        disk,
+    } = run;
+    let ending = put_summary(alloc, number, history.as_slice(), due, out);
+    Finished {
+        ending,
+        history,
+        disk,
+    }
+}
+
+/// Puts the summary of a soak, and the last line that is due; how the run ended then.
+fn put_summary<K: Sink>(
+    alloc: Global,
+    number: u64,
+    history: &[Entry],
+    due: Ending,
+    out: &mut K,
+) -> Ending
+    ensures { SummaryEnds number history.now due result (K.shows out.old) (K.shows out.new) }
+{
+    let mut text = List::new(alloc);
+    match soak_summary(alloc, number, history, &mut text) {
+        Ok(()) => {}
+        Err(NoMemory) => return Ending::Memory,
+    }
+    match put_lines(text.as_slice(), out) {
+        Ok(()) => put_last_line(alloc, due, out),
+        Err(Failed) => Ending::Sink,
     }
 }
 

@@ -4,7 +4,7 @@ use Rattle.std.specs.Prelude.{nat_le, ◌&&◌, codes}
 use Rattle.std.specs.List.{flat_map, join_with_byte}
 use Rattle.std.specs.Option.{option_map, option_and_then}
 use Rattle.std.proofs.lemmas.Bool.{cases_Bool, and_from, and_right, le-leb, leb-true, false_from_ne_true}
-use Rattle.std.proofs.lemmas.List.{append_assoc}
+use Rattle.std.proofs.lemmas.List.{append-nil, append_assoc}
 use Rattle.std.proofs.lemmas.Option.{none-some, same_Some}
 use Rattle.group_terms.specs.Names.{Name, name_of}
 use Rattle.script_text.specs.Lines.{names_of, members_of}
@@ -14,6 +14,11 @@ use Rattle.script_text.specs.Report.{line_with}
 pub joined : (first last : List ℕ) (names : List (List ℕ)) → join_with_byte 32 (first ∷ (names ++ last ∷ [])) ≡ first ++ (flat_map (λ name. 32 ∷ name) names ++ 32 ∷ last)
 joined first last [] = refl
 joined first last (name ∷ names) = ap (λ rest. first ++ 32 ∷ rest) (joined name last names ∙ sym (append_assoc name (flat_map (λ name. 32 ∷ name) names) (32 ∷ last)))
+
+-- a first word, and others after it
+pub joined_after : (first : List ℕ) (words : List (List ℕ)) → join_with_byte 32 (first ∷ words) ≡ first ++ flat_map (λ word. 32 ∷ word) words
+joined_after first [] = sym (append-nil first)
+joined_after first (word ∷ words) = ap (λ rest. first ++ 32 ∷ rest) (joined_after word words)
 
 -- names that were read have a first one and others
 read_both : (first : Option Name) (others : Option (List Name)) (names : List Name) → option_and_then (λ name. option_map (λ rest. name ∷ rest) others) first ≡ Some names → (name : Name) × (rest : List Name) × (first ≡ Some name) × (others ≡ Some rest) × (name ∷ rest ≡ names)

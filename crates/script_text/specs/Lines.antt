@@ -8,7 +8,7 @@ use Rattle.group_terms.specs.Patterns.{pattern_of}
 use Rattle.script_text.specs.Words.{words_of, only_word}
 use Rattle.script_text.specs.Numbers.{decimal_in}
 use Rattle.script_text.specs.declared.lines.Line.{Line}
-use Rattle.script_text.specs.declared.lines.Line.TheVariants.{Nothing, Allow, Deny, Join, Again, Lose, Leave, Batch, Deliver, DeliverAll, Key, Derive, Halt, Reopen, Show}
+use Rattle.script_text.specs.declared.lines.Line.TheVariants.{Nothing, Allow, Deny, Join, Again, Lose, Leave, Batch, Deliver, DeliverAll, Key, Derive, Halt, Reopen, Show, Now, Together, End}
 
 -- a command of one word
 abbrev pub lone_command : List ℕ → Option Line
@@ -18,7 +18,10 @@ lone_command command =
     else (if bytes_eq command (codes "halt") then Some Halt
     else (if bytes_eq command (codes "reopen") then Some Reopen
     else (if bytes_eq command (codes "show") then Some Show
-    else None))))
+    else (if bytes_eq command (codes "now") then Some Now
+    else (if bytes_eq command (codes "together") then Some Together
+    else (if bytes_eq command (codes "end") then Some End
+    else None)))))))
 
 -- a command and its one argument
 abbrev pub command_with : List ℕ → List ℕ → Option Line

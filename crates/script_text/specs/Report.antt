@@ -251,7 +251,7 @@ abbrev pub together_text : ℕ → Answer → List ℕ
 together_text lines Done = line_with (codes "together" ∷ decimal lines ∷ [])
 together_text lines answer = []
 
--- all of them were run
+-- its turns are over
 abbrev pub together2_text : Answer → List ℕ
 together2_text Done = line_with (codes "together" ∷ codes "done" ∷ [])
 together2_text answer = []

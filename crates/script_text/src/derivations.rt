@@ -37,7 +37,7 @@ fn append_derived(yes: bool, out: &mut Octets) -> Result<(), NoMemory>
 }
 
 /// Puts names at the end of a text, each after a space.
-fn append_names(names: &[MemberName], out: &mut Octets) -> Result<(), NoMemory>
+pub fn append_names(names: &[MemberName], out: &mut Octets) -> Result<(), NoMemory>
     ensures { OnOk result (out.new ≡ out.old ++ flat_map (λ name. 32 ∷ name) names.now) }
 {
     for name in names {

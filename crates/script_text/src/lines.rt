@@ -45,13 +45,19 @@ pub enum Line {
     Reopen,
     /// Who has which leaf.
     Show,
+    /// The last epoch and sequence number that were published, without a turn.
+    Now,
+    /// A block begins, whose lines workers run side by side.
+    Together,
+    /// The block ends.
+    End,
 }
 
 /// What a line says, without its end of line; `None` where it is none of the grammar.
 ///
 /// Spaces alone part words, so that a tab or a carriage return is an octet of one. A line is `allow PATTERN`, `deny PATTERN`, `join NAME`, `again NAME`,
-/// `lose NAME`, `leave NAME`, `batch`, `deliver NAME NUMBER`, `deliver-all`, `key NAME`, `derive NUMBER NAME..` with 1 to 8 names, `halt`, `reopen` or
-/// `show`; or it has no word, or one that begins with `#` first, and says nothing.
+/// `lose NAME`, `leave NAME`, `batch`, `deliver NAME NUMBER`, `deliver-all`, `key NAME`, `derive NUMBER NAME..` with 1 to 8 names, `halt`, `reopen`,
+/// `show`, `now`, `together` or `end`; or it has no word, or one that begins with `#` first, and says nothing.
 #[tactic(auto, unfolding(crate::specs::Lines::line_of))]
 pub fn read_line(text: &[u8]) -> Option<Line>
     ensures { result ≡ line_of text.now }
@@ -93,6 +99,12 @@ fn read_lone_command(command: &[u8]) -> Option<Line>
         Some(Line::Reopen)
     } else if command == b"show".as_slice() {
         Some(Line::Show)
+    } else if command == b"now".as_slice() {
+        Some(Line::Now)
+    } else if command == b"together".as_slice() {
+        Some(Line::Together)
+    } else if command == b"end".as_slice() {
+        Some(Line::End)
     } else {
         None
     }

@@ -4,7 +4,7 @@ use Rattle.std.specs.Prelude.{codes, replicate}
 use Rattle.command_words.specs.Commands.{command_of}
 use Rattle.command_words.specs.declared.commands.Command.{Command}
 use Rattle.command_words.specs.declared.commands.Opening.{Opening}
-use Rattle.command_words.specs.declared.commands.Opening.TheVariants.{New, Open}
+use Rattle.command_words.specs.declared.commands.Opening.TheVariants.{New, Open, Soak}
 use Rattle.script_text.specs.Lines.{line_of}
 use Rattle.script_text.specs.Numbers.{decimal_in}
 use Rattle.script_text.specs.Words.{words_of}
@@ -34,7 +34,11 @@ words_ask_for_a_group : map says (
     codes "--limit 1 --new=3 --seed 7" ∷
     codes "--new 2 --workers 3" ∷
     codes "--workers=1 --open" ∷
-    codes "--seed 5 --workers 16 --limit=9 --open" ∷ [])
+    codes "--seed 5 --workers 16 --limit=9 --open" ∷
+    codes "--soak 7" ∷
+    codes "--soak=7 --workers 8" ∷
+    codes "--soak=18446744073709551615" ∷
+    codes "--limit 4 --seed 9 --soak 0" ∷ [])
     ≡
     asks (New 2) 4294967295 0 1 ∷
     asks (New 2) 4294967295 0 1 ∷
@@ -47,7 +51,11 @@ words_ask_for_a_group : map says (
     asks (New 3) 1 7 1 ∷
     asks (New 2) 4294967295 0 3 ∷
     asks Open 4294967295 0 1 ∷
-    asks Open 9 5 16 ∷ []
+    asks Open 9 5 16 ∷
+    asks (Soak 7) 4294967295 0 1 ∷
+    asks (Soak 7) 4294967295 0 8 ∷
+    asks (Soak 18446744073709551615) 4294967295 0 1 ∷
+    asks (Soak 0) 4 9 1 ∷ []
 unfolding command_of words_of
 words_ask_for_a_group = refl
 
@@ -75,12 +83,14 @@ other_words_ask_for_none : map says (
     codes "--open --workers 0" ∷
     codes "--open --workers 17" ∷
     codes "--open --workers=2 --workers 2" ∷
-    codes "--soak 7" ∷
-    codes "--soak=7 --workers 8" ∷
+    codes "--soak" ∷
+    codes "--soak 18446744073709551616" ∷
+    codes "--soak 7 --soak=7" ∷
+    codes "--soak 7 --open" ∷
     codes "--new 2 --soak 7" ∷
     codes "--open --help" ∷
     codes "--version" ∷ [])
-    ≡ replicate 28 None
+    ≡ replicate 30 None
 unfolding command_of words_of
 other_words_ask_for_none = refl
 

@@ -5,7 +5,7 @@ use Rattle.group_model.specs.declared.entries.Entry.{Entry}
 use Rattle.group_run.specs.Reads.{ReadsMail}
 use Rattle.group_steps.specs.Devices.{Devices, Keying}
 use Rattle.group_steps.specs.Runs.{Run}
-use Rattle.group_steps.specs.Steps.{IsAnsweredAfter}
+use Rattle.console_run.specs.Lines.{IsGivenAfter}
 use Rattle.member_steps.specs.Members.{Members}
 use Rattle.console_run.specs.Private.Runs.{Giving}
 
@@ -15,7 +15,7 @@ module _ {D G V : Type 0} (on : Devices D G V) where
   begun_by_mail by before run [] after = after ≡ run
   begun_by_mail by before run (entry ∷ more) after =
       (acted : Members) × ReadsMail run.members (Some (entry.asked, acted)) × ((more ≡ []) ⊎ (ran_out entry.answer ≡ false))
-      × (next : Run D) × IsAnsweredAfter on by acted before run entry next × begun_by_mail by (before ++ entry ∷ []) next more after
+      × (next : Run D) × IsGivenAfter on by acted before run entry next × begun_by_mail by (before ++ entry ∷ []) next more after
 
   -- and at last nothing is left but what they ignore
   pub record ReadsAll (by : Keying G) (before : List Entry) (run : Run D) (more : List Entry) (after : Run D) : Type 0 where

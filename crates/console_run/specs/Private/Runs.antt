@@ -1,6 +1,7 @@
 -- How far a run of a script has come.
-use Rattle.std.specs.Prelude.{◌≡◌, ℕ, ◌+◌, ◌-◌, ◌*◌, ◌<◌, ◌≤◌, Bool, true, false, List, [], ◌∷◌, ◌++◌, length}
+use Rattle.std.specs.Prelude.{◌≡◌, ◌⊎◌, ℕ, ◌+◌, ◌-◌, ◌*◌, ◌<◌, ◌≤◌, Bool, true, false, List, [], ◌∷◌, ◌++◌, length, Option, None, Some}
 use Rattle.std.specs.List.{list_any}
+use Rattle.std.specs.Option.{option_map}
 use Rattle.group_terms.specs.Faults.{Rose}
 use Rattle.gd_disk.specs.declared.disks.Disk.{Ghosts as DiskGhosts}
 use Rattle.gd_edges.specs.Shown.{Shown}
@@ -20,7 +21,14 @@ use Rattle.run_report.specs.declared.endings.Ending.TheVariants.{Whole, BadLine,
 use Rattle.group_steps.specs.Devices.{Devices, Keying}
 use Rattle.console_run.specs.Names.{console_name}
 use Rattle.console_run.specs.Scripts.{EndsLine, are_octets, ends_line, longest_line, longest_piece, most_lines}
-use Rattle.console_run.specs.Lines.{BeginsToGive, Gives, IsRunOf, LineBegins, LineGives}
+use Rattle.script_text.specs.Lines.{line_of}
+use Rattle.script_text.specs.declared.lines.Line.TheVariants.{Together}
+use Rattle.group_run.specs.Places.{AreAsked}
+use Rattle.register_workers.specs.declared.lines.BlockAsk.{BlockAsk}
+use Rattle.console_run.specs.Blocks.{BlockSoFar, after_line, inside_block, most_asks}
+use Rattle.console_run.specs.Breaks.{LineBreaksOff}
+use Rattle.console_run.specs.Lines.{BeginsAt, BeginsToGive, BlockBegins, BlockGives, Gives, GivesAt, IsRunOf, TextBegins, TextGives}
+use Rattle.console_run.specs.declared.open_blocks.OpenBlock.{OpenBlock}
 use Rattle.console_run.specs.Causes.{CauseOf, Given, IsInParts}
 use Rattle.run_report.specs.Reports.{Puts, ReportBreaksOff}
 use Rattle.console_run.specs.Private.Cuts.{cut_of}
@@ -86,12 +94,81 @@ module _ {D G V : Type 0} (on : Devices D G V) where
   abbrev pub begun_by_line : ScriptLine → Giving D G
   begun_by_line line by before run more after = BeginsToGive on by line before run more after
 
-  -- the same of a text
-  abbrev pub by_text : List ℕ → Giving D G
-  by_text text by before run more after = LineGives on by text before run more after
+  -- what a line gives where it stands, and begins to give there
+  abbrev pub given_at : ℕ → BlockSoFar → ScriptLine → Giving D G
+  given_at workers block line by before run more after = GivesAt on by workers block line before run more after
 
-  abbrev pub begun_by_text : List ℕ → Giving D G
-  begun_by_text text by before run more after = LineBegins on by text before run more after
+  -- one that may not stand there gives nothing
+  abbrev pub begun_at : ℕ → BlockSoFar → ScriptLine → Giving D G
+  begun_at workers block line by before run more after =
+      ((more ≡ []) × (after ≡ run)) ⊎ ((next : BlockSoFar) × (after_line block line ≡ Some next) × BeginsAt on by workers block line before run more after)
+
+  -- the same of a text
+  abbrev pub by_text : ℕ → BlockSoFar → List ℕ → BlockSoFar → Giving D G
+  by_text workers block text next by before run more after = TextGives on by workers block text next before run more after
+
+  abbrev pub begun_by_text : ℕ → BlockSoFar → List ℕ → Giving D G
+  begun_by_text workers block text by before run more after = TextBegins on by workers block text before run more after
+
+  -- and of a block
+  abbrev pub by_block : ℕ → List BlockAsk → Giving D G
+  by_block workers asks by before run more after = BlockGives on by workers asks before run more after
+
+  abbrev pub begun_by_block : ℕ → List BlockAsk → Giving D G
+  begun_by_block workers asks by before run more after = BlockBegins on by workers asks before run more after
+
+-- ---- where a line stands
+
+-- the block that is open, by its lines
+abbrev pub open_of : Option OpenBlock → BlockSoFar
+open_of block = option_map (λ (block : OpenBlock). block.asks) block
+
+-- Entries were added as they are given, from whatever run it was before, to the one that it is then.
+pub record Leads {D G R : Type 0} (good : Run D → Type 0) (gives : Giving D G) (by : Keying G) (run : Run D) (more : List Entry) (old new : View D G R) : Type 0
+  where
+    pub after : Run D
+    pub grown : new.entries ≡ old.entries ++ more
+    pub given : gives by old.entries run more after
+    pub stands : good after
+
+-- and reported
+pub record RunsThere {D G R : Type 0} (d : DiskGhosts D) (draws : DrawGhosts R) (peers : Drawing) (gives : Giving D G) (old new : View D G R) (was now : Shown) :
+    Type 0 where
+  pub more : List Entry
+  pub each : (by : Keying G) (run : Run D) → Stands d draws peers by old run → Leads (Stands d draws peers by new) gives by run more old new
+  pub puts : Puts was now (entries_text more)
+
+-- how much was reported of the entries at which the run stopped, where they may be a block's
+abbrev pub ReportsThere : Stop → Shown → Shown → List Entry → Type 0
+ReportsThere Line was now more = (more ≡ []) × Puts was now []
+ReportsThere SourceStop was now more = ⊥
+ReportsThere SinkStop was now more = LineBreaksOff Sink was now more
+ReportsThere MemoryStop was now more = Puts was now (entries_text more)
+ReportsThere Unreported was now more = LineBreaksOff Memory was now more
+
+-- or there the run stopped
+pub record StopsThere {D G R : Type 0} (d : DiskGhosts D) (draws : DrawGhosts R) (peers : Drawing) (begins : Giving D G) (stop : Stop) (old new : View D G R)
+    (was now : Shown) : Type 0 where
+  pub more : List Entry
+  pub each : (by : Keying G) (run : Run D) → Stands d draws peers by old run
+      → Leads (λ (after : Run D). IsServerOf d draws new.server after.host) begins by run more old new × ReportsThere stop was now more
+
+-- A block that was begun is the one that was, or one that this line began, before which so many came.
+abbrev pub IsPlaced : ℕ → Option OpenBlock → Option OpenBlock → Type 0
+IsPlaced count old None = Unit {0}
+IsPlaced count None (Some new) = new.before ≡ count
+IsPlaced count (Some old) (Some new) = new.before ≡ old.before
+
+-- its lines can be run, and it began before so many lines were over
+pub record IsFine (count : ℕ) (block : OpenBlock) : Type 0 where
+  pub few : length block.asks ≤ most_asks
+  pub apart : AreAsked block.asks
+  pub before : block.before < count
+
+-- where one is open
+abbrev pub AreFine : ℕ → Option OpenBlock → Type 0
+AreFine count None = Unit {0}
+AreFine count (Some block) = IsFine count block
 
 -- what a run began with: the opening that was asked for, the run before that, its server, and the sink before it
 pub record Start (D G : Type 0) : Type 0 where
@@ -100,17 +177,20 @@ pub record Start (D G : Type 0) : Type 0 where
   pub by : Keying G
   pub was : Shown
 
--- a run at some moment: its group, the draws of its members, what has come of the present line, how many lines were run before it, and the sink
+-- a run at some moment: its group, the draws of its members, the block that is open, what has come of the present line, how many lines came before it, and the
+-- sink
 pub record Moment (D G R : Type 0) : Type 0 where
   pub held : View D G R
   pub peers : Drawing
+  pub block : Option OpenBlock
   pub line : List ℕ
   pub count : ℕ
   pub out : Shown
 
--- nothing is on its way, the members' draws are where the members say, there are no more rules than lines, and the run is within its limits
+-- nothing is on its way, a block that is open can be run, the members' draws are where the members say, there are no more rules than lines, and the run is within its limits
 pub record IsReady {D G R : Type 0} (at : Moment D G R) : Type 0 where
   pub rest : at.held.members.mail ≡ []
+  pub block : AreFine at.count at.block
   pub place : at.peers.place ≡ at.held.members.place
   pub rules : length at.held.server.rules ≤ at.count
   pub lines : at.count ≤ most_lines
@@ -133,14 +213,31 @@ SourceFails SinkStop old new = new ≡ old
 SourceFails MemoryStop old new = new ≡ old
 SourceFails Unreported old new = new ≡ old
 
-module _ {D G V R : Type 0} (on : Devices D G V) (draws : DrawGhosts R) where
-  -- The octets so far: their lines were run and reported, and what has come of the next is kept.
+module _ {D G V R : Type 0} (on : Devices D G V) (draws : DrawGhosts R) (workers : ℕ) where
+  -- A block is open that one of these lines began: those before it were run, and those after it are the block's.
+  pub record HasBegun (start : Start D G) (lines : List (List ℕ)) (entries : List Entry) (now : Run D) (block : OpenBlock) : Type 0 where
+    pub front : List (List ℕ)
+    pub first : List ℕ
+    pub inner : List (List ℕ)
+    pub parts : lines ≡ front ++ first ∷ inner
+    pub run : IsRunOf on start.by workers start.request start.run front None entries now
+    pub begins : line_of first ≡ Some Together
+    pub inside : inside_block [] inner ≡ Some block.asks
+    pub counted : length front ≡ block.before
+
+  -- if one is open
+  abbrev pub HasBegunIf : Start D G → List (List ℕ) → List Entry → Run D → Option OpenBlock → Type 0
+  HasBegunIf start lines entries now None = Unit {0}
+  HasBegunIf start lines entries now (Some block) = HasBegun start lines entries now block
+
+  -- The octets so far: their lines were run and reported, but for those of an open block, and what has come of the next is kept.
   pub record IsSoFar (start : Start D G) (octets : List ℕ) (at : Moment D G R) : Type 0 where
     pub small : are_octets octets ≡ true
     pub rest : (cut_of octets).rest ≡ at.line
     pub counted : length (cut_of octets).lines ≡ at.count
     pub now : Run D
-    pub run : IsRunOf on start.by start.request start.run (cut_of octets).lines at.held.entries now
+    pub run : IsRunOf on start.by workers start.request start.run (cut_of octets).lines (open_of at.block) at.held.entries now
+    pub begun : HasBegunIf start (cut_of octets).lines at.held.entries now at.block
     pub stands : Stands on.disks draws at.peers start.by at.held now
     pub puts : Puts start.was at.out (entries_text at.held.entries)
     pub front : List ℕ
@@ -157,16 +254,16 @@ module _ {D G V R : Type 0} (on : Devices D G V) (draws : DrawGhosts R) where
   pub record IsBrokenOff (ending : Ending) (given : Given) (start : Start D G) (at : Moment D G R) : Type 0 where
     pub after : Run D
     pub server : IsServerOf on.disks draws at.held.server after.host
-    pub history : IsInParts on start.by given start.request start.run at.held.entries after
+    pub history : IsInParts on start.by workers given start.request start.run at.held.entries after
     pub middle : Shown
     pub report : Puts start.was middle (entries_text history.done)
-    pub breaks : ReportBreaksOff ending middle at.out history.more
+    pub breaks : LineBreaksOff ending middle at.out history.more
 
   -- the ending that is due, with its cause, where the whole history was reported
   pub record IsReported (due : Ending) (given : Given) (start : Start D G) (at : Moment D G R) : Type 0 where
     pub after : Run D
     pub server : IsServerOf on.disks draws at.held.server after.host
-    pub cause : CauseOf on start.by given start.request start.run due at.held.entries after
+    pub cause : CauseOf on start.by workers given start.request start.run due at.held.entries after
     pub report : Puts start.was at.out (entries_text at.held.entries)
 
   -- the run stopped, with what the source gave

@@ -16,5 +16,6 @@ returns c =
     c.in_ok-second.ensures.shape c.number.ensures.local ∙ ap₂ with_rule first_is c.number.ensures.rule in
     let third_is = c.in_ok-third.ensures.shape c.number-2.ensures.local ∙ ap₂ with_rule second_is c.number-2.ensures.rule in
     let fourth_is = c.in_ok-fourth.ensures.shape c.number-3.ensures.local ∙ ap₂ with_rule third_is c.number-3.ensures.rule in
-    IfOk-weaker c.arg-5.result (AddsArg c.in_ok-fourth.fourth c.number-4.result) (λ command_line. app_of command_line ≡ program)
-    (λ command_line h. h.shape c.number-4.ensures.local ∙ ap₂ with_rule fourth_is c.number-4.ensures.rule) c.arg-5.ensures
+    let fifth_is = c.in_ok-fifth.ensures.shape c.number-4.ensures.local ∙ ap₂ with_rule fourth_is c.number-4.ensures.rule in
+    IfOk-weaker c.arg-6.result (AddsArg c.in_ok-fifth.fifth c.number-5.result) (λ command_line. app_of command_line ≡ program)
+    (λ command_line h. h.shape c.number-5.ensures.local ∙ ap₂ with_rule fifth_is c.number-5.ensures.rule) c.arg-6.ensures

@@ -12,11 +12,17 @@ use Rattle.console_run.proofs.consoles.open_group.Goals as goal
 
 pub returns-in-New-clause-err : goal.returns-in-New-clause-err
 returns-in-New-clause-err g c =
-    subst (λ (opening : Opening). IfErr c.create.result (λ unopened. FailsToOpen g.D.Disk
+    subst (λ (opening : Opening). IfErr c.make_group.result (λ unopened. FailsToOpen g.D.Disk
     (step_of g.D.Disk g.G.Signer c.args.parts.signer (g.R.Draws.block_at c.args.parts.draws) opening) (request_of opening)
     (start_of c.args.command c.args.parts.disk (g.R.Draws.place_of c.args.parts.draws) c.args.members_place) unopened.history unopened.parts.disk))
-    (sym c.in-New.is)
-    (rw (← c.console_name.ensures) c.create.ensures.err)
+    (sym c.in-New.is) c.make_group.ensures.err
+
+pub returns-in-Soak-clause-err : goal.returns-in-Soak-clause-err
+returns-in-Soak-clause-err g c =
+    subst (λ (opening : Opening). IfErr c.make_group-in-Soak.result (λ unopened. FailsToOpen g.D.Disk
+    (step_of g.D.Disk g.G.Signer c.args.parts.signer (g.R.Draws.block_at c.args.parts.draws) opening) (request_of opening)
+    (start_of c.args.command c.args.parts.disk (g.R.Draws.place_of c.args.parts.draws) c.args.members_place) unopened.history unopened.parts.disk))
+    (sym c.in-Soak.is) c.make_group-in-Soak.ensures.err
 
 pub returns-in-Open-clause-err : goal.returns-in-Open-clause-err
 returns-in-Open-clause-err g c =
@@ -32,10 +38,15 @@ returns-in-Open-clause-err g c =
 
 pub returns-in-New-clause-ok : goal.returns-in-New-clause-ok
 returns-in-New-clause-ok g c =
-    subst (λ (opening : Opening). IfOk c.create.result (Opens g.D.Disk g.R.Draws
+    subst (λ (opening : Opening). IfOk c.make_group.result (Opens g.D.Disk g.R.Draws
     (step_of g.D.Disk g.G.Signer c.args.parts.signer (g.R.Draws.block_at c.args.parts.draws) opening) (request_of opening)
-    (start_of c.args.command c.args.parts.disk (g.R.Draws.place_of c.args.parts.draws) c.args.members_place))) (sym c.in-New.is)
-    (rw (← c.console_name.ensures) c.create.ensures.ok)
+    (start_of c.args.command c.args.parts.disk (g.R.Draws.place_of c.args.parts.draws) c.args.members_place))) (sym c.in-New.is) c.make_group.ensures.ok
+
+pub returns-in-Soak-clause-ok : goal.returns-in-Soak-clause-ok
+returns-in-Soak-clause-ok g c =
+    subst (λ (opening : Opening). IfOk c.make_group-in-Soak.result (Opens g.D.Disk g.R.Draws
+    (step_of g.D.Disk g.G.Signer c.args.parts.signer (g.R.Draws.block_at c.args.parts.draws) opening) (request_of opening)
+    (start_of c.args.command c.args.parts.disk (g.R.Draws.place_of c.args.parts.draws) c.args.members_place))) (sym c.in-Soak.is) c.make_group-in-Soak.ensures.ok
 
 pub returns-in-Open-clause-ok : goal.returns-in-Open-clause-ok
 returns-in-Open-clause-ok g c =

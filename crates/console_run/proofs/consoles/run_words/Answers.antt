@@ -14,7 +14,7 @@ returns-in-Ok-clause-runs g c command asked =
     let on = devices g.D.Disk g.G.Signer g.V.Verifier c.args.verifier.now in
     let by = keying c.args.parts.signer (g.R.Draws.block_at c.args.parts.draws) (g.P.Draws.block_at c.args.peers.now) console_name in
     let same : c.in-Ok.command ≡ command = same_Some c.in-Ok.command command (sym c.in-Ok.ensures.command ∙ asked) in
-    subst (λ (command : Command). RunsScript on by (request_of command.opening)
+    subst (λ (command : Command). RunsScript on by command.workers (request_of command.opening)
     (start_of command c.args.parts.disk (g.R.Draws.place_of c.args.parts.draws) (g.P.Draws.place_of c.args.peers.now))
     (g.S.Source.shows c.args.script.now) (g.S.Source.shows c.run_command.new.script)
     (g.K.Sink.shows c.args.out.now) (g.K.Sink.shows c.run_command.new.out) c.run_command.result.ending
@@ -27,7 +27,7 @@ returns-in-Err-clause-runs g c command asked =
     let was = g.K.Sink.shows c.args.out.now in
     let now = g.K.Sink.shows c.end_unopened.new.out in
     let end = c.end_unopened in
-    unopened_runs on by command.opening
+    unopened_runs on by command.workers command.opening
     (start_of command c.args.parts.disk (g.R.Draws.place_of c.args.parts.draws) (g.P.Draws.place_of c.args.peers.now))
     (g.S.Source.shows c.args.script.now) was now end.result.ending [] end.result.history c.args.parts.disk end.result.disk
     (inr (record { nothing = refl; left = refl })) (end.ensures.history ∙ c.new.ensures) end.ensures.disk

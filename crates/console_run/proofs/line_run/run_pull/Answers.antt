@@ -3,7 +3,6 @@ use Rattle.group_run.specs.Pulls.{Pulls}
 use Rattle.script_text.specs.declared.lines.Line.TheVariants as lines
 use Rattle.run_report.specs.declared.stops.Stop.TheVariants.{Memory}
 use Rattle.group_steps.specs.Devices.{devices}
-use Rattle.console_run.specs.Names.{console_name}
 use Rattle.console_run.specs.Private.Runs.{drawn_by}
 use Rattle.console_run.proofs.AskLemmas.{Stops-unbegun}
 use Rattle.console_run.proofs.JoinLemmas.{pull_read, pull_stopped}

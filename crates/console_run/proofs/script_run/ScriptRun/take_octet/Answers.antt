@@ -1,7 +1,7 @@
-use Rattle.std.proofs.Common.{◌≡◌, ◌<◌, ◌∷◌, Err, length, inl, inr, subst, sym, ap, ◌∙◌, refl, arith, rules}
+use Rattle.std.proofs.Common.{◌≡◌, ◌+◌, ◌<◌, ◌∷◌, [], Err, length, inl, inr, subst, sym, ap, ◌∙◌, refl, arith, rules}
 use Rattle.group_steps.specs.Devices.{devices}
-use Rattle.console_run.specs.Private.Runs.{Stops, begun_by_text, drawn_by}
-use Rattle.console_run.specs.Scripts.{is_line}
+use Rattle.console_run.specs.Private.Follows.{at, moment}
+use Rattle.console_run.specs.Private.Runs.{GoesOn, drawn_by}
 use Rattle.run_report.proofs.ErrorLemmas.{if_error}
 use Rattle.console_run.proofs.SoFarLemmas.{GoesOn-ended, GoesOn-kept}
 use Rattle.console_run.proofs.StopLemmas.{stopped_at_line, stopped_in_line}
@@ -12,8 +12,8 @@ returns-then-self-eq-MOST_LINES-clause-stops g c = λ later few small start befo
     let on = devices g.D.Disk g.G.Signer g.V.Verifier c.args.verifier.now in
     let was = c.args.self.now in
     let ready = c.requires.ready in
-    stopped_at_line on g.R.Draws start before (c.args.octet ∷ later) _ was.group was.line.items was.count (g.K.Sink.shows c.args.out.now)
-    (drawn_by g.P.Draws c.args.peers.now) so ready.short
+    stopped_at_line on g.R.Draws c.args.workers start before (c.args.octet ∷ later) _ was.group was.block was.line.items was.count
+    (g.K.Sink.shows c.args.out.now) (drawn_by g.P.Draws c.args.peers.now) so ready.short
     (omega (arith, few)) ready.begun
     (inl (omega (arith, c.if-self-eq-MOST_LINES.true), omega arith))
 
@@ -23,29 +23,30 @@ returns-in_err-run_line-clause-stops g c =
     let was = c.args.self.now in
     let ready = c.requires.ready in
     let seen = g.K.Sink.shows in
-    let text = c.as_slice.ensures.value in
     let stop = c.in_err-run_line.field-0.0 in
     let room : was.count < 16384 = omega (arith, ready.lines, c.if-self-eq-MOST_LINES.false) in
     if_error _ _ _ c.from_residual.ensures.1
     (λ later few small start before so.
-    stopped_in_line on g.R.Draws start before (c.args.octet ∷ later) _ was.group was.line.items was.count (seen c.args.out.now)
+    stopped_in_line on g.R.Draws c.args.workers start before (c.args.octet ∷ later) _ was.group was.block was.line.items was.count (seen c.args.out.now)
     (drawn_by g.P.Draws c.args.peers.now) so ready.short
-    (omega (arith, few)) ready.begun stop c.run_line.new.group (seen c.run_line.new.out)
-    (drawn_by g.P.Draws c.run_line.new.peers) (inl (later, ap (λ octet. octet ∷ later) c.if-octet-eq10.true)) room
-    (λ line. ap is_line (sym text) ∙ c.run_line.ensures.faulty (c.in_err-run_line.was ∙ ap Err line))
-    (subst (λ text. Stops g.D.Disk g.R.Draws (drawn_by g.P.Draws c.args.peers.now) (begun_by_text on text) stop was.group c.run_line.new.group
-    (seen c.args.out.now) (seen c.run_line.new.out)) text
-    c.in_err-run_line.ensures.stops))
+    (omega (arith, few)) ready.begun stop c.run_line.new.self.group (seen c.run_line.new.out)
+    (inl (later, ap (λ octet. octet ∷ later) c.if-octet-eq10.true)) room
+    (λ line. c.run_line.ensures.faulty (c.in_err-run_line.was ∙ ap Err line)) c.in_err-run_line.ensures.stops
+    (at c.run_line.new.self (seen c.run_line.new.out) (drawn_by g.P.Draws c.run_line.new.peers)) refl refl c.run_line.ensures.count)
 
 pub returns-then-octet-eq10-clause-goes : goal.returns-then-octet-eq10-clause-goes
 returns-then-octet-eq10-clause-goes g c =
     let on = devices g.D.Disk g.G.Signer g.V.Verifier c.args.verifier.now in
     let was = c.args.self.now in
-    GoesOn-ended on g.R.Draws was.group c.run_line.new.group was.line.items c.as_slice.result.now c.clear.new.self.items was.count c.args.octet
-    (g.K.Sink.shows c.args.out.now) (g.K.Sink.shows c.run_line.new.out)
-    (drawn_by g.P.Draws c.args.peers.now) (drawn_by g.P.Draws c.run_line.new.peers) c.run_line.ensures.blocks c.if-octet-eq10.true c.as_slice.ensures.value
-    c.clear.ensures
-    (omega (arith, c.requires.ready.lines, c.if-self-eq-MOST_LINES.false)) c.in_ok-run_line.ensures.ok
+    let new = c.run_line.new.self in
+    let seen = g.K.Sink.shows in
+    let peers = drawn_by g.P.Draws c.args.peers.now in
+    let peers_now = drawn_by g.P.Draws c.run_line.new.peers in
+    subst (λ count. GoesOn on g.R.Draws c.args.workers (c.args.octet ∷ []) (at was (seen c.args.out.now) peers)
+    (moment new.group new.block c.clear.new.self.items (count + 1) (seen c.run_line.new.out) peers_now)) (sym c.run_line.ensures.count)
+    (GoesOn-ended on g.R.Draws c.args.workers was.group new.group was.block new.block was.line.items c.clear.new.self.items was.count c.args.octet
+    (seen c.args.out.now) (seen c.run_line.new.out) peers peers_now c.run_line.ensures.blocks c.if-octet-eq10.true c.clear.ensures
+    (omega (arith, c.requires.ready.lines, c.if-self-eq-MOST_LINES.false)) c.in_ok-run_line.ensures.placed c.in_ok-run_line.ensures.ok)
 
 pub returns-then-is_full-clause-stops : goal.returns-then-is_full-clause-stops
 returns-then-is_full-clause-stops g c = λ later few small start before so.
@@ -53,8 +54,8 @@ returns-then-is_full-clause-stops g c = λ later few small start before so.
     let was = c.args.self.now in
     let ready = c.requires.ready in
     let full : length was.line.items ≡ 200 = search rules in
-    stopped_at_line on g.R.Draws start before (c.args.octet ∷ later) _ was.group was.line.items was.count (g.K.Sink.shows c.args.out.now)
-    (drawn_by g.P.Draws c.args.peers.now) so ready.short
+    stopped_at_line on g.R.Draws c.args.workers start before (c.args.octet ∷ later) _ was.group was.block was.line.items was.count
+    (g.K.Sink.shows c.args.out.now) (drawn_by g.P.Draws c.args.peers.now) so ready.short
     (omega (arith, few)) ready.begun
     (inr (inl (full, (c.args.octet, later, refl, c.if-octet-eq10.false))))
 
@@ -62,5 +63,5 @@ pub returns-clause-goes : goal.returns-clause-goes
 returns-clause-goes g c =
     let on = devices g.D.Disk g.G.Signer g.V.Verifier c.args.verifier.now in
     let was = c.args.self.now in
-    GoesOn-kept on g.R.Draws was.group was.line.items c.push.new.self.items was.count c.args.octet (g.K.Sink.shows c.args.out.now)
-    (drawn_by g.P.Draws c.args.peers.now) (search rules) c.if-octet-eq10.false (search rules)
+    GoesOn-kept on g.R.Draws c.args.workers was.group was.block was.line.items c.push.new.self.items was.count c.args.octet
+    (g.K.Sink.shows c.args.out.now) (drawn_by g.P.Draws c.args.peers.now) (search rules) c.if-octet-eq10.false (search rules)

@@ -29,7 +29,7 @@ pieces-init g c =
         [],
         Consumes-nil (g.S.Source.shows c.args.script.now).octets,
         refl,
-        GoesOn-none on g.R.Draws (at c.args.self.now (g.K.Sink.shows c.args.out.now) (drawn_by g.P.Draws c.args.peers.now)),
+        GoesOn-none on g.R.Draws c.args.workers (at c.args.self.now (g.K.Sink.shows c.args.out.now) (drawn_by g.P.Draws c.args.peers.now)),
       );
     }
 
@@ -51,7 +51,7 @@ pieces-preserved g c =
         before.0 ++ piece,
         Consumes-trans (left c.args.script.now).octets (left c.pieces.script).octets (left c.take.new.self).octets before.0 piece before.1 moved,
         both_small before.0 piece before.2 c.in_ok-take_piece.ensures.octets,
-        GoesOn-then on g.R.Draws before.0 piece (at c.args.self.now (seen c.args.out.now) (drawn_by g.P.Draws c.args.peers.now))
+        GoesOn-then on g.R.Draws c.args.workers before.0 piece (at c.args.self.now (seen c.args.out.now) (drawn_by g.P.Draws c.args.peers.now))
             (at c.pieces.self (seen c.pieces.out) (drawn_by g.P.Draws c.pieces.peers))
             (at c.take_piece.new.self (seen c.take_piece.new.out) (drawn_by g.P.Draws c.take_piece.new.peers)) before.3 c.in_ok-take_piece.ensures.goes,
       );
@@ -70,7 +70,7 @@ returns-in-Err-clause-stops g c =
           (left c.take.new.self).octets before.0 before.1 c.in-Err.ensures.failed;
       small = before.2;
       source = subst (λ faults. Rose faults (left c.take.new.self).faults) c.pieces.invariant.no_fault c.in-Err.ensures.cause;
-      stops = StopsWithin-lost on g.R.Draws before.0 (at c.args.self.now (seen c.args.out.now) (drawn_by g.P.Draws c.args.peers.now))
+      stops = StopsWithin-lost on g.R.Draws c.args.workers before.0 (at c.args.self.now (seen c.args.out.now) (drawn_by g.P.Draws c.args.peers.now))
           (at c.pieces.self (seen c.pieces.out) (drawn_by g.P.Draws c.pieces.peers)) before.3 ready.short ready.begun;
     }
 
@@ -91,7 +91,7 @@ returns-in_err-take_piece-clause-stops g c =
       small = both_small before.0 piece before.2 c.in_err-take_piece.ensures.octets;
       source = SourceFails-other stop _ _ (λ source. c.take_piece.ensures.other (c.in_err-take_piece.was ∙ ap Err source))
           (c.in-Ok.ensures.no_fault ∙ c.pieces.invariant.no_fault);
-      stops = StopsWithin-then on g.R.Draws before.0 piece stop (at c.args.self.now (seen c.args.out.now) (drawn_by g.P.Draws c.args.peers.now))
+      stops = StopsWithin-then on g.R.Draws c.args.workers before.0 piece stop (at c.args.self.now (seen c.args.out.now) (drawn_by g.P.Draws c.args.peers.now))
           (at c.pieces.self (seen c.pieces.out) (drawn_by g.P.Draws c.pieces.peers))
           (at c.take_piece.new.self (seen c.take_piece.new.out) (drawn_by g.P.Draws c.take_piece.new.peers)) before.3 c.in_err-take_piece.ensures.stops;
     })

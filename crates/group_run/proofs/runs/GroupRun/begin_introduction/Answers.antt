@@ -3,14 +3,14 @@ use Rattle.std.proofs.lemmas.Result.{on_err_weaker, on_ok_weaker}
 use Rattle.server_steps.specs.Reflects.{IsServerOf}
 use Rattle.group_run.specs.Places.{keys_of}
 use Rattle.group_run.specs.Views.{View}
-use Rattle.group_run.proofs.BeginLemmas.{introduced_keeps, on_err_always, on_ok_always, reaches_introduced, served_introduced, served_same}
+use Rattle.group_run.proofs.BeginLemmas.{introduced_keeps, on_err_always, on_ok_always, reaches_introduced, served_before, served_introduced}
 use Rattle.group_run.proofs.runs.GroupRun.begin_introduction.Goals as goal
 
 pub returns-in_err-introduce-clause-err : goal.returns-in_err-introduce-clause-err
 returns-in_err-introduce-clause-err g c =
     on_err_always c.from_residual.result
-    (λ group. served_same g.D.Disk g.G.Signer g.R.Draws (keys_of g.R.Draws c.args.self.now (g.P.Draws.block_at c.args.draws.now) group)
-    c.in_err-introduce.ensures.err)
+    (λ group. served_before g.D.Disk g.G.Signer g.R.Draws (keys_of g.R.Draws c.args.self.now (g.P.Draws.block_at c.args.draws.now) group)
+    c.args.member.now c.in_err-introduce.ensures.err)
 
 pub returns-clause-ok : goal.returns-clause-ok
 returns-clause-ok g c =

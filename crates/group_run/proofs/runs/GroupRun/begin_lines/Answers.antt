@@ -1,4 +1,4 @@
-use Rattle.std.proofs.Common.{◌∙◌, ◌++◌, ◌∷◌, [], ap, arith, drop, sym, take}
+use Rattle.std.proofs.Common.{◌∙◌, ◌+◌, ◌++◌, ◌∷◌, [], ap, append_assoc, arith, drop, sym, take}
 use Rattle.std.proofs.lemmas.List.{take-append-drop, take_all, take_more}
 use Rattle.group_run.proofs.BeginLemmas.{none_prepared, on_err_always, one_more_prepared, prepared_as, stops_at_once, stops_later}
 use Rattle.group_run.proofs.runs.GroupRun.begin_lines.Goals as goal
@@ -23,9 +23,14 @@ pub returns-in_err-is_handed-clause-err : goal.returns-in_err-is_handed-clause-e
 returns-in_err-is_handed-clause-err g c =
     let asks = c.args.asks.now in
     let at = c.loop-ask.ask-index in
+    let ask = c.ask-item.result in
+    let later = drop (at + 1) asks in
     on_err_always c.from_residual-in_err-is_handed.result
-    (stops_later g.D.Disk g.G.Signer g.R.Draws g.P.Draws c.args.draws.now c.args.group.now c.args.self.now c.loop-ask.invariant.0 (drop at asks)
-    (sym (take-append-drop at asks)) c.in_err-is_handed.ensures.err)
+    (stops_later g.D.Disk g.G.Signer g.R.Draws g.P.Draws c.args.draws.now c.args.group.now c.args.self.now c.loop-ask.invariant.0 ask later
+    (sym (take-append-drop (at + 1) asks)
+    ∙ ap (λ front. front ++ later) (take_more asks at ask c.loop-ask-test.true ∙ ap (λ ask. take at asks ++ ask ∷ []) (sym c.ask-item.is))
+    ∙ append_assoc (take at asks) (ask ∷ []) later)
+    c.in_err-is_handed.ensures.err)
 
 pub add_if-requires : goal.add_if-requires
 add_if-requires g c =
