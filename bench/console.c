@@ -1,17 +1,21 @@
 /* The work of `gdoi_console --new DEPTH` in C with openssl's library, for the lines allow, deny, join, leave, batch, deliver, deliver-all, key and show: the
    key server of `core.c`, with rules and with sessions of pulls, and members that register by pulls and read each push as those of `members.c` do. It prints
-   the same, a line a call, and leaves the same file. It keeps no history. */
+   the same, a line a call, and leaves the same file. It keeps no history. With `--soak NUMBER` it does the work of a soak, the pulls of a round one after the
+   other, and makes no report but the summary. */
 #define main core_main
 #include "core.c"
 #undef main
 #include "console_pulls.h"
 #include "console_members.h"
+#include <stdarg.h>
 
 #define LINE 202
 /* how many SAs may be introduced, and the places of the tables that find them */
 #define MOST_PEERS 1024
 #define PEER_PLACES (4 * MOST_PEERS)
 #define RULES 16384
+/* the depth of a soak's tree, its names, its rounds, and the joins and leaves of a round */
+enum { SOAK_DEPTH = 7, SOAK_NAMES = 80, SOAK_ROUNDS = 40, SOAK_JOINS = 12, SOAK_LEAVES = 5 };
 /* the most octets of what is printed in hex */
 #define MOST_SHOWN (2 * MOST + 1)
 
@@ -49,10 +53,24 @@ static int queued;
 /* the present traffic key, of zeros before the first */
 static struct traffic traffic;
 static uint8_t text[MOST_MESSAGE];
+/* whether the report is left out */
+static int is_quiet;
+/* how many answers of the server or of stores were refusals */
+static unsigned refused;
+
+void say(const char *format, ...)
+{
+    va_list arguments;
+    if (is_quiet)
+        return;
+    va_start(arguments, format);
+    vprintf(format, arguments);
+    va_end(arguments);
+}
 
 static void print_name(const struct name *name)
 {
-    printf("%.*s ", name->size, (const char *)name->octets);
+    say("%.*s ", name->size, (const char *)name->octets);
 }
 
 /* The place of the table where somebody stands, or where he would stand. */
@@ -124,17 +142,19 @@ static void print_datagram(const uint8_t *octets, unsigned size)
     static const char digits[] = "0123456789abcdef";
     static char text[MOST_SHOWN];
     char *at = text;
+    if (is_quiet)
+        return;
     for (unsigned i = 0; i < size; i++) {
         *at++ = digits[octets[i] >> 4];
         *at++ = digits[octets[i] & 15];
     }
     *at = 0;
-    printf("%u %s\n", size, text);
+    say("%u %s\n", size, text);
 }
 
 static void print_message(const char *which, unsigned at)
 {
-    printf("%s ", which);
+    say("%s ", which);
     print_name(&peer[at].name);
     print_datagram(peer[at].kept.octets, peer[at].kept.size);
 }
@@ -145,7 +165,7 @@ static void add_rule(int allows, const struct name *pattern)
     must(rules < RULES);
     *new = (struct rule){allows, pattern->octets[pattern->size - 1] == '*', *pattern};
     new->pattern.size -= new->is_prefix;
-    printf("rule %u\n", ++rules);
+    say("rule %u\n", ++rules);
 }
 
 /* Whether somebody may join; if not, the number of the rule that says so is told, and 0 where none matches. */
@@ -167,18 +187,19 @@ static int is_refused(const struct name *name, int joins)
     unsigned by;
     if (!is_allowed(name, &by)) {
         print_name(name);
-        printf("refused denied %u\n", by);
+        say("refused denied %u\n", by);
     } else if (is_pending(name)) {
         print_name(name);
-        puts("refused already-pending");
+        say("refused already-pending\n");
     } else if (joins && held() == 1u << tree.depth) {
         print_name(name);
-        printf("refused tree-full %u\n", held());
+        say("refused tree-full %u\n", held());
     } else if (joins && queued == CHANGES) {
         print_name(name);
-        printf("refused batch-full %d\n", queued);
+        say("refused batch-full %d\n", queued);
     } else
         return 0;
+    refused++;
     return 1;
 }
 
@@ -309,9 +330,9 @@ static void tell(unsigned at)
         return;
     print_name(&peer[at].name);
     if (answer == KEPT)
-        printf("keyed %u\n", root_epoch(at));
+        say("keyed %u\n", root_epoch(at));
     else
-        printf("older %u %u\n", last_number(at), got);
+        say("older %u %u\n", last_number(at), got);
 }
 
 /* A pull of somebody. */
@@ -332,7 +353,7 @@ static void join(const struct name *name)
     switch (serve(&datagram)) {
     case QUEUED:
         print_name(name);
-        puts("queued");
+        say("queued\n");
         break;
     case SENT_FOURTH:
         print_message("fourth", at);
@@ -344,15 +365,17 @@ static void leave(const struct name *name)
 {
     print_name(name);
     if (!is_member(name))
-        puts("refused not-member");
+        say("refused not-member\n");
     else if (is_pending(name))
-        puts("refused already-pending");
+        say("refused already-pending\n");
     else if (queued == CHANGES)
-        printf("refused batch-full %d\n", queued);
+        say("refused batch-full %d\n", queued);
     else {
         queue[queued++] = (struct change){0, *name};
-        puts("leaving");
+        say("leaving\n");
+        return;
     }
+    refused++;
 }
 
 /* Keeps the push that was just written. */
@@ -369,13 +392,13 @@ static void keep_push(uint32_t number)
 
 static void print_push(uint32_t number)
 {
-    printf("push %u ", number);
+    say("push %u ", number);
     print_datagram(sent[number].octets, sent[number].size);
 }
 
 static void print_counts(const char *what)
 {
-    printf("%s %u sequence %u members %u\n", what, tree.epoch, tree.sequence, tree.members);
+    say("%s %u sequence %u members %u\n", what, tree.epoch, tree.sequence, tree.members);
 }
 
 static void print_batch(const struct wrap *wrap, int wraps, int stayed)
@@ -384,8 +407,8 @@ static void print_batch(const struct wrap *wrap, int wraps, int stayed)
     if (!stayed)
         return;
     for (int i = 0; i < wraps; i++)
-        printf("wrap %u.%u %u.%u\n", wrap[i].by, tree.position[wrap[i].by].made, wrap[i].gives, tree.position[wrap[i].gives].made);
-    printf("wrap 1.%u traffic.%u\n", tree.epoch, tree.epoch);
+        say("wrap %u.%u %u.%u\n", wrap[i].by, tree.position[wrap[i].by].made, wrap[i].gives, tree.position[wrap[i].gives].made);
+    say("wrap 1.%u traffic.%u\n", tree.epoch, tree.epoch);
     print_push(tree.sequence - 1);
     print_push(tree.sequence);
 }
@@ -446,11 +469,11 @@ static void deliver(const struct name *name, uint32_t number)
 {
     unsigned at = *peer_place(name);
     print_name(name);
-    printf("push %u ", number);
-    if (at && has_store(at - 1) && 1 <= number && number <= tree.sequence)
-        print_delivery(at - 1, sent[number].octets, sent[number].size);
-    else
-        puts("nothing");
+    say("push %u ", number);
+    if (!at || !has_store(at - 1) || number < 1 || number > tree.sequence)
+        say("nothing\n");
+    else if (!take_push(at - 1, sent[number].octets, sent[number].size))
+        refused++;
 }
 
 static void deliver_all(void)
@@ -458,11 +481,8 @@ static void deliver_all(void)
     for (unsigned at = 0; at < peers; at++) {
         if (!has_store(at) || !is_member(&peer[at].name))
             continue;
-        for (uint32_t number = last_number(at) + 1; number <= tree.sequence; number++) {
-            print_name(&peer[at].name);
-            printf("push %u ", number);
-            print_delivery(at, sent[number].octets, sent[number].size);
-        }
+        for (uint32_t number = last_number(at) + 1; number <= tree.sequence; number++)
+            deliver(&peer[at].name, number);
     }
 }
 
@@ -473,7 +493,7 @@ static void key(const struct name *name)
     if (at && has_store(at - 1))
         print_key(at - 1);
     else
-        puts("nothing");
+        say("nothing\n");
 }
 
 static void show(void)
@@ -481,7 +501,7 @@ static void show(void)
     print_counts("group epoch");
     for (unsigned leaf = 0; leaf < 1u << tree.depth; leaf++)
         if (tree.holder[leaf].size)
-            printf("leaf %u %.*s\n", leaf + (1u << tree.depth), tree.holder[leaf].size, (const char *)tree.holder[leaf].octets);
+            say("leaf %u %.*s\n", leaf + (1u << tree.depth), tree.holder[leaf].size, (const char *)tree.holder[leaf].octets);
 }
 
 static void run_line(char *line)
@@ -516,11 +536,9 @@ static void run_line(char *line)
     }
 }
 
-int main(int words, char **word)
+/* A new group with a tree of this depth. */
+static void start_console(unsigned depth)
 {
-    char line[LINE];
-    must(words == 3 && strcmp(word[1], "--new") == 0);
-    unsigned long depth = strtoul(word[2], NULL, 10);
     must(1 <= depth && depth <= DEEPEST);
     must(setvbuf(stdout, NULL, _IOLBF, 1 << 18) == 0);
     start_ciphers();
@@ -530,10 +548,72 @@ int main(int words, char **word)
     start_draws(&member_draws, 1);
     start_journal("group.journal");
     start_group(depth);
-    printf("new depth %lu\n", depth);
+    say("new depth %u\n", depth);
+}
+
+/* The number of a name. */
+static unsigned drawn_name(uint64_t *state)
+{
+    *state = *state * UINT64_C(6364136223846793005) + UINT64_C(1442695040888963407);
+    return (*state >> 33) % SOAK_NAMES;
+}
+
+static void run_round(uint64_t *state)
+{
+    struct name name;
+    unsigned first = drawn_name(state);
+    for (unsigned i = 0; i < SOAK_JOINS; i++) {
+        name_member(&name, (first + i) % SOAK_NAMES);
+        join(&name);
+    }
+    for (unsigned i = 0; i < SOAK_LEAVES; i++) {
+        name_member(&name, drawn_name(state));
+        leave(&name);
+    }
+    batch();
+    deliver_all();
+}
+
+/* How many members have the traffic key. */
+static unsigned agreed(void)
+{
+    unsigned count = 0;
+    for (unsigned at = 0; at < peers; at++)
+        count += is_member(&peer[at].name) && has_store(at) && has_traffic_keys(at, traffic.cipher_key, traffic.integrity_key);
+    return count;
+}
+
+static void run_soak(uint64_t number)
+{
+    uint64_t state = number;
+    is_quiet = 1;
+    start_console(SOAK_DEPTH);
+    add_rule(1, &(struct name){1, "*"});
+    for (int i = 0; i < SOAK_ROUNDS; i++)
+        run_round(&state);
+    is_quiet = 0;
+    say("soak %llu epochs %u sequence %u members %u ", (unsigned long long)number, tree.epoch, tree.sequence, tree.members);
+    say("refused %u agreed %u\n", refused, agreed());
+}
+
+static void run_script(unsigned depth)
+{
+    char line[LINE];
+    start_console(depth);
     while (fgets(line, sizeof line, stdin))
         run_line(line);
-    printf("end 0\n");
+}
+
+int main(int words, char **word)
+{
+    must(words == 3);
+    if (strcmp(word[1], "--soak") == 0)
+        run_soak(strtoull(word[2], NULL, 10));
+    else {
+        must(strcmp(word[1], "--new") == 0);
+        run_script(strtoul(word[2], NULL, 10));
+    }
+    say("end 0\n");
     must(close(file) == 0);
     return 0;
 }

@@ -153,6 +153,14 @@ def run_in(folder, words):
         return Took(used.ru_utime + used.ru_stime, time.perf_counter() - start)
 
 
+def by_turns(folder, commands):
+    """What the runs of each of these commands took, by turns."""
+    turns, start = [], time.perf_counter()
+    while len(turns) < TURNS or (len(turns) < MOST_TURNS and time.perf_counter() - start < SECONDS):
+        turns.append([run_in(folder, command) for command in commands])
+    return list(zip(*turns))
+
+
 def peak(folder, words):
     """The most memory that a run had at once, in KiB."""
     told = folder / "peak"
@@ -188,17 +196,38 @@ def processor():
     return names[0].split(":", 1)[1].strip()
 
 
+def build():
+    """Builds ours."""
+    subprocess.run(["rt", "run", "--", "--new", "9"], cwd=CRATE, check=True, stdin=subprocess.DEVNULL, stdout=subprocess.DEVNULL)
+
+
+def compiled(folder):
+    """The program in C, which is in a folder afterwards."""
+    program = folder / "console"
+    subprocess.run(["cc", "-O2", "-o", program, *(TOP / "bench" / it for it in SOURCES), "-lcrypto"], check=True)
+    return program
+
+
+def print_machine(kind):
+    """Prints what is measured on."""
+    version = run(["openssl", "version"]).split()[1]
+    print(f"{processor()}, {kind}, openssl {version}")
+
+
+def write_script(folder, lines):
+    """The script of a folder has these lines."""
+    (folder / "script").write_text("".join(line + "\n" for line in lines))
+
+
 def print_row(folder, programs, script):
     """Times a script by turns, and prints what each program took."""
-    (folder / "script").write_text("".join(line + "\n" for line in script.lines))
+    write_script(folder, script.lines)
     commands = [[program, "--new", str(script.depth)] for program in programs]
     check_same(folder, commands)
     size = (folder / "report").stat().st_size
-    turns, start = [], time.perf_counter()
-    while len(turns) < TURNS or (len(turns) < MOST_TURNS and time.perf_counter() - start < SECONDS):
-        turns.append([run_in(folder, command) for command in commands])
-    least = [min(took.processor for took in of) * 1000 for of in zip(*turns)]
-    clock = min(of[0].clock for of in turns) * 1000
+    runs = by_turns(folder, commands)
+    least = [min(took.processor for took in of) * 1000 for of in runs]
+    clock = min(took.clock for took in runs[0]) * 1000
     most = [peak(folder, command) for command in commands]
     print(f"{script.name:32}{len(script.lines):8}{size:12}{least[0]:12.1f}", end="")
     if script.in_c:
@@ -211,14 +240,13 @@ def main():
     with tempfile.TemporaryDirectory(dir=(sys.argv[1:] or ["/var/tmp"])[0]) as name:
         folder = pathlib.Path(name)
         kind = file_system(folder)
-        subprocess.run(["rt", "run", "--", "--new", "9"], cwd=CRATE, check=True, stdin=subprocess.DEVNULL, stdout=subprocess.DEVNULL)
-        theirs = folder / "console"
-        subprocess.run(["cc", "-O2", "-o", theirs, *(TOP / "bench" / it for it in SOURCES), "-lcrypto"], check=True)
-        version = run(["openssl", "version"]).split()[1]
-        print(f"{processor()}, {kind}, openssl {version}")
+        build()
+        theirs = compiled(folder)
+        print_machine(kind)
         print(f"{'':32}{'lines':>8}{'octets':>12}{'ours, ms':>12}{'C, ms':>12}{'ratio':>8}{'clock, ms':>12}{'ours, KiB':>11}{'C, KiB':>9}")
         for script in SCRIPTS:
             print_row(folder, [PROGRAM, theirs] if script.in_c else [PROGRAM], script)
 
 
-main()
+if __name__ == "__main__":
+    main()

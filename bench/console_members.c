@@ -171,32 +171,39 @@ uint32_t last_number(unsigned at)
     return member[at].store.sequence;
 }
 
-void print_delivery(unsigned at, const uint8_t *datagram, size_t size)
+int take_push(unsigned at, const uint8_t *datagram, size_t size)
 {
     struct store *store = &member[at].store;
     uint32_t last = store->sequence;
     switch (accept(store, datagram, size)) {
     case ROOT:
-        printf("taken root %u\n", store->path[store->keys - 1].made);
-        break;
+        say("taken root %u\n", store->path[store->keys - 1].made);
+        return 1;
     case TRAFFIC:
-        printf("taken traffic %u\n", store->traffic_epoch);
-        break;
+        say("taken traffic %u\n", store->traffic_epoch);
+        return 1;
     case OTHER_SPI:
-        printf("refused other-spi\n");
+        say("refused other-spi\n");
         break;
     case MALFORMED:
-        printf("refused malformed\n");
+        say("refused malformed\n");
         break;
     case BAD_SIGNATURE:
-        printf("refused bad-signature\n");
+        say("refused bad-signature\n");
         break;
     case STALE:
-        printf("refused stale %u %u\n", last, push.number);
+        say("refused stale %u %u\n", last, push.number);
         break;
     default:
-        printf("refused no-path %u\n", store->path[0].id);
+        say("refused no-path %u\n", store->path[0].id);
     }
+    return 0;
+}
+
+int has_traffic_keys(unsigned at, const uint8_t *cipher_key, const uint8_t *integrity_key)
+{
+    const struct traffic *traffic = &member[at].store.traffic;
+    return memcmp(traffic->cipher_key, cipher_key, 16) == 0 && memcmp(traffic->integrity_key, integrity_key, 32) == 0;
 }
 
 void print_key(unsigned at)
@@ -205,8 +212,8 @@ void print_key(unsigned at)
     uint8_t print[HASH];
     must(EVP_DigestInit_ex2(hash, NULL, NULL) && EVP_DigestUpdate(hash, store->traffic.cipher_key, 16));
     must(EVP_DigestUpdate(hash, store->traffic.integrity_key, 32) && EVP_DigestFinal_ex(hash, print, NULL));
-    printf("key %u sequence %u ", store->traffic_epoch, store->sequence);
+    say("key %u sequence %u ", store->traffic_epoch, store->sequence);
     for (int i = 0; i < 8; i++)
-        printf("%02x", print[i]);
-    putchar('\n');
+        say("%02x", print[i]);
+    say("\n");
 }

@@ -1,6 +1,8 @@
 #include <stddef.h>
 #include <stdint.h>
 
+/* prints a part of the report */
+void say(const char *format, ...);
 /* what comes of a fourth message */
 enum { IGNORED, KEPT, OLDER };
 
@@ -16,6 +18,8 @@ int take_fourth(unsigned at, const struct message *fourth, uint32_t *got);
 int has_store(unsigned at);
 uint32_t root_epoch(unsigned at);
 uint32_t last_number(unsigned at);
-/* gives a push to a store, and prints what it answers */
-void print_delivery(unsigned at, const uint8_t *datagram, size_t size);
+/* whether a store takes a push; prints what it answers */
+int take_push(unsigned at, const uint8_t *datagram, size_t size);
+/* whether a store has these keys of the traffic */
+int has_traffic_keys(unsigned at, const uint8_t *cipher_key, const uint8_t *integrity_key);
 void print_key(unsigned at);

@@ -1,8 +1,9 @@
 """Kills the console at random moments, and opens its group again.
 
-    python3 bench/kills.py PROGRAM [KILLS]
+    python3 bench/kills.py PROGRAM [KILLS [WORKERS]]
 
 Each run makes a group in a folder of its own, lets members in by pulls and out, and closes a batch after each change. It is killed by a signal at a random moment.
+With WORKERS, each eight changes are a block with two batches, and so many workers run its lines.
 Then the group is opened from the journal that is left: each batch whose report line came whole before the kill has to be there. A kill before the group was made may
 leave a file that is no journal.
 """
@@ -18,28 +19,42 @@ import time
 
 MEMBERS = 12
 ROUNDS = 400
+IN_BLOCK = 8
 
 
-def script(seed):
-    """Changes of members, each with a batch after it."""
+def change(member, inside):
+    """Lets a member in or out."""
+    line = f"{'leave' if member in inside else 'join'} {member}"
+    inside ^= {member}
+    return line
+
+
+def script(seed, workers):
+    """Changes of members, each with a batch after it, or in blocks with two batches."""
     rng = random.Random(seed)
     inside = set()
     lines = ["allow *"]
-    for _ in range(ROUNDS):
-        member = f"m{rng.randrange(MEMBERS)}"
-        lines.append(f"{'leave' if member in inside else 'join'} {member}")
-        inside ^= {member}
-        lines.append("batch")
+    for _ in range(ROUNDS // IN_BLOCK if workers else ROUNDS):
+        if workers:
+            changes = [change(f"m{member}", inside) for member in rng.sample(range(MEMBERS), IN_BLOCK)]
+            lines += ["together", *changes, "batch", "batch", "end"]
+        else:
+            lines += [change(f"m{rng.randrange(MEMBERS)}", inside), "batch"]
     return "\n".join(lines) + "\n"
 
 
-def killed(program, folder, seed, after):
+def words(seed, workers):
+    """The words of a run that makes a group."""
+    return ["--new", "4", "--seed", str(seed), *(["--workers", str(workers)] if workers else [])]
+
+
+def killed(program, folder, seed, workers, after):
     """The octets that were reported before the program was killed, and whether it was."""
-    process = subprocess.Popen([program, "--new", "4", "--seed", str(seed)], cwd=folder, stdin=subprocess.PIPE, stdout=subprocess.PIPE)
+    process = subprocess.Popen([program, *words(seed, workers)], cwd=folder, stdin=subprocess.PIPE, stdout=subprocess.PIPE)
 
     def feed():
         try:
-            process.stdin.write(script(seed).encode())
+            process.stdin.write(script(seed, workers).encode())
             process.stdin.close()
         except OSError:
             pass
@@ -74,16 +89,17 @@ def opened(program, folder, seed):
 def main():
     program = os.path.abspath(sys.argv[1])
     kills = int(sys.argv[2]) if len(sys.argv) > 2 else 200
+    workers = int(sys.argv[3]) if len(sys.argv) > 3 else 0
     with tempfile.TemporaryDirectory() as folder:
         begun = time.monotonic()
-        subprocess.run([program, "--new", "4"], cwd=folder, input=script(0).encode(), stdout=subprocess.PIPE)
+        subprocess.run([program, *words(0, workers)], cwd=folder, input=script(0, workers).encode(), stdout=subprocess.PIPE)
         whole = time.monotonic() - begun
     rng = random.Random(2627)
     seed = killed_runs = more = unmade = lost = 0
     while killed_runs < kills:
         seed += 1
         with tempfile.TemporaryDirectory() as folder:
-            reported, was_killed = killed(program, folder, seed, rng.uniform(0, whole))
+            reported, was_killed = killed(program, folder, seed, workers, rng.uniform(0, whole))
             killed_runs += was_killed
             told = last_epoch(reported)
             line, status = opened(program, folder, seed)

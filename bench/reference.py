@@ -5,13 +5,16 @@
     reference.py --row FOLDER ROW                compares ROW of a folder of rows (report, status, journal)
     reference.py --rows FOLDER                   all rows of a folder
     reference.py --cases < CASES                 answers a file of cases as crates/case_consoles does
+    reference.py --due < CASES                   the same file with the lines `due` that its runs want
     reference.py --drawn N SEED FOLDER           writes N drawn scripts with the words, reports and journals that are due
     reference.py --program PROGRAM FOLDER        runs a program on each row of a folder that has no fault, and compares
 
 It was written from the formats and the RFC alone. A row is NAME.words, NAME.script, NAME.stdout, NAME.case.json (status, line, and which calls of disk,
 source and sink fail) and NAME.journal.hex; NAME.journal_in.hex is the journal before, if any. It needs the Python package cryptography.
+
+Workers of a block take their steps in any order. `every_run` makes a run for each order; all else takes the one in which the first worker that can go on does.
 """
-import hashlib, hmac, json, os, random, re, subprocess, sys, tempfile
+import copy, hashlib, hmac, json, os, random, re, subprocess, sys, tempfile
 from cryptography.hazmat.primitives.ciphers import Cipher, algorithms, modes
 
 # ---------------------------------------------------------------------------------------------- numbers and ciphers
@@ -848,7 +851,7 @@ def read_line(text):
     if not words or words[0][:1] == b'#': return []
     word, rest = words[0].decode('latin-1'), words[1:]
     try:
-        if word in ('batch', 'deliver-all', 'halt', 'reopen', 'show'): return [word] if not rest else None
+        if word in ('batch', 'deliver-all', 'halt', 'reopen', 'show', 'now', 'together', 'end'): return [word] if not rest else None
         if word in ('allow', 'deny'): return [word, rest[0]] if len(rest) == 1 and PATTERN.match(rest[0]) else None
         if word in ('join', 'again', 'lose', 'leave', 'key'): return [word, name(*rest)]
         if word == 'deliver': return [word, name(rest[0]), number(rest[1])] if len(rest) == 2 else None
@@ -893,9 +896,37 @@ def lines_of(source):
                 yield count, begun[:-1]
                 count, begun = count + 1, b''
 
+MOST_IN_BLOCK = 512
+
+class Gate:
+    """Calls wait here for each other, where so many are due: the number of each call, how many met the others, and whether the first call met the second."""
+    def __init__(self, due=0): self.due, self.reached, self.met, self.pair = due, [], 0, False
+
+    def open(self, waiting):
+        self.met += len(waiting)
+        self.pair |= 1 in waiting and 2 in self.reached
+
+class Choices:
+    """Answers which one of some is taken: as it was told, and then the first."""
+    def __init__(self, told=()): self.told, self.made = list(told), []
+
+    def __call__(self, count):
+        chosen = self.told[len(self.made)] if len(self.made) < len(self.told) else 0
+        self.made.append((chosen, count))
+        return chosen
+
+    def next(self):
+        """The choices after these, None after the last ones."""
+        made = self.made[:]
+        while made and made[-1][0] + 1 == made[-1][1]: made.pop()
+        return Choices([chosen for chosen, _ in made[:-1]] + [made[-1][0] + 1]) if made else None
+
 class Console:
-    def __init__(self, words, source, sink, disk):
+    def __init__(self, words, source, sink, disk, choose=None, gate=None):
         self.words, self.source, self.sink, self.disk = words, source, sink, disk
+        self.choose, self.gate = choose or Choices(), gate or Gate()
+        self.block = None                       # the number of its line `together`, and its lines so far
+        self.kept = None                        # the lines of the report that a block keeps until it is done
         self.members = {}                       # by first use
         self.introduced = []                    # in order of introduction
         self.pushes = {}                        # by number, as sent in this run
@@ -904,7 +935,8 @@ class Console:
 
     def say(self, *words):
         text = ' '.join(w.decode() if isinstance(w, bytes) else str(w) for w in words)
-        self.sink.put(text.encode() + b'\n')
+        if self.kept is not None: self.kept.append(text)
+        else: self.sink.put(text.encode() + b'\n')
 
     def run(self):
         """Status and line."""
@@ -921,7 +953,7 @@ class Console:
         """The status where no line is run, else None."""
         asked = read_words(self.words)
         if asked is None: return 1
-        seed = asked.get('seed', 0)
+        seed, self.workers = asked.get('seed', 0), asked.get('workers', 1)
         self.peers = Draws(seed, 1)
         self.server = server = Server(self.disk, Draws(seed, 0))
         if 'new' in asked:
@@ -936,12 +968,92 @@ class Console:
 
     def ran_lines(self):
         for count, text in lines_of(self.source): self.run_line(count, text)
+        if self.block: raise FaultyLine(self.block[0])
         return 0
 
     def run_line(self, count, text):
         line = read_line(text)
         if line is None: raise FaultyLine(count)
-        if line: getattr(self, 'do_' + line[0].replace('-', '_'))(*line[1:])
+        if not line: return
+        if self.block: return self.run_inside(count, line)
+        if line[0] == 'end': raise FaultyLine(count)
+        if line[0] == 'together': self.block = count, []
+        else: getattr(self, 'do_' + line[0].replace('-', '_'))(*line[1:])
+
+    def run_inside(self, count, line):
+        _, lines = self.block
+        if line[0] == 'end' and lines:
+            self.block = None
+            return self.run_block(lines)
+        if line[0] not in ('join', 'again', 'leave', 'batch', 'now') or len(lines) == MOST_IN_BLOCK: raise FaultyLine(count)
+        if line[1:] and line[1:] in [other[1:] for other in lines]: raise FaultyLine(count)
+        lines.append(line)
+
+    def run_block(self, lines):
+        """What comes before the turns, the turns, what members get after them, and the pairs that were looked at."""
+        self.kept = []
+        self.say('together', len(lines))
+        handed = [line for line in lines if self.is_handed(*line)]
+        self.left, self.looked = [], {}
+        self.take_turns(handed)
+        self.say('together', 'done')
+        for member, answer, is_lost in self.left:
+            if is_lost: self.say(member.name, 'lost')
+            else: self.give_fourth(member, answer)
+        for place in sorted(self.looked): self.say('now', *self.looked[place])
+        kept, self.kept = self.kept, None
+        for text in kept: self.say(text)
+
+    def is_handed(self, word, *name):
+        """Whether a worker runs this line: a member whose introduction is refused has no turn, nor has one that sends again and has sent nothing."""
+        if word == 'join': return self.begins(*name)
+        if word == 'again': return self.has_sent(*name)
+        return True
+
+    def take_turns(self, handed):
+        """Each worker goes on to its next step, when it is chosen; at the gate it waits for the others, while one of them can go on."""
+        steps = [self.steps_of(worker, handed) for worker in range(self.workers)]
+        nexts, waiting, gate = [next(its, None) for its in steps], {}, self.gate
+        has_turns = any(word != 'now' for word, *_ in handed)
+        while any(nexts):
+            for worker, what in enumerate(nexts):
+                if what == 'gate':
+                    nexts[worker] = next(steps[worker])
+                    waiting[worker] = gate.reached[-1]
+            if len(gate.reached) >= gate.due:
+                if gate.due: gate.open(waiting.values())
+                waiting.clear()
+            able = [worker for worker, what in enumerate(nexts) if what and worker not in waiting]
+            if not able: waiting.clear(); continue
+            worker = able[self.choose(len(able))] if len(able) > 1 and has_turns else able[0]
+            nexts[worker] = next(steps[worker], None)
+
+    def steps_of(self, worker, handed):
+        """The lines of a worker, one after the other; before each step it says which one is next."""
+        for place in range(worker, len(handed), self.workers):
+            word, *name = handed[place]
+            if word == 'now':
+                yield 'look'
+                self.looked[place] = self.epoch_words()[:4]
+                continue
+            yield 'gate'
+            self.gate.reached.append(place + 1)
+            if word in ('join', 'again'): yield from self.send_in_turns(self.members[name[0]])
+            else:
+                yield 'turn'
+                getattr(self, 'do_' + word)(*name)
+
+    def send_in_turns(self, member):
+        while True:
+            yield 'turn'
+            try: answer = self.server.serve(member.sent)
+            except Refused as e: return self.say(member.name, 'refused', e)
+            if answer[0] == QUEUED: return self.say(member.name, 'queued')
+            self.say_datagram(member.name, answer)
+            if answer[0] == FOURTH: self.sent_reply(member.name, answer)
+            is_lost, member.lose = member.lose, False
+            if is_lost or answer[0] == FOURTH: return self.left.append((member, answer, is_lost))
+            if not member.second(answer[1]): return
 
     def epoch_words(self):
         g = self.server.group
@@ -960,6 +1072,10 @@ class Console:
         self.say('rule', len(self.server.rules))
 
     def do_join(self, name):
+        if self.begins(name): self.send(self.members[name])
+
+    def begins(self, name):
+        """Whether the member begins a pull: not where its introduction is refused."""
         member = self.members.get(name)
         if not member: member = self.members[name] = Member(name, self.peers)
         if not member.introduced:
@@ -968,12 +1084,15 @@ class Console:
             member.introduced = True
             self.introduced.append(member)
         member.begin(b'console')
-        self.send(member)
+        return True
 
     def do_again(self, name):
+        if self.has_sent(name): self.send(self.members[name])
+
+    def has_sent(self, name):
         member = self.members.get(name)
         if not member or not member.sent: return self.say(name, 'nothing')
-        self.send(member)
+        return True
 
     def send(self, member):
         """Sends the member's last datagram, and goes on with what comes back."""
@@ -1027,7 +1146,9 @@ class Console:
         for by, gives in self.server.group.last_wraps: self.say('wrap', dotted(by), dotted(gives))
         self.send_pair()
         for member, answer in replies: self.say_datagram(member, answer)
-        for member, answer in replies: self.give_fourth(self.members[member], answer)
+        for member, answer in replies:
+            if self.kept is None: self.give_fourth(self.members[member], answer)
+            else: self.left.append((self.members[member], answer, False))
 
     def do_deliver(self, name, sequence):
         member = self.members.get(name)
@@ -1068,17 +1189,27 @@ class Console:
         self.say('reopened', *self.epoch_words())
         self.send_pair()
 
+    def do_now(self): self.say('now', *self.epoch_words()[:4])
+
     def do_show(self):
         if self.server.need: return self.say('show refused needs-reopen')
         self.say('group', *self.epoch_words())
         for leaf, member in sorted((x, m) for m, x in self.server.group.leaf.items()): self.say('leaf', leaf, member)
 
-def run(words, script, disk, source_fails=(), sink_fails=()):
+def run(words, script, disk, source_fails=(), sink_fails=(), choose=None, gate=None):
     """Report, status, line, and the console itself."""
     sink = Sink(sink_fails)
-    console = Console(words, Source(script, source_fails), sink, disk)
+    console = Console(words, Source(script, source_fails), sink, disk, choose, gate)
     status, line = console.run()
     return bytes(sink.octets), status, line, console
+
+def every_run(words, script, disk, source_fails=(), sink_fails=(), due=0):
+    """What each order of steps gives: report, status, line, console and disk, by turns."""
+    choose = Choices()
+    while choose:
+        left = copy.deepcopy(disk)
+        yield *run(words, script, left, source_fails, sink_fails, choose, Gate(due)), left
+        choose = choose.next()
 
 # ------------------------------------------------------------------------------------------------------------ rows
 
@@ -1117,34 +1248,79 @@ def told(detail, report, status, line, image):
     if detail == 'outline': text = re.sub(r'(?m)^(push \S+ \S+ ).*$', r'\1#', text)
     return text + ended + 'journal %d %s\n' % (len(image), image.hex() or '-')
 
+class Case:
+    """What is said so far of the next run, and each disk that the last one may have left, with how many batches were reported then."""
+    def __init__(self, disk):
+        self.left, self.gate = [(disk, 0)], None
+        self.begin_anew()
+
+    def begin_anew(self): self.words, self.script, self.source, self.sink, self.due = [], b'', [], [], []
+
+    def run(self):
+        """Each outcome once: how many batches were reported before it, report, status, line and disk."""
+        found = {}
+        for disk, before in self.left:
+            for report, status, line, console, left in every_run(self.words, self.script, disk, self.source, self.sink, self.gate or 0):
+                self.passed = console.gate                      # (whatever the order was, it is told alike)
+                found[before, report, status, line, bytes(left.image), left.synced, repr(left.unsynced)] = before, report, status, line, left
+        self.begin_anew()
+        self.left = [(left, report.count(b'\nepoch ')) for _, report, _, _, left in found.values()]
+        return list(found.values())
+
+    def told_gate(self):
+        gate = self.passed
+        numbers = ''.join(' %d' % it for it in sorted(set(gate.reached)))
+        return 'reached%s calls %d met %d first %s\n' % (numbers, len(gate.reached), gate.met, 'met' if gate.pair else 'apart')
+
+    def crash(self, choice): self.left = [(disk.crashed(choice), batches) for disk, batches in self.left]
+
+def told_so(detail, before, report, status, line, left):
+    """An outcome as crates/case_consoles tells it in this detail."""
+    if detail == 'batches':
+        refused = report.count(b'\nbatch refused ')
+        return 'batches %d refused %d\nstatus %d line %d\n' % (report.count(b'\nepoch '), refused, status, line)
+    if detail == 'kept':
+        opened = re.match(rb'open depth \d+ epoch (\d+) ', report)
+        return 'kept\n' if opened and 0 <= int(opened[1]) - before <= 1 else 'lost\n'
+    return told(detail, report, status, line, bytes(left.image))
+
+def hashes_due(outcomes):
+    return sorted({sha256(told_so('octets', *it).encode()).hex() for it in outcomes})
+
 def answer_cases(lines):
-    out, disk, asked = [], Disk(), None
-    def anew(): return dict(words=[], script=b'', source=[], sink=[])
-    asked = anew()
+    """The answers to a file of cases, and the file with the lines `due` that its runs want."""
+    out, asked, case = [], [], Case(Disk())
     for line in lines:
         line = line.rstrip('\n')
-        if line.startswith('> '):
-            asked['script'] += line[2:].encode() + b'\n'
-            continue
-        word, *rest = line.split()
-        if word == 'case': disk, asked = Disk(), anew(); out.append('case %s\n' % rest[0])
-        elif word == 'faults': disk = Disk(fails=map(int, rest))
-        elif word == 'disk': disk = Disk(bytes.fromhex(rest[0].replace('-', '')))
-        elif word in ('source', 'sink'): asked[word] = list(map(int, rest))
-        elif word == 'words': asked['words'] = rest
-        elif word == 'crash': disk = disk.crashed(int(rest[0]))
-        elif word == 'trial': out.append('trial %s holds\n' % rest[0])      # of the program itself
+        word, *rest = line.split() or ['']
+        if word == 'run' and rest[0] == 'due':
+            given, outcomes = case.due, case.run()
+            due = hashes_due(outcomes)
+            out.append('due\n' if given == due else 'not due\n')
+            asked += ['due %s' % it for it in due]
         elif word == 'run':
-            report, status, at, _ = run(asked['words'], asked['script'], disk, asked['source'], asked['sink'])
-            out.append(told(rest[0], report, status, at, bytes(disk.image)))
-            asked = anew()
+            answers = {told_so(rest[0], *it) for it in case.run()}
+            assert len(answers) == 1, (line, answers)            # whatever the order was
+            out.append(answers.pop())
+        elif line.startswith('> '): case.script += line[2:].encode() + b'\n'
+        elif word == 'case': case = Case(Disk()); out.append('case %s\n' % rest[0])
+        elif word == 'faults': case.left = [(Disk(fails=map(int, rest)), 0)]
+        elif word == 'disk': case.left = [(Disk(bytes.fromhex(rest[0].replace('-', ''))), 0)]
+        elif word in ('source', 'sink'): setattr(case, word, list(map(int, rest)))
+        elif word == 'words': case.words = rest
+        elif word == 'gate': case.gate = int(rest[0])            # the calls that wait, and how often each of them looks
+        elif word == 'due': case.due.append(rest[0])
+        elif word == 'crash': case.crash(int(rest[0]))
+        elif word == 'reached': out.append(case.told_gate())
+        elif word == 'trial': out.append('trial %s holds\n' % rest[0])      # of the program itself
         else: raise ValueError(line)
-    return ''.join(out)
+        if word != 'due': asked.append(line)
+    return ''.join(out), ''.join(line + '\n' for line in asked)
 
 # --------------------------------------------------------------------------------------------------- drawn scripts
 
 FAULTY = ['join A', 'batch x', 'deliver a0', 'derive 1', 'jump', 'show\t', 'leave', 'key a0 a1', 'derive 4294967296 a0',
-          'join ' + 33 * 'a', 'now', 'end', 'derive 1 a a a a a a a a a', 'allow', 'deny a**', 'deliver a0 1 2', '# ' + 199 * 'x']
+          'join ' + 33 * 'a', 'now 1', 'end', 'together x', 'derive 1 a a a a a a a a a', 'allow', 'deny a**', 'deliver a0 1 2', '# ' + 199 * 'x']
 IDLE = ['', '  ', '# batch', '  #', '#batch \t\r', ' batch ', '  show', 'deliver-all  ']
 
 def drawn_lines(rng, console, count):
@@ -1179,8 +1355,17 @@ def drawn_lines(rng, console, count):
                                                         for _ in range(rng.choice([1, 1, 1, 2, 3, 8]))))]
         if kind == 'rule': return [rng.choice(['allow ', 'deny ']) + rng.choice(pool + ['*', 'a*', 'b0*', 'c*'])]
         if kind == 'idle': return [rng.choice(IDLE)]
+        if kind == 'block': return ['together', *block(), 'end']
         return [kind]
-    kinds = {'join': 24, 'again': 7, 'lose': 4, 'lost': 4, 'leave': 11, 'batch': 14, 'deliver': 8, 'pair': 5, 'deliver-all': 6,
+    def block():
+        lines, named = [], set()
+        while not lines or rng.random() < 0.8:
+            word, name = rng.choice([('join', absent()), ('join', known()), ('again', known()), ('leave', present()), ('batch', ''), ('now', '')])
+            if name in named: continue
+            if name: named.add(name)
+            lines.append((word + ' ' + name).strip())
+        return lines
+    kinds = {'now': 2, 'block': 12 if console.workers == 1 else 0, 'join': 24, 'again': 7, 'lose': 4, 'lost': 4, 'leave': 11, 'batch': 14, 'deliver': 8, 'pair': 5, 'deliver-all': 6,
              'key': 6, 'derive': 6, 'show': 4, 'rule': 1, 'halt': 1, 'reopen': 1, 'idle': 1}
     lines = []
     def add(line):
@@ -1283,7 +1468,8 @@ def main(words):
     if words[:1] == ['--rows']:
         rows = sorted(f[:-len('.case.json')] for f in os.listdir(words[1]) if f.endswith('.case.json'))
         sys.exit(print_rows(words[1], rows) != 0)
-    if words[:1] == ['--cases']: return sys.stdout.write(answer_cases(sys.stdin))
+    if words[:1] == ['--cases']: return sys.stdout.write(answer_cases(sys.stdin)[0])
+    if words[:1] == ['--due']: return sys.stdout.write(answer_cases(sys.stdin)[1])
     if words[:1] == ['--drawn']: return write_drawn(int(words[1]), int(words[2]), words[3])
     if words[:1] == ['--program']: sys.exit(compare_program(words[1], words[2]) != 0)
     script = sys.stdin.buffer.read() if read_words(words) is not None else b''

@@ -5,7 +5,8 @@
 
 A first run counts the allocations; then one of them is refused in each run, on a new folder. A run has to end with status 5, or with 0, where the program can do without what
 was refused. What it reports is the report of the first run from its start, up to a line that says that memory ran out, or to the end; and the group that it left, if it
-reported one, opens with each batch that it reported. It prints how many runs ended with each status. It needs cc.
+reported one, opens with each batch that it reported. It prints how many runs ended with each status. It needs cc. Where the script has a block of lines, the report of a run
+with status 5 is the same up to the block; from there on what it tells of each member, of the batches and of the looks is what the first run does, up to some line of these.
 
 With `--blocks` the program is `case_blocks`, and what is refused is an allocation of a run with a block of eight joins by so many workers, 1, 2 and 4 if none are
 named. After it comes a batch, and then the eight join once more. The block tells that memory was short, or it did all; and whoever is a member then, which the second
@@ -34,6 +35,35 @@ def is_front(report, whole):
     lines, due = report.splitlines(keepends=True), whole.splitlines(keepends=True)
     same = next((i for i, (one, other) in enumerate(zip(lines, due)) if one != other), min(len(lines), len(due)))
     return SHORT.fullmatch(b"".join(lines[same:])) is not None
+
+
+def told_of(lines):
+    """What lines tell of each member, and of all else by its first word, without octets and leaves: these depend on the order of turns."""
+    told = collections.defaultdict(list)
+    for line in lines:
+        words = line.decode().split()
+        if words[0] in ("second", "fourth", "leaf"):
+            member = words[1] if words[0] != "leaf" else words[2]
+            told[member].append(words[0])
+        elif words[0] in ("epoch", "wrap", "push", "batch", "now", "together", "group", "end"):
+            told[words[0]].append(" ".join(words[:3]))
+        else:
+            told[words[0]].append(" ".join(words[1:]))
+    return told
+
+
+def is_cut(report, whole, status):
+    """Whether a report is the whole one up to the first block, and tells from there on what that one does, up to some line of each member; all of it where the status is 0."""
+    lines, due = report.splitlines(keepends=True), whole.splitlines(keepends=True)
+    begun = next(i for i, line in enumerate(due) if line.startswith(b"together "))
+    if len(lines) <= begun or lines[:begun] != due[:begun] or not (report.endswith(b"\n") and lines[begun] == due[begun]):
+        return is_front(report, whole)
+    told, all_told = told_of(lines[begun:]), told_of(due[begun:])
+    if status == 0:
+        return told == all_told
+    ends = told.pop("end", ["end 5"])
+    cut = [own[:-1] if own and own[-1].endswith("refused no-memory") else own for own in told.values()]
+    return ends == ["end 5"] and all(own == all_told[name][: len(own)] for name, own in zip(told, cut))
 
 
 def last_epoch(report):
@@ -113,7 +143,8 @@ def console():
                 done = run([program, *words], script, folder, LD_PRELOAD=shim, REFUSED=str(number))
                 statuses[done.returncode] += 1
                 told = last_epoch(done.stdout)
-                if done.returncode not in (0, 5) or done.stderr or not is_front(done.stdout, first.stdout) or (told is not None and not is_kept(program, folder, told)):
+                fits = is_cut(done.stdout, first.stdout, done.returncode) if b"\ntogether " in first.stdout else is_front(done.stdout, first.stdout)
+                if done.returncode not in (0, 5) or done.stderr or not fits or (told is not None and not is_kept(program, folder, told)):
                     wrong += 1
                     print(f"allocation {number}: status {done.returncode}, {done.stdout[-200:]!r} {done.stderr!r}")
     print(f"{count} allocations, each refused in a run; runs by status: {dict(sorted(statuses.items()))}")
