@@ -145,19 +145,38 @@ impl<D: Disk, G: Signer, R: Draws> GroupRun<D, G, R> {
 fn make_ready(alloc: Global, members_place: u64) -> Result<(Ready, ShowRoom), NoMemory>
     ensures { IfOk result (λ made. made.0.members.place ≡ members_place) }
 {
-    let mut pushes = SentPushes::new(alloc);
-    pushes.reserve(2)?;
-    let members = Members::new(alloc, members_place)?;
-    let board = Board::new(alloc)?;
-    let mut entries = Log::of(List::new(alloc));
-    entries.reserve(1)?;
+    let room = ShowRoom::new(alloc)?;
+    let (pushes, entries) = make_notes(alloc)?;
+    let (members, board) = make_members(alloc, members_place)?;
     let ready = Ready {
         members,
         pushes,
         board,
         entries,
     };
-    Ok((ready, ShowRoom::new(alloc)?))
+    Ok((ready, room))
+}
+
+/// Room for the pushes and the entry of an opening.
+fn make_notes(alloc: Global) -> Result<(SentPushes, Log<Entry>), NoMemory>
+    ensures pushes { IfOk result (λ notes. (notes.0.items ≡ []) × (2 ≤ notes.0.spare)) }
+    ensures entries { IfOk result (λ notes. (notes.1.items ≡ []) × (1 ≤ notes.1.spare)) }
+{
+    let mut pushes = SentPushes::new(alloc);
+    pushes.reserve(2)?;
+    let mut entries = Log::of(List::new(alloc));
+    entries.reserve(1)?;
+    Ok((pushes, entries))
+}
+
+/// Nobody yet, and a board that showed nothing.
+fn make_members(alloc: Global, place: u64) -> Result<(Members, Board), NoMemory>
+    ensures members { IfOk result (λ made. (made.0.all ≡ []) × (made.0.place ≡ place)) }
+    ensures board { IfOk result (λ made. IsShown made.1 []) }
+{
+    let members = Members::new(alloc, place)?;
+    let board = Board::new(alloc)?;
+    Ok((members, board))
 }
 
 /// The answer of a server that was opened again, or not.

@@ -16,7 +16,5 @@ mod requests;
 mod running;
 mod seats;
 mod sittings;
-#[cfg(test)]
-mod tests;
 mod turns;
 mod workers;

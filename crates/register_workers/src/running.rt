@@ -204,9 +204,9 @@ pub(crate) fn run_line<
 >(
     rt: &T,
     floor: &Floor<'_, 'a, D, G, R, M, W>,
+    number: u64,
     pass: &mut Pass<DeskBook<'a, D, G, R, M>>,
     reader: &mut BoardPass,
-    number: u64,
     line: &mut BlockLine,
 ) -> bool
     requires own { (pass.old.desk ≡ floor.now.desk.now.id) × (reader.old.board ≡ floor.now.board.now) }

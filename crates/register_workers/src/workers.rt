@@ -91,7 +91,7 @@ fn run_lines<
     let mut memory = false;
     let mut number = first;
     while let Some(mut line) = due.pop() {
-        let short = run_line(rt, floor, pass, reader, number, &mut line);
+        let short = run_line(rt, floor, number, pass, reader, &mut line);
         memory |= short;
         number = number.saturating_add(floor.workers);
         done.push_reserved(line);
