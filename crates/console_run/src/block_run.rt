@@ -9,6 +9,7 @@ ghost use Rattle.run_report.specs.Reports.{Puts};
 ghost use Rattle.script_text.specs.Report.{entries_text};
 
 use crate::consoles::console_name;
+use crate::tools::Tools;
 use gd_disk::Disk;
 use gd_edges::{Draws, Signer, Sink, Verifier};
 use group_model::{Entry, NoMemory};
@@ -31,32 +32,35 @@ pub(crate) fn run_block<
     K: Sink,
     W: Gate + Sync,
 >(
-    rt: &T,
-    alloc: Global,
+    tools: &Tools<'_, T, V, W>,
     group: GroupRun<D, G, R>,
     asks: &[BlockAsk],
-    workers: u8,
-    _verifier: &V,
     peers: &mut P,
     out: &mut K,
-    gate: &W,
 ) -> (GroupRun<D, G, R>, Result<(), Stop>)
     requires asks { (1 ≤ length asks.now) × (length asks.now ≤ 512) }
     requires apart { AreAsked asks.now }
-    requires workers { (1 ≤ workers) × (workers ≤ 16) }
     requires rest { group.members.mail ≡ [] }
     requires place { P.place_of peers.old ≡ group.members.place }
-    ensures runs { RunsBlock (devices D.Disk G.Signer V.Verifier _verifier.now) R.Draws (drawn_by P.Draws peers.old)
-        (by_block (devices D.Disk G.Signer V.Verifier _verifier.now) workers asks.now)
-        (begun_by_block (devices D.Disk G.Signer V.Verifier _verifier.now) workers asks.now) result.1 group result.0 (K.shows out.old) (K.shows out.new) }
+    ensures runs { RunsBlock (devices D.Disk G.Signer V.Verifier tools.now.verifier.now) R.Draws (drawn_by P.Draws peers.old)
+        (by_block (devices D.Disk G.Signer V.Verifier tools.now.verifier.now) tools.now.workers asks.now)
+        (begun_by_block (devices D.Disk G.Signer V.Verifier tools.now.verifier.now) tools.now.workers asks.now) result.1 group result.0 (K.shows out.old) (K.shows out.new) }
     ensures place { OnOk result.1 (P.place_of peers.new ≡ result.0.members.place) }
     ensures blocks { (k : ℕ) → P.block_at peers.new k ≡ P.block_at peers.old k }
     ensures rules { OnOk result.1 (result.0.server.rules ≡ group.server.rules) }
     ensures rest { OnOk result.1 (result.0.members.mail ≡ []) }
 {
     let first = group.history().len();
-    let (group, ran) = group.block(rt, alloc, peers, &console_name(), asks, workers, gate);
-    match report_from(alloc, group.history(), first, out) {
+    let (group, ran) = group.block(
+        tools.rt,
+        tools.alloc,
+        peers,
+        &console_name(),
+        asks,
+        tools.workers,
+        tools.gate,
+    );
+    match report_from(tools.alloc, group.history(), first, out) {
         Ok(()) => {}
         Err(stop) => return (group, Err(stop)),
     }

@@ -16,6 +16,7 @@ ghost use Rattle.console_run.specs.Private.Runs.{Start, drawn_by};
 
 use crate::script_run::ScriptRun;
 use crate::soaks::run_soak;
+use crate::tools::Tools;
 use command_words::{Command, Opening, read_words, take_words};
 use gd_disk::Disk;
 use gd_edges::{Draws, Signer, Sink, Source, Verifier};
@@ -103,23 +104,26 @@ pub fn console<
     ensures blocks { (k : ℕ) → P.block_at peers.new k ≡ P.block_at peers.old k }
 {
     a_run_keeps_its_promises::<D, G, V>();
-    match read_words(words) {
-        Some(command) => {
-            let parts = Parts {
-                disk,
-                signer,
-                draws,
-            };
-            match command.opening {
-                Opening::Soak { number } => {
-                    run_soak(rt, alloc, number, words, out, parts, verifier, peers, gate)
-                }
-                Opening::New { .. } | Opening::Open => {
-                    run_words(rt, alloc, words, script, out, parts, verifier, peers, gate)
-                }
-            }
+    let Some(command) = read_words(words) else {
+        return end_without_group(alloc, disk, out);
+    };
+    let tools = Tools {
+        rt,
+        alloc,
+        workers: command.workers,
+        verifier,
+        gate,
+    };
+    let parts = Parts {
+        disk,
+        signer,
+        draws,
+    };
+    match command.opening {
+        Opening::Soak { number } => run_soak(&tools, number, words, out, parts, peers),
+        Opening::New { .. } | Opening::Open => {
+            run_words(&tools, words, script, out, parts, peers)
         }
-        None => end_without_group(alloc, disk, out),
     }
 }
 
@@ -167,28 +171,23 @@ pub(crate) fn run_words<
     P: Draws,
     W: Gate + Sync,
 >(
-    rt: &T,
-    alloc: Global,
+    tools: &Tools<'_, T, V, W>,
     words: &[String],
     script: &mut S,
     out: &mut K,
     parts: Parts<D, G, R>,
-    verifier: &V,
     peers: &mut P,
-    gate: &W,
 ) -> Finished<D>
     requires { IsSome (command_of (map string_bytes words.now)) }
     ensures runs { (command : Command) → command_of (map string_bytes words.now) ≡ Some command →
-        RunsScript (devices D.Disk G.Signer V.Verifier verifier.now) (keying parts.signer (R.block_at parts.draws) (P.block_at peers.old) console_name)
-        command.workers (request_of command.opening) (start_of command parts.disk (R.place_of parts.draws) (P.place_of peers.old))
+        RunsScript (devices D.Disk G.Signer V.Verifier tools.now.verifier.now) (keying parts.signer (R.block_at parts.draws) (P.block_at peers.old) console_name)
+        tools.now.workers (request_of command.opening) (start_of command parts.disk (R.place_of parts.draws) (P.place_of peers.old))
         (S.shows script.old) (S.shows script.new) (K.shows out.old) (K.shows out.new) result.ending result.history result.disk }
     ensures blocks { (k : ℕ) → P.block_at peers.new k ≡ P.block_at peers.old k }
 {
-    match take_words(alloc, words) {
-        Ok(command) => run_command(
-            rt, alloc, command, script, out, parts, verifier, peers, gate,
-        ),
-        Err(NoMemory) => end_unopened(alloc, List::new(alloc), parts.disk, out),
+    match take_words(tools.alloc, words) {
+        Ok(command) => run_command(tools, command, script, out, parts, peers),
+        Err(NoMemory) => end_unopened(tools.alloc, List::new(tools.alloc), parts.disk, out),
     }
 }
 
@@ -204,35 +203,22 @@ fn run_command<
     P: Draws,
     W: Gate + Sync,
 >(
-    rt: &T,
-    alloc: Global,
+    tools: &Tools<'_, T, V, W>,
     command: Command,
     script: &mut S,
     out: &mut K,
     parts: Parts<D, G, R>,
-    verifier: &V,
     peers: &mut P,
-    gate: &W,
 ) -> Finished<D>
     requires { IsWithin command }
-    ensures runs { RunsScript (devices D.Disk G.Signer V.Verifier verifier.now) (keying parts.signer (R.block_at parts.draws) (P.block_at peers.old) console_name)
-        command.workers (request_of command.opening) (start_of command parts.disk (R.place_of parts.draws) (P.place_of peers.old))
+    ensures runs { RunsScript (devices D.Disk G.Signer V.Verifier tools.now.verifier.now) (keying parts.signer (R.block_at parts.draws) (P.block_at peers.old) console_name)
+        tools.now.workers (request_of command.opening) (start_of command parts.disk (R.place_of parts.draws) (P.place_of peers.old))
         (S.shows script.old) (S.shows script.new) (K.shows out.old) (K.shows out.new) result.ending result.history result.disk }
     ensures blocks { (k : ℕ) → P.block_at peers.new k ≡ P.block_at peers.old k }
 {
-    match open_group(alloc, command, parts, peers.place()) {
-        Ok(group) => run_script(
-            rt,
-            alloc,
-            group,
-            script,
-            out,
-            command.workers,
-            verifier,
-            peers,
-            gate,
-        ),
-        Err(Unopened { history, parts }) => end_unopened(alloc, history, parts.disk, out),
+    match open_group(tools.alloc, command, parts, peers.place()) {
+        Ok(group) => run_script(tools, group, script, out, peers),
+        Err(Unopened { history, parts }) => { end_unopened(tools.alloc, history, parts.disk, out) }
     }
 }
 
@@ -303,31 +289,26 @@ fn run_script<
     P: Draws,
     W: Gate + Sync,
 >(
-    rt: &T,
-    alloc: Global,
+    tools: &Tools<'_, T, V, W>,
     group: GroupRun<D, G, R>,
     script: &mut S,
     out: &mut K,
-    workers: u8,
-    verifier: &V,
     peers: &mut P,
-    gate: &W,
 ) -> Finished<D>
-    requires workers { (1 ≤ workers) × (workers ≤ 16) }
     requires rest { group.members.mail ≡ [] }
     requires place { P.place_of peers.old ≡ group.members.place }
     requires rules { group.server.rules ≡ [] }
-    ensures runs { (start : Start D G) → start.was ≡ K.shows out.old → IsOpened (devices D.Disk G.Signer V.Verifier verifier.now) R.Draws
+    ensures runs { (start : Start D G) → start.was ≡ K.shows out.old → IsOpened (devices D.Disk G.Signer V.Verifier tools.now.verifier.now) R.Draws
         (drawn_by P.Draws peers.old) start group →
-        RunsScript (devices D.Disk G.Signer V.Verifier verifier.now) start.by workers start.request start.run
+        RunsScript (devices D.Disk G.Signer V.Verifier tools.now.verifier.now) start.by tools.now.workers start.request start.run
         (S.shows script.old) (S.shows script.new) (K.shows out.old) (K.shows out.new) result.ending result.history result.disk }
     ensures blocks { (k : ℕ) → P.block_at peers.new k ≡ P.block_at peers.old k }
 {
     let mut run = ScriptRun::begin(group);
-    let followed = run.follow(rt, alloc, script, workers, verifier, peers, out, gate);
+    let followed = run.follow(tools, script, peers, out);
     let line = run.line_number();
     let (history, disk) = take_apart(run);
-    end_script(alloc, followed, line, history, disk, out)
+    end_script(tools.alloc, followed, line, history, disk, out)
 }
 
 /// Takes a run apart into its history and its disk.

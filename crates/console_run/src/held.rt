@@ -1,8 +1,9 @@
 //! A group that is lent for a request, and handed over for a block.
-ghost use Rattle.std.specs.Prelude.{◌≡◌, true, is_some};
+ghost use Rattle.std.specs.Prelude.{◌≡◌, true, Some, is_some};
 
 use crate::block_run::run_block;
 use crate::line_run::run_line;
+use crate::tools::Tools;
 use gd_disk::Disk;
 use gd_edges::{Draws, Signer, Sink, Verifier};
 use group_run::GroupRun;
@@ -82,7 +83,7 @@ impl<D: Disk + Drop, G: Signer + Drop, R: Draws + Drop> Held<D, G, R> {
     {
         let mut group = self.group.take().unwrap();
         let ran = run_line(alloc, line, &mut group, verifier, peers, out);
-        self.group = Some(group);
+        put_back(&mut self.group, group);
         ran
     }
 }
@@ -103,31 +104,36 @@ impl<D: Disk + Send + Drop, G: Signer + Send + Drop, R: Draws + Send + Drop> Hel
         W: Gate + Sync,
     >(
         &mut self,
-        rt: &T,
-        alloc: Global,
+        tools: &Tools<'_, T, V, W>,
         asks: &[BlockAsk],
-        workers: u8,
-        verifier: &V,
         peers: &mut P,
         out: &mut K,
-        gate: &W,
     ) -> Result<(), Stop>
         requires asks { (1 ≤ length asks.now) × (length asks.now ≤ 512) }
         requires apart { AreAsked asks.now }
-        requires workers { (1 ≤ workers) × (workers ≤ 16) }
         requires rest { self.old.members.mail ≡ [] }
         requires place { P.place_of peers.old ≡ self.old.members.place }
-        ensures runs { RunsBlock (devices D.Disk G.Signer V.Verifier verifier.now) R.Draws (drawn_by P.Draws peers.old)
-            (by_block (devices D.Disk G.Signer V.Verifier verifier.now) workers asks.now)
-            (begun_by_block (devices D.Disk G.Signer V.Verifier verifier.now) workers asks.now) result self.old self.new (K.shows out.old) (K.shows out.new) }
+        ensures runs { RunsBlock (devices D.Disk G.Signer V.Verifier tools.now.verifier.now) R.Draws (drawn_by P.Draws peers.old)
+            (by_block (devices D.Disk G.Signer V.Verifier tools.now.verifier.now) tools.now.workers asks.now)
+            (begun_by_block (devices D.Disk G.Signer V.Verifier tools.now.verifier.now) tools.now.workers asks.now) result self.old self.new (K.shows out.old) (K.shows out.new) }
         ensures place { OnOk result (P.place_of peers.new ≡ self.new.members.place) }
         ensures blocks { (k : ℕ) → P.block_at peers.new k ≡ P.block_at peers.old k }
         ensures rules { OnOk result (self.new.server.rules ≡ self.old.server.rules) }
         ensures rest { OnOk result (self.new.members.mail ≡ []) }
     {
         let group = self.group.take().unwrap();
-        let (group, ran) = run_block(rt, alloc, group, asks, workers, verifier, peers, out, gate);
-        self.group = Some(group);
+        let (group, ran) = run_block(tools, group, asks, peers, out);
+        put_back(&mut self.group, group);
         ran
     }
+}
+
+/// Puts a group where one is missing.
+fn put_back<D: Disk + Drop, G: Signer + Drop, R: Draws + Drop>(
+    place: &mut Option<GroupRun<D, G, R>>,
+    group: GroupRun<D, G, R>,
+)
+    ensures { place.new ≡ Some group }
+{
+    drop(place.replace(group));
 }

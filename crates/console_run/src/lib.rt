@@ -8,6 +8,7 @@ mod line_run;
 mod open_blocks;
 mod script_run;
 mod soaks;
+mod tools;
 
 pub use consoles::{console, seed_of};
 pub use run_report::{Ending, Finished};

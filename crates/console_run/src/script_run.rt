@@ -11,6 +11,7 @@ ghost use Rattle.console_run.specs.Private.Runs.{AreFine, Ends, GoesOn, IsFine, 
 use crate::held::Held;
 use crate::line_run::report_last;
 use crate::open_blocks::{OpenBlock, ask_of};
+use crate::tools::Tools;
 use arrayvec::ArrayVec;
 use gd_disk::Disk;
 use gd_edges::{Draws, Failed, Signer, Sink, Source, Verifier};
@@ -18,7 +19,6 @@ use group_model::NoMemory;
 use group_run::GroupRun;
 use run_report::Stop;
 use script_text::{Line, MOST_LINE_OCTETS, read_line};
-use std::alloc::Global;
 use std::sync::Wait;
 use std::thread::Threads;
 use work_shares::Gate;
@@ -79,22 +79,17 @@ impl<D: Disk + Send + Drop, G: Signer + Send + Drop, R: Draws + Send + Drop> Scr
     /// Runs the present line, where it stands.
     fn run_line<T: Threads + Wait + Sync, V: Verifier, P: Draws, K: Sink, W: Gate + Sync>(
         &mut self,
-        rt: &T,
-        alloc: Global,
-        workers: u8,
-        verifier: &V,
+        tools: &Tools<'_, T, V, W>,
         peers: &mut P,
         out: &mut K,
-        gate: &W,
     ) -> Result<(), Stop>
-        requires workers { (1 ≤ workers) × (workers ≤ 16) }
         requires ready { IsReady (at self.old (K.shows out.old) (drawn_by P.Draws peers.old)) }
         requires room { self.old.count < most_lines }
         ensures ok { OnOk result (RunsThere D.Disk R.Draws (drawn_by P.Draws peers.old)
-            (by_text (devices D.Disk G.Signer V.Verifier verifier.now) workers (open_of self.old.block) self.old.line.items (open_of self.new.block))
+            (by_text (devices D.Disk G.Signer V.Verifier tools.now.verifier.now) tools.now.workers (open_of self.old.block) self.old.line.items (open_of self.new.block))
             self.old.group self.new.group (K.shows out.old) (K.shows out.new)) }
         ensures stops { IfErr result (λ stop. StopsThere D.Disk R.Draws (drawn_by P.Draws peers.old)
-            (begun_by_text (devices D.Disk G.Signer V.Verifier verifier.now) workers (open_of self.old.block) self.old.line.items) stop
+            (begun_by_text (devices D.Disk G.Signer V.Verifier tools.now.verifier.now) tools.now.workers (open_of self.old.block) self.old.line.items) stop
             self.old.group self.new.group (K.shows out.old) (K.shows out.new)) }
         ensures faulty { result ≡ Err Stop.Line → after_text (open_of self.old.block) self.old.line.items ≡ None }
         ensures other { result ≡ Err Stop.Source → ⊥ }
@@ -111,20 +106,16 @@ impl<D: Disk + Send + Drop, G: Signer + Send + Drop, R: Draws + Send + Drop> Scr
             return Err(Stop::Line);
         };
         match self.block.take() {
-            Some(block) => {
-                self.run_inside(rt, alloc, block, line, workers, verifier, peers, out, gate)
-            }
-            None => self.run_outside(alloc, line, workers, verifier, peers, out),
+            Some(block) => { self.run_inside(tools, block, line, peers, out) }
+            None => self.run_outside(tools, line, peers, out),
         }
     }
 
     /// Runs a line outside a block.
-    fn run_outside<V: Verifier, P: Draws, K: Sink>(
+    fn run_outside<T, V: Verifier, P: Draws, K: Sink, W>(
         &mut self,
-        alloc: Global,
+        tools: &Tools<'_, T, V, W>,
         line: Line,
-        workers: u8,
-        verifier: &V,
         peers: &mut P,
         out: &mut K,
     ) -> Result<(), Stop>
@@ -133,7 +124,7 @@ impl<D: Disk + Send + Drop, G: Signer + Send + Drop, R: Draws + Send + Drop> Scr
         requires rest { self.old.group.members.mail ≡ [] }
         requires place { P.place_of peers.old ≡ self.old.group.members.place }
         requires rules { length self.old.group.server.rules < most_lines }
-        ensures runs { RunsLineAt (devices D.Disk G.Signer V.Verifier verifier.now) R.Draws (drawn_by P.Draws peers.old) workers None line
+        ensures runs { RunsLineAt (devices D.Disk G.Signer V.Verifier tools.now.verifier.now) R.Draws (drawn_by P.Draws peers.old) tools.now.workers None line
             (open_of self.new.block) result self.old.group self.new.group (K.shows out.old) (K.shows out.new) }
         ensures placed { OnOk result (IsPlaced self.old.count None self.new.block) }
         ensures block { OnOk result (AreFine (self.old.count + 1) self.new.block) }
@@ -146,33 +137,30 @@ impl<D: Disk + Send + Drop, G: Signer + Send + Drop, R: Draws + Send + Drop> Scr
     {
         match line {
             Line::Together => {
-                self.block = Some(OpenBlock::begin(alloc, self.count));
+                self.block = Some(OpenBlock::begin(tools.alloc, self.count));
                 Ok(())
             }
             Line::End => Err(Stop::Line),
-            line => self.group.run_line(alloc, line, verifier, peers, out),
+            line => self
+                .group
+                .run_line(tools.alloc, line, tools.verifier, peers, out),
         }
     }
 
     /// Takes a line into the block that is open. The line that ends it runs it.
     fn run_inside<T: Threads + Wait + Sync, V: Verifier, P: Draws, K: Sink, W: Gate + Sync>(
         &mut self,
-        rt: &T,
-        alloc: Global,
+        tools: &Tools<'_, T, V, W>,
         mut block: OpenBlock,
         line: Line,
-        workers: u8,
-        verifier: &V,
         peers: &mut P,
         out: &mut K,
-        gate: &W,
     ) -> Result<(), Stop>
-        requires workers { (1 ≤ workers) × (workers ≤ 16) }
         requires state { self.old.block ≡ None }
         requires block { IsFine self.old.count block }
         requires rest { self.old.group.members.mail ≡ [] }
         requires place { P.place_of peers.old ≡ self.old.group.members.place }
-        ensures runs { RunsLineAt (devices D.Disk G.Signer V.Verifier verifier.now) R.Draws (drawn_by P.Draws peers.old) workers (Some block.asks) line
+        ensures runs { RunsLineAt (devices D.Disk G.Signer V.Verifier tools.now.verifier.now) R.Draws (drawn_by P.Draws peers.old) tools.now.workers (Some block.asks) line
             (open_of self.new.block) result self.old.group self.new.group (K.shows out.old) (K.shows out.new) }
         ensures placed { OnOk result (IsPlaced self.old.count (Some block) self.new.block) }
         ensures block { OnOk result (AreFine (self.old.count + 1) self.new.block) }
@@ -193,8 +181,7 @@ impl<D: Disk + Send + Drop, G: Signer + Send + Drop, R: Draws + Send + Drop> Scr
                     return Err(Stop::Line);
                 }
                 let asks = block.asks.as_slice();
-                self.group
-                    .run_block(rt, alloc, asks, workers, verifier, peers, out, gate)
+                self.group.run_block(tools, asks, peers, out)
             }
             line => {
                 let Some(ask) = ask_of(&line) else {
@@ -214,24 +201,19 @@ impl<D: Disk + Send + Drop, G: Signer + Send + Drop, R: Draws + Send + Drop> Scr
     /// Takes one octet. The line that it ends is run.
     fn take_octet<T: Threads + Wait + Sync, V: Verifier, P: Draws, K: Sink, W: Gate + Sync>(
         &mut self,
-        rt: &T,
-        alloc: Global,
+        tools: &Tools<'_, T, V, W>,
         octet: u8,
-        workers: u8,
-        verifier: &V,
         peers: &mut P,
         out: &mut K,
-        gate: &W,
     ) -> Result<(), Stop>
-        requires workers { (1 ≤ workers) × (workers ≤ 16) }
         requires ready { IsReady (at self.old (K.shows out.old) (drawn_by P.Draws peers.old)) }
         ensures ready { OnOk result (IsReady (at self.new (K.shows out.new) (drawn_by P.Draws peers.new))) }
-        ensures goes { OnOk result (GoesOn (devices D.Disk G.Signer V.Verifier verifier.now) R.Draws workers (octet ∷ [])
+        ensures goes { OnOk result (GoesOn (devices D.Disk G.Signer V.Verifier tools.now.verifier.now) R.Draws tools.now.workers (octet ∷ [])
             (at self.old (K.shows out.old) (drawn_by P.Draws peers.old)) (at self.new (K.shows out.new) (drawn_by P.Draws peers.new))) }
         ensures nearer { OnOk result (room_left (at self.new (K.shows out.new) (drawn_by P.Draws peers.new)) < room_left
             (at self.old (K.shows out.old) (drawn_by P.Draws peers.old))) }
         ensures count { self.new.count ≤ most_lines }
-        ensures stops { IfErr result (λ stop. StopsAt (devices D.Disk G.Signer V.Verifier verifier.now) R.Draws workers octet stop
+        ensures stops { IfErr result (λ stop. StopsAt (devices D.Disk G.Signer V.Verifier tools.now.verifier.now) R.Draws tools.now.workers octet stop
             (at self.old (K.shows out.old) (drawn_by P.Draws peers.old)) (at self.new (K.shows out.new) (drawn_by P.Draws peers.new))) }
         ensures other { result ≡ Err Stop.Source → ⊥ }
         ensures blocks { (k : ℕ) → P.block_at peers.new k ≡ P.block_at peers.old k }
@@ -240,7 +222,7 @@ impl<D: Disk + Send + Drop, G: Signer + Send + Drop, R: Draws + Send + Drop> Scr
             return Err(Stop::Line);
         }
         if octet == b'\n' {
-            self.run_line(rt, alloc, workers, verifier, peers, out, gate)?;
+            self.run_line(tools, peers, out)?;
             self.line.clear();
             self.count += 1;
             return Ok(());
@@ -255,32 +237,27 @@ impl<D: Disk + Send + Drop, G: Signer + Send + Drop, R: Draws + Send + Drop> Scr
     /// Takes a piece of the script.
     fn take_piece<T: Threads + Wait + Sync, V: Verifier, P: Draws, K: Sink, W: Gate + Sync>(
         &mut self,
-        rt: &T,
-        alloc: Global,
+        tools: &Tools<'_, T, V, W>,
         piece: &[u8],
-        workers: u8,
-        verifier: &V,
         peers: &mut P,
         out: &mut K,
-        gate: &W,
     ) -> Result<(), Stop>
         requires short { length piece.now ≤ longest_piece }
-        requires workers { (1 ≤ workers) × (workers ≤ 16) }
         requires ready { IsReady (at self.old (K.shows out.old) (drawn_by P.Draws peers.old)) }
         ensures ready { OnOk result (IsReady (at self.new (K.shows out.new) (drawn_by P.Draws peers.new))) }
-        ensures goes { OnOk result (GoesOn (devices D.Disk G.Signer V.Verifier verifier.now) R.Draws workers piece.now
+        ensures goes { OnOk result (GoesOn (devices D.Disk G.Signer V.Verifier tools.now.verifier.now) R.Draws tools.now.workers piece.now
             (at self.old (K.shows out.old) (drawn_by P.Draws peers.old)) (at self.new (K.shows out.new) (drawn_by P.Draws peers.new))) }
         ensures nearer { OnOk result (room_left (at self.new (K.shows out.new) (drawn_by P.Draws peers.new)) + length piece.now ≤ room_left
             (at self.old (K.shows out.old) (drawn_by P.Draws peers.old))) }
         ensures count { self.new.count ≤ most_lines }
-        ensures stops { IfErr result (λ stop. StopsWithin (devices D.Disk G.Signer V.Verifier verifier.now) R.Draws workers piece.now stop
+        ensures stops { IfErr result (λ stop. StopsWithin (devices D.Disk G.Signer V.Verifier tools.now.verifier.now) R.Draws tools.now.workers piece.now stop
             (at self.old (K.shows out.old) (drawn_by P.Draws peers.old)) (at self.new (K.shows out.new) (drawn_by P.Draws peers.new))) }
         ensures other { result ≡ Err Stop.Source → ⊥ }
         ensures octets { are_octets piece.now ≡ true }
         ensures blocks { (k : ℕ) → P.block_at peers.new k ≡ P.block_at peers.old k }
     {
         for octet in piece {
-            self.take_octet(rt, alloc, *octet, workers, verifier, peers, out, gate)?;
+            self.take_octet(tools, *octet, peers, out)?;
         }
         Ok(())
     }
@@ -295,26 +272,21 @@ impl<D: Disk + Send + Drop, G: Signer + Send + Drop, R: Draws + Send + Drop> Scr
         W: Gate + Sync,
     >(
         &mut self,
-        rt: &T,
-        alloc: Global,
+        tools: &Tools<'_, T, V, W>,
         script: &mut S,
         buffer: &mut [u8],
-        workers: u8,
-        verifier: &V,
         peers: &mut P,
         out: &mut K,
-        gate: &W,
     ) -> Result<(), Stop>
         requires buffer { 0 < length buffer.old }
         requires short { length buffer.old ≤ longest_piece }
-        requires workers { (1 ≤ workers) × (workers ≤ 16) }
         requires ready { IsReady (at self.old (K.shows out.old) (drawn_by P.Draws peers.old)) }
         ensures ready { OnOk result (IsReady (at self.new (K.shows out.new) (drawn_by P.Draws peers.new))) }
-        ensures goes { OnOk result (TakesAndGoesOn (devices D.Disk G.Signer V.Verifier verifier.now) R.Draws workers
+        ensures goes { OnOk result (TakesAndGoesOn (devices D.Disk G.Signer V.Verifier tools.now.verifier.now) R.Draws tools.now.workers
             (S.shows script.old) (S.shows script.new) (at self.old (K.shows out.old) (drawn_by P.Draws peers.old))
             (at self.new (K.shows out.new) (drawn_by P.Draws peers.new))) }
         ensures count { self.new.count ≤ most_lines }
-        ensures stops { IfErr result (λ stop. TakesAndStops (devices D.Disk G.Signer V.Verifier verifier.now) R.Draws workers stop
+        ensures stops { IfErr result (λ stop. TakesAndStops (devices D.Disk G.Signer V.Verifier tools.now.verifier.now) R.Draws tools.now.workers stop
             (S.shows script.old) (S.shows script.new) (at self.old (K.shows out.old) (drawn_by P.Draws peers.old))
             (at self.new (K.shows out.new) (drawn_by P.Draws peers.new))) }
         ensures blocks { (k : ℕ) → P.block_at peers.new k ≡ P.block_at peers.old k }
@@ -328,7 +300,7 @@ impl<D: Disk + Send + Drop, G: Signer + Send + Drop, R: Draws + Send + Drop> Scr
                 return Ok(());
             }
             let (piece, _) = buffer.split_at(n);
-            self.take_piece(rt, alloc, piece, workers, verifier, peers, out, gate)?;
+            self.take_piece(tools, piece, peers, out)?;
         }
     }
 
@@ -346,20 +318,15 @@ impl<D: Disk + Send + Drop, G: Signer + Send + Drop, R: Draws + Send + Drop> Scr
     /// Runs the last line, where the script ends in the middle of it.
     fn finish<T: Threads + Wait + Sync, V: Verifier, P: Draws, K: Sink, W: Gate + Sync>(
         &mut self,
-        rt: &T,
-        alloc: Global,
-        workers: u8,
-        verifier: &V,
+        tools: &Tools<'_, T, V, W>,
         peers: &mut P,
         out: &mut K,
-        gate: &W,
     ) -> Result<(), Stop>
-        requires workers { (1 ≤ workers) × (workers ≤ 16) }
         requires ready { IsReady (at self.old (K.shows out.old) (drawn_by P.Draws peers.old)) }
-        ensures ends { OnOk result (Ends (devices D.Disk G.Signer V.Verifier verifier.now) R.Draws workers
+        ensures ends { OnOk result (Ends (devices D.Disk G.Signer V.Verifier tools.now.verifier.now) R.Draws tools.now.workers
             (at self.old (K.shows out.old) (drawn_by P.Draws peers.old)) (at self.new (K.shows out.new) (drawn_by P.Draws peers.new))) }
         ensures count { self.new.count ≤ most_lines }
-        ensures stops { IfErr result (λ stop. StopsAtEnd (devices D.Disk G.Signer V.Verifier verifier.now) R.Draws workers stop
+        ensures stops { IfErr result (λ stop. StopsAtEnd (devices D.Disk G.Signer V.Verifier tools.now.verifier.now) R.Draws tools.now.workers stop
             (at self.old (K.shows out.old) (drawn_by P.Draws peers.old)) (at self.new (K.shows out.new) (drawn_by P.Draws peers.new))) }
         ensures other { result ≡ Err Stop.Source → ⊥ }
         ensures blocks { (k : ℕ) → P.block_at peers.new k ≡ P.block_at peers.old k }
@@ -367,7 +334,7 @@ impl<D: Disk + Send + Drop, G: Signer + Send + Drop, R: Draws + Send + Drop> Scr
         if self.line.is_empty() {
             return self.end();
         }
-        self.run_line(rt, alloc, workers, verifier, peers, out, gate)?;
+        self.run_line(tools, peers, out)?;
         self.end()
     }
 
@@ -381,16 +348,11 @@ impl<D: Disk + Send + Drop, G: Signer + Send + Drop, R: Draws + Send + Drop> Scr
         W: Gate + Sync,
     >(
         &mut self,
-        rt: &T,
-        alloc: Global,
+        tools: &Tools<'_, T, V, W>,
         script: &mut S,
-        workers: u8,
-        verifier: &V,
         peers: &mut P,
         out: &mut K,
-        gate: &W,
     ) -> Result<(), Stop>
-        requires workers { (1 ≤ workers) × (workers ≤ 16) }
         requires state { self.old.block ≡ None }
         requires line { self.old.line.items ≡ [] }
         requires count { self.old.count ≡ 0 }
@@ -398,29 +360,19 @@ impl<D: Disk + Send + Drop, G: Signer + Send + Drop, R: Draws + Send + Drop> Scr
         requires place { P.place_of peers.old ≡ self.old.group.members.place }
         requires rules { self.old.group.server.rules ≡ [] }
         ensures ok { OnOk result ((start : Start D G) → start.was ≡ K.shows out.old →
-            IsOpened (devices D.Disk G.Signer V.Verifier verifier.now) R.Draws (drawn_by P.Draws peers.old) start self.old.group →
-            IsRunTo (devices D.Disk G.Signer V.Verifier verifier.now) R.Draws workers Whole start
+            IsOpened (devices D.Disk G.Signer V.Verifier tools.now.verifier.now) R.Draws (drawn_by P.Draws peers.old) start self.old.group →
+            IsRunTo (devices D.Disk G.Signer V.Verifier tools.now.verifier.now) R.Draws tools.now.workers Whole start
             (S.shows script.old) (S.shows script.new) (at self.new (K.shows out.new) (drawn_by P.Draws peers.new))) }
         ensures count { self.new.count ≤ most_lines }
         ensures stops { IfErr result (λ stop. (start : Start D G) → start.was ≡ K.shows out.old →
-            IsOpened (devices D.Disk G.Signer V.Verifier verifier.now) R.Draws (drawn_by P.Draws peers.old) start self.old.group →
-            IsRunUntil (devices D.Disk G.Signer V.Verifier verifier.now) R.Draws workers stop start
+            IsOpened (devices D.Disk G.Signer V.Verifier tools.now.verifier.now) R.Draws (drawn_by P.Draws peers.old) start self.old.group →
+            IsRunUntil (devices D.Disk G.Signer V.Verifier tools.now.verifier.now) R.Draws tools.now.workers stop start
             (S.shows script.old) (S.shows script.new) (at self.new (K.shows out.new) (drawn_by P.Draws peers.new))) }
         ensures blocks { (k : ℕ) → P.block_at peers.new k ≡ P.block_at peers.old k }
     {
-        report_last(alloc, self.group.get(), out)?;
-        let mut buffer = vec![in alloc; 0; PIECE].map_err(NoMemory::from)?;
-        self.take_script(
-            rt,
-            alloc,
-            script,
-            &mut buffer,
-            workers,
-            verifier,
-            peers,
-            out,
-            gate,
-        )?;
-        self.finish(rt, alloc, workers, verifier, peers, out, gate)
+        report_last(tools.alloc, self.group.get(), out)?;
+        let mut buffer = vec![in tools.alloc; 0; PIECE].map_err(NoMemory::from)?;
+        self.take_script(tools, script, &mut buffer, peers, out)?;
+        self.finish(tools, peers, out)
     }
 }

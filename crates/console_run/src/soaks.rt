@@ -8,6 +8,7 @@ ghost use Rattle.console_run.specs.Promises.{request_of, start_of};
 ghost use Rattle.console_run.specs.Private.Follows.{RunsSoak};
 
 use crate::consoles::run_words;
+use crate::tools::Tools;
 use gd_disk::Disk;
 use gd_edges::{Draws, Failed, Signer, Sink, Source, TextSource, Verifier};
 use group_model::{List, NoMemory, Octets};
@@ -93,42 +94,34 @@ pub(crate) fn run_soak<
     P: Draws,
     W: Gate + Sync,
 >(
-    rt: &T,
-    alloc: Global,
+    tools: &Tools<'_, T, V, W>,
     number: u64,
     words: &[String],
     out: &mut K,
     parts: Parts<D, G, R>,
-    verifier: &V,
     peers: &mut P,
-    gate: &W,
 ) -> Finished<D>
     requires { IsSome (command_of (map string_bytes words.now)) }
     ensures runs { (command : Command) → command_of (map string_bytes words.now) ≡ Some command →
-        RunsSoak (devices D.Disk G.Signer V.Verifier verifier.now) (keying parts.signer (R.block_at parts.draws) (P.block_at peers.old) console_name)
-        command.workers number (request_of command.opening) (start_of command parts.disk (R.place_of parts.draws) (P.place_of peers.old))
+        RunsSoak (devices D.Disk G.Signer V.Verifier tools.now.verifier.now) (keying parts.signer (R.block_at parts.draws) (P.block_at peers.old) console_name)
+        tools.now.workers number (request_of command.opening) (start_of command parts.disk (R.place_of parts.draws) (P.place_of peers.old))
         (K.shows out.old) (K.shows out.new) result.ending result.history result.disk }
     ensures blocks { (k : ℕ) → P.block_at peers.new k ≡ P.block_at peers.old k }
 {
-    match soak_script(alloc, number) {
+    match soak_script(tools.alloc, number) {
         Ok(text) => {
-            let mut script = SureSource::new(alloc, text);
-            let run = run_words(
-                rt,
-                alloc,
-                words,
-                &mut script,
-                &mut NullSink,
-                parts,
-                verifier,
-                peers,
-                gate,
-            );
-            end_soak(alloc, number, run, out)
+            let mut script = SureSource::new(tools.alloc, text);
+            let run = run_words(tools, words, &mut script, &mut NullSink, parts, peers);
+            end_soak(tools.alloc, number, run, out)
         }
         Err(NoMemory) => {
-            let run = end_unopened(alloc, List::new(alloc), parts.disk, &mut NullSink);
-            end_soak(alloc, number, run, out)
+            let run = end_unopened(
+                tools.alloc,
+                List::new(tools.alloc),
+                parts.disk,
+                &mut NullSink,
+            );
+            end_soak(tools.alloc, number, run, out)
         }
     }
 }

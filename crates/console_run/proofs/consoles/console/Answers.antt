@@ -1,4 +1,4 @@
-use Rattle.std.proofs.Common.{◌≡◌, ℕ, refl, sym, subst, ⊎_elim}
+use Rattle.std.proofs.Common.{◌≡◌, ◌∙◌, ℕ, refl, sym, subst, ⊎_elim}
 use Rattle.command_words.specs.declared.commands.Opening.{Opening}
 use Rattle.command_words.specs.declared.commands.Opening.TheVariants.{New, Open}
 use Rattle.group_steps.specs.Devices.{devices, keying}
@@ -60,8 +60,8 @@ returns-in-New-clause-run g c =
       }),
     )
 
-pub returns-in-None-clause-run : goal.returns-in-None-clause-run
-returns-in-None-clause-run g c =
+pub returns-in_default-clause-run : goal.returns-in_default-clause-run
+returns-in_default-clause-run g c =
     let on = devices g.D.Disk g.G.Signer g.V.Verifier c.args.verifier.now in
     let by = keying c.args.signer (g.R.Draws.block_at c.args.draws) (g.P.Draws.block_at c.args.peers.now) console_name in
     let had = g.S.Source.shows c.args.script.now in
@@ -73,7 +73,7 @@ returns-in-None-clause-run g c =
     let streams = streams_of nothing had had was now in (
       nothing,
       subst (λ asked. Promises on by asked streams place members_place end.result.ending end.result.history c.args.disk end.result.disk)
-          c.in-None.ensures.command
+          (sym c.in_default.is ∙ c.read_words.ensures.command)
           (record {
             came = nothing_came had;
             promised = record {

@@ -8,9 +8,9 @@ use Rattle.console_run.proofs.consoles.run_command.Goals as goal
 
 pub returns-in-Err-clause-runs : goal.returns-in-Err-clause-runs
 returns-in-Err-clause-runs g c =
-    let on = devices g.D.Disk g.G.Signer g.V.Verifier c.args.verifier.now in
+    let on = devices g.D.Disk g.G.Signer g.V.Verifier c.args.tools.now.verifier.now in
     let by = keying c.args.parts.signer (g.R.Draws.block_at c.args.parts.draws) (g.P.Draws.block_at c.args.peers.now) console_name in
-    unopened_runs on by c.args.command.workers c.args.command.opening (start_of c.args.command c.args.parts.disk (g.R.Draws.place_of c.args.parts.draws)
+    unopened_runs on by c.args.tools.now.workers c.args.command.opening (start_of c.args.command c.args.parts.disk (g.R.Draws.place_of c.args.parts.draws)
     (g.P.Draws.place_of c.args.peers.now))
     (g.S.Source.shows c.args.script.now) (g.K.Sink.shows c.args.out.now) (g.K.Sink.shows c.end_unopened.new.out) c.end_unopened.result.ending
     c.in-Err.field-0.history c.end_unopened.result.history c.in-Err.field-0.parts.disk c.end_unopened.result.disk
@@ -18,7 +18,7 @@ returns-in-Err-clause-runs g c =
 
 pub returns-in-Ok-clause-runs : goal.returns-in-Ok-clause-runs
 returns-in-Ok-clause-runs g c =
-    let on = devices g.D.Disk g.G.Signer g.V.Verifier c.args.verifier.now in
+    let on = devices g.D.Disk g.G.Signer g.V.Verifier c.args.tools.now.verifier.now in
     let by = keying c.args.parts.signer (g.R.Draws.block_at c.args.parts.draws) (g.P.Draws.block_at c.args.peers.now) console_name in
     let start = start_of c.args.command c.args.parts.disk (g.R.Draws.place_of c.args.parts.draws) (g.P.Draws.place_of c.args.peers.now) in
     let was = g.K.Sink.shows c.args.out.now in

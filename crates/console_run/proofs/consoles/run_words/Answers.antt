@@ -11,10 +11,10 @@ use Rattle.console_run.proofs.consoles.run_words.Goals as goal
 
 pub returns-in-Ok-clause-runs : goal.returns-in-Ok-clause-runs
 returns-in-Ok-clause-runs g c command asked =
-    let on = devices g.D.Disk g.G.Signer g.V.Verifier c.args.verifier.now in
+    let on = devices g.D.Disk g.G.Signer g.V.Verifier c.args.tools.now.verifier.now in
     let by = keying c.args.parts.signer (g.R.Draws.block_at c.args.parts.draws) (g.P.Draws.block_at c.args.peers.now) console_name in
     let same : c.in-Ok.command ≡ command = same_Some c.in-Ok.command command (sym c.in-Ok.ensures.command ∙ asked) in
-    subst (λ (command : Command). RunsScript on by command.workers (request_of command.opening)
+    subst (λ (command : Command). RunsScript on by c.args.tools.now.workers (request_of command.opening)
     (start_of command c.args.parts.disk (g.R.Draws.place_of c.args.parts.draws) (g.P.Draws.place_of c.args.peers.now))
     (g.S.Source.shows c.args.script.now) (g.S.Source.shows c.run_command.new.script)
     (g.K.Sink.shows c.args.out.now) (g.K.Sink.shows c.run_command.new.out) c.run_command.result.ending
@@ -22,12 +22,12 @@ returns-in-Ok-clause-runs g c command asked =
 
 pub returns-in-Err-clause-runs : goal.returns-in-Err-clause-runs
 returns-in-Err-clause-runs g c command asked =
-    let on = devices g.D.Disk g.G.Signer g.V.Verifier c.args.verifier.now in
+    let on = devices g.D.Disk g.G.Signer g.V.Verifier c.args.tools.now.verifier.now in
     let by = keying c.args.parts.signer (g.R.Draws.block_at c.args.parts.draws) (g.P.Draws.block_at c.args.peers.now) console_name in
     let was = g.K.Sink.shows c.args.out.now in
     let now = g.K.Sink.shows c.end_unopened.new.out in
     let end = c.end_unopened in
-    unopened_runs on by command.workers command.opening
+    unopened_runs on by c.args.tools.now.workers command.opening
     (start_of command c.args.parts.disk (g.R.Draws.place_of c.args.parts.draws) (g.P.Draws.place_of c.args.peers.now))
     (g.S.Source.shows c.args.script.now) was now end.result.ending [] end.result.history c.args.parts.disk end.result.disk
     (inr (record { nothing = refl; left = refl })) (end.ensures.history ∙ c.new.ensures) end.ensures.disk

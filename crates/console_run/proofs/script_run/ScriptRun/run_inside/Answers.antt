@@ -12,28 +12,28 @@ use Rattle.console_run.proofs.script_run.ScriptRun.run_inside.Goals as goal
 
 pub returns-in-Nothing-clause-runs : goal.returns-in-Nothing-clause-runs
 returns-in-Nothing-clause-runs g c =
-    let on = devices g.D.Disk g.G.Signer g.V.Verifier c.args.verifier.now in
+    let on = devices g.D.Disk g.G.Signer g.V.Verifier c.args.tools.now.verifier.now in
     let held = c.args.self.now.group in
     let seen = g.K.Sink.shows c.args.out.now in
     let peers = drawn_by g.P.Draws c.args.peers.now in
     let asks = c.args.block.asks in
-    subst (λ line. RunsAt on g.R.Draws peers c.args.workers (Some asks) line (Some asks) held held seen seen) (sym c.in-Nothing.is)
-    (runs_none on g.R.Draws peers held held seen seen c.args.workers (Some asks) lines.Nothing (Some asks) refl (λ by before run. (refl, refl)) refl refl)
+    subst (λ line. RunsAt on g.R.Draws peers c.args.tools.now.workers (Some asks) line (Some asks) held held seen seen) (sym c.in-Nothing.is)
+    (runs_none on g.R.Draws peers held held seen seen c.args.tools.now.workers (Some asks) lines.Nothing (Some asks) refl (λ by before run. (refl, refl)) refl refl)
 
 pub returns-then-is_empty-clause-runs : goal.returns-then-is_empty-clause-runs
 returns-then-is_empty-clause-runs g c =
-    let on = devices g.D.Disk g.G.Signer g.V.Verifier c.args.verifier.now in
+    let on = devices g.D.Disk g.G.Signer g.V.Verifier c.args.tools.now.verifier.now in
     let held = c.args.self.now.group in
     let seen = g.K.Sink.shows c.args.out.now in
     let peers = drawn_by g.P.Draws c.args.peers.now in
     let asks = c.args.block.asks in
     let none : asks ≡ [] = search rules in
-    subst (λ line. StopsAtLine on g.R.Draws peers c.args.workers (Some asks) line stops.Line held held seen seen) (sym c.in-End.is)
-    (stops_faulty on g.R.Draws peers held held seen seen c.args.workers (Some asks) lines.End (ap ended none) refl refl)
+    subst (λ line. StopsAtLine on g.R.Draws peers c.args.tools.now.workers (Some asks) line stops.Line held held seen seen) (sym c.in-End.is)
+    (stops_faulty on g.R.Draws peers held held seen seen c.args.tools.now.workers (Some asks) lines.End (ap ended none) refl refl)
 
 pub returns-else-is_empty-clause-runs : goal.returns-else-is_empty-clause-runs
 returns-else-is_empty-clause-runs g c =
-    let on = devices g.D.Disk g.G.Signer g.V.Verifier c.args.verifier.now in
+    let on = devices g.D.Disk g.G.Signer g.V.Verifier c.args.tools.now.verifier.now in
     let held = c.args.self.now.group in
     let new = c.run_block.new.self in
     let was = g.K.Sink.shows c.args.out.now in
@@ -42,21 +42,21 @@ returns-else-is_empty-clause-runs g c =
     let asks = c.args.block.asks in
     let result = c.run_block.result in
     let some : asks ≡ [] → ⊥ = search rules in
-    subst (λ block. RunsLineAt on g.R.Draws peers c.args.workers (Some asks) c.args.line (open_of block) result held new was now) (sym c.requires.state)
-    (subst (λ line. RunsLineAt on g.R.Draws peers c.args.workers (Some asks) line None result held new was now) (sym c.in-End.is)
-    (runs_block on g.R.Draws peers held new was now c.args.workers asks result (ends_some asks some)
-    (subst (λ asks. RunsBlock on g.R.Draws peers (by_block on c.args.workers asks) (begun_by_block on c.args.workers asks) result held new was now)
+    subst (λ block. RunsLineAt on g.R.Draws peers c.args.tools.now.workers (Some asks) c.args.line (open_of block) result held new was now) (sym c.requires.state)
+    (subst (λ line. RunsLineAt on g.R.Draws peers c.args.tools.now.workers (Some asks) line None result held new was now) (sym c.in-End.is)
+    (runs_block on g.R.Draws peers held new was now c.args.tools.now.workers asks result (ends_some asks some)
+    (subst (λ asks. RunsBlock on g.R.Draws peers (by_block on c.args.tools.now.workers asks) (begun_by_block on c.args.tools.now.workers asks) result held new was now)
     c.as_slice-asks.ensures c.run_block.ensures.runs)))
 
 pub returns-in_default-ask_of : goal.returns-in_default-ask_of
 returns-in_default-ask_of g c =
-    let on = devices g.D.Disk g.G.Signer g.V.Verifier c.args.verifier.now in
+    let on = devices g.D.Disk g.G.Signer g.V.Verifier c.args.tools.now.verifier.now in
     let held = c.args.self.now.group in
     let seen = g.K.Sink.shows c.args.out.now in
     let peers = drawn_by g.P.Draws c.args.peers.now in
     let asks = c.args.block.asks in
     record {
-      runs = stops_faulty on g.R.Draws peers held held seen seen c.args.workers (Some asks) c.args.line
+      runs = stops_faulty on g.R.Draws peers held held seen seen c.args.tools.now.workers (Some asks) c.args.line
           (none_inside asks c.args.line c.in_default.not-Nothing c.in_default.not-End
           (λ ask is. c.in_default-ask_of.not-Some ask (c.ask_of.ensures ∙ is))) refl refl;
       placed = tt;
@@ -71,7 +71,7 @@ returns-in_default-ask_of g c =
 
 pub returns-in-Ok : goal.returns-in-Ok
 returns-in-Ok g c =
-    let on = devices g.D.Disk g.G.Signer g.V.Verifier c.args.verifier.now in
+    let on = devices g.D.Disk g.G.Signer g.V.Verifier c.args.tools.now.verifier.now in
     let was = c.args.self.now in
     let held = was.group in
     let seen = g.K.Sink.shows c.args.out.now in
@@ -79,10 +79,10 @@ returns-in-Ok g c =
     let asks = c.args.block.asks in
     let more = c.take.new.self.asks in
     record {
-      runs = runs_none on g.R.Draws peers held held seen seen c.args.workers (Some asks) c.args.line (Some more)
+      runs = runs_none on g.R.Draws peers held held seen seen c.args.tools.now.workers (Some asks) c.args.line (Some more)
           (stands_inside asks more c.args.line c.in-Some.ask c.in_default.not-Nothing c.in_default.not-End (sym c.in-Some.ensures) c.in-Ok.ensures.fits
           c.in-Ok.ensures.ok)
-          (λ by before run. gives_none on by c.args.workers asks c.args.line before run c.in_default.not-End) refl refl;
+          (λ by before run. gives_none on by c.args.tools.now.workers asks c.args.line before run c.in_default.not-End) refl refl;
       placed = c.take.ensures.before;
       block = fine_more was.count c.args.block c.take.new.self c.in-Some.ask c.in-Ok.ensures.fits c.in-Ok.ensures.ok c.take.ensures.before c.requires.block;
       line = refl;
@@ -95,14 +95,14 @@ returns-in-Ok g c =
 
 pub returns-in-Err : goal.returns-in-Err
 returns-in-Err g c =
-    let on = devices g.D.Disk g.G.Signer g.V.Verifier c.args.verifier.now in
+    let on = devices g.D.Disk g.G.Signer g.V.Verifier c.args.tools.now.verifier.now in
     let held = c.args.self.now.group in
     let seen = g.K.Sink.shows c.args.out.now in
     let peers = drawn_by g.P.Draws c.args.peers.now in
     let asks = c.args.block.asks in
     let stop = c.in-Err.stop in
     record {
-      runs = stops_either on g.R.Draws peers held held seen seen c.args.workers (Some asks) c.args.line stop c.in-Err.ensures.stops
+      runs = stops_either on g.R.Draws peers held held seen seen c.args.tools.now.workers (Some asks) c.args.line stop c.in-Err.ensures.stops
           (λ is. no_room_inside asks c.args.line c.in-Some.ask c.in_default.not-Nothing c.in_default.not-End (sym c.in-Some.ensures)
           (c.in-Err.ensures.faulty (ap Err is))) refl refl;
       placed = tt;

@@ -9,7 +9,7 @@ abbrev pub invariant-loop-octet : goal.invariant-loop-octet
 invariant-loop-octet g l = record {
   blocks : (k : ℕ) → g.P.Draws.block_at l.peers k ≡ g.P.Draws.block_at l.fn.peers k;
   ready : IsReady (at l.self (g.K.Sink.shows l.out) (drawn_by g.P.Draws l.peers));
-  goes : GoesOn (devices g.D.Disk g.G.Signer g.V.Verifier l.verifier) g.R.Draws l.workers (take l.octet-index l.piece)
+  goes : GoesOn (devices g.D.Disk g.G.Signer g.V.Verifier l.tools.verifier.now) g.R.Draws l.tools.workers (take l.octet-index l.piece)
       (at l.fn.self (g.K.Sink.shows l.fn.out) (drawn_by g.P.Draws l.fn.peers))
       (at l.self (g.K.Sink.shows l.out) (drawn_by g.P.Draws l.peers));
   nearer : room_left (at l.self (g.K.Sink.shows l.out) (drawn_by g.P.Draws l.peers)) + l.octet-index ≤ room_left

@@ -20,7 +20,7 @@ both_small a b h k = list_all-append (λ octet. nat_lt octet 256) a b ∙ and_fr
 
 pub pieces-init : goal.pieces-init
 pieces-init g c =
-    let on = devices g.D.Disk g.G.Signer g.V.Verifier c.args.verifier.now in
+    let on = devices g.D.Disk g.G.Signer g.V.Verifier c.args.tools.now.verifier.now in
     record {
       blocks = λ k. refl;
       ready = c.requires.ready;
@@ -29,13 +29,13 @@ pieces-init g c =
         [],
         Consumes-nil (g.S.Source.shows c.args.script.now).octets,
         refl,
-        GoesOn-none on g.R.Draws c.args.workers (at c.args.self.now (g.K.Sink.shows c.args.out.now) (drawn_by g.P.Draws c.args.peers.now)),
+        GoesOn-none on g.R.Draws c.args.tools.now.workers (at c.args.self.now (g.K.Sink.shows c.args.out.now) (drawn_by g.P.Draws c.args.peers.now)),
       );
     }
 
 pub pieces-preserved : goal.pieces-preserved
 pieces-preserved g c =
-    let on = devices g.D.Disk g.G.Signer g.V.Verifier c.args.verifier.now in
+    let on = devices g.D.Disk g.G.Signer g.V.Verifier c.args.tools.now.verifier.now in
     let left = g.S.Source.shows in
     let seen = g.K.Sink.shows in
     let piece = c.split_at.result.0.now in
@@ -51,7 +51,7 @@ pieces-preserved g c =
         before.0 ++ piece,
         Consumes-trans (left c.args.script.now).octets (left c.pieces.script).octets (left c.take.new.self).octets before.0 piece before.1 moved,
         both_small before.0 piece before.2 c.in_ok-take_piece.ensures.octets,
-        GoesOn-then on g.R.Draws c.args.workers before.0 piece (at c.args.self.now (seen c.args.out.now) (drawn_by g.P.Draws c.args.peers.now))
+        GoesOn-then on g.R.Draws c.args.tools.now.workers before.0 piece (at c.args.self.now (seen c.args.out.now) (drawn_by g.P.Draws c.args.peers.now))
             (at c.pieces.self (seen c.pieces.out) (drawn_by g.P.Draws c.pieces.peers))
             (at c.take_piece.new.self (seen c.take_piece.new.out) (drawn_by g.P.Draws c.take_piece.new.peers)) before.3 c.in_ok-take_piece.ensures.goes,
       );
@@ -59,7 +59,7 @@ pieces-preserved g c =
 
 pub returns-in-Err-clause-stops : goal.returns-in-Err-clause-stops
 returns-in-Err-clause-stops g c =
-    let on = devices g.D.Disk g.G.Signer g.V.Verifier c.args.verifier.now in
+    let on = devices g.D.Disk g.G.Signer g.V.Verifier c.args.tools.now.verifier.now in
     let left = g.S.Source.shows in
     let seen = g.K.Sink.shows in
     let before = c.pieces.invariant.goes in
@@ -70,13 +70,13 @@ returns-in-Err-clause-stops g c =
           (left c.take.new.self).octets before.0 before.1 c.in-Err.ensures.failed;
       small = before.2;
       source = subst (λ faults. Rose faults (left c.take.new.self).faults) c.pieces.invariant.no_fault c.in-Err.ensures.cause;
-      stops = StopsWithin-lost on g.R.Draws c.args.workers before.0 (at c.args.self.now (seen c.args.out.now) (drawn_by g.P.Draws c.args.peers.now))
+      stops = StopsWithin-lost on g.R.Draws c.args.tools.now.workers before.0 (at c.args.self.now (seen c.args.out.now) (drawn_by g.P.Draws c.args.peers.now))
           (at c.pieces.self (seen c.pieces.out) (drawn_by g.P.Draws c.pieces.peers)) before.3 ready.short ready.begun;
     }
 
 pub returns-in_err-take_piece-clause-stops : goal.returns-in_err-take_piece-clause-stops
 returns-in_err-take_piece-clause-stops g c =
-    let on = devices g.D.Disk g.G.Signer g.V.Verifier c.args.verifier.now in
+    let on = devices g.D.Disk g.G.Signer g.V.Verifier c.args.tools.now.verifier.now in
     let left = g.S.Source.shows in
     let seen = g.K.Sink.shows in
     let stop = c.in_err-take_piece.field-0.0 in
@@ -91,7 +91,7 @@ returns-in_err-take_piece-clause-stops g c =
       small = both_small before.0 piece before.2 c.in_err-take_piece.ensures.octets;
       source = SourceFails-other stop _ _ (λ source. c.take_piece.ensures.other (c.in_err-take_piece.was ∙ ap Err source))
           (c.in-Ok.ensures.no_fault ∙ c.pieces.invariant.no_fault);
-      stops = StopsWithin-then on g.R.Draws c.args.workers before.0 piece stop (at c.args.self.now (seen c.args.out.now) (drawn_by g.P.Draws c.args.peers.now))
+      stops = StopsWithin-then on g.R.Draws c.args.tools.now.workers before.0 piece stop (at c.args.self.now (seen c.args.out.now) (drawn_by g.P.Draws c.args.peers.now))
           (at c.pieces.self (seen c.pieces.out) (drawn_by g.P.Draws c.pieces.peers))
           (at c.take_piece.new.self (seen c.take_piece.new.out) (drawn_by g.P.Draws c.take_piece.new.peers)) before.3 c.in_err-take_piece.ensures.stops;
     })

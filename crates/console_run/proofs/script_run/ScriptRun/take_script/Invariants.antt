@@ -13,7 +13,7 @@ invariant-pieces g l = record {
   ready : IsReady (at l.self (g.K.Sink.shows l.out) (drawn_by g.P.Draws l.peers));
   no_fault : (g.S.Source.shows l.script).faults ≡ (g.S.Source.shows l.fn.script).faults;
   goes : (taken : List ℕ) × Consumes (g.S.Source.shows l.fn.script).octets (g.S.Source.shows l.script).octets taken × (are_octets taken ≡ true)
-      × GoesOn (devices g.D.Disk g.G.Signer g.V.Verifier l.verifier) g.R.Draws l.workers taken (at l.fn.self (g.K.Sink.shows l.fn.out) (drawn_by g.P.Draws l.fn.peers))
+      × GoesOn (devices g.D.Disk g.G.Signer g.V.Verifier l.tools.verifier.now) g.R.Draws l.tools.workers taken (at l.fn.self (g.K.Sink.shows l.fn.out) (drawn_by g.P.Draws l.fn.peers))
       (at l.self (g.K.Sink.shows l.out) (drawn_by g.P.Draws l.peers));
 }
 
