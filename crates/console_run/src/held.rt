@@ -81,10 +81,10 @@ impl<D: Disk + Drop, G: Signer + Drop, R: Draws + Drop> Held<D, G, R> {
         ensures rules { OnOk result (length self.new.server.rules ≤ length self.old.server.rules + 1) }
         ensures rest { OnOk result (self.new.members.mail ≡ []) }
     {
-        let mut group = self.group.take().unwrap();
-        let ran = run_line(alloc, line, &mut group, verifier, peers, out);
-        put_back(&mut self.group, group);
-        ran
+        match &mut self.group {
+            Some(group) => run_line(alloc, line, group, verifier, peers, out),
+            None => unreachable!(),
+        }
     }
 }
 
