@@ -6,7 +6,7 @@ use gd_disk::{Disk, Failed, MemDisk};
 use group_terms::{List, NoMemory, counted_on};
 use std::alloc::Global;
 use std::sync::atomic::{AtomicUsize, Ordering};
-use tree_store::TreeStore;
+use tree_store::{Replay, TreeStore};
 
 /// More batches than any journal of the trials has.
 const MOST_BATCHES: usize = 8;
@@ -107,15 +107,19 @@ fn count_batches(alloc: Global, disk: MemDisk) -> usize {
 }
 
 fn count_in(alloc: Global, store: &mut TreeStore<MemDisk>) -> usize {
+    let Ok(mut replay) = Replay::begin(alloc, &store.head()) else {
+        return 0;
+    };
     let mut count = 0usize;
     for _ in 0..MOST_BATCHES {
-        if has_next(alloc, store) {
+        if has_next(alloc, store, &mut replay) {
             count = count.saturating_add(1);
         }
     }
+    drop(replay);
     count
 }
 
-fn has_next(alloc: Global, store: &mut TreeStore<MemDisk>) -> bool {
-    matches!(store.next_batch(alloc), Ok(Some(_)))
+fn has_next(alloc: Global, store: &mut TreeStore<MemDisk>, replay: &mut Replay) -> bool {
+    matches!(store.next_batch(alloc, replay), Ok(true))
 }

@@ -8,7 +8,7 @@ use Rattle.group_values.specs.Values.{Made, batches_made}
 use Rattle.group_model.specs.Growth.{Leaves}
 use Rattle.group_model.specs.Places.{IsValid}
 use Rattle.group_model.specs.Servers.{coming_batch, coming_values}
-use Rattle.group_model.specs.WrapCounts.{WrapsAreFew, most_wraps}
+use Rattle.rekey_plan.specs.WrapCounts.{WrapsAreFew, most_wraps}
 use Rattle.group_model.specs.Wraps.{wraps_at}
 use Rattle.group_model.specs.declared.entries.Answer.{Answer}
 use Rattle.group_model.specs.declared.entries.Answer.TheVariants.{Batched, Derived}

@@ -10,7 +10,7 @@ use Rattle.group_terms.specs.Names.{Name}
 use Rattle.group_values.specs.Values.{Made}
 use Rattle.group_model.specs.Answers.{is_open}
 use Rattle.group_model.specs.Places.{IsValid}
-use Rattle.group_model.specs.WrapCounts.{most_wraps}
+use Rattle.rekey_plan.specs.WrapCounts.{most_wraps}
 use Rattle.group_model.specs.declared.entries.Answer.TheVariants.{Batched, Datagram}
 use Rattle.group_model.specs.declared.entries.Asked.{Asked}
 use Rattle.group_model.specs.declared.entries.Asked.TheVariants.{Batch, Begin, Create, Serve}

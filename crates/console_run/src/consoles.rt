@@ -20,7 +20,7 @@ use crate::tools::Tools;
 use command_words::{Command, Opening, read_words, take_words};
 use gd_disk::Disk;
 use gd_edges::{Draws, Signer, Sink, Source, Verifier};
-use group_model::{Entry, List, a_batch_encrypts_few};
+use group_model::{Entry, List};
 use group_run::{GroupRun, NewGroup, Parts, Unopened};
 use group_steps::{
     a_crash_leaves_a_moment_of_the_history, a_group_grows_by_what_is_sent,
@@ -33,6 +33,7 @@ use law_store_steps::{
     an_own_fourth_message_is_taken_in_a_history, any_other_push_is_refused_in_a_history,
     each_store_is_one_of_the_group,
 };
+use rekey_plan::a_batch_encrypts_few;
 use run_report::{Finished, end_script, end_unopened, end_without_group};
 use std::alloc::Global;
 use std::sync::Wait;

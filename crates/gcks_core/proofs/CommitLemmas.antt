@@ -12,13 +12,14 @@ use Rattle.group_terms.specs.Names.{Name}
 use Rattle.group_terms.specs.declared.changes.Change.{Change}
 use Rattle.group_terms.specs.declared.changes.Change.TheVariants.{In, Out}
 use Rattle.group_values.specs.Values.{Kept, Made, batches_made}
-use Rattle.group_model.specs.Present.{Present}
+use Rattle.key_tree.specs.Present.{Present}
 use Rattle.group_model.specs.Refusals.{why_no_join, why_no_leave}
 use Rattle.group_model.specs.Servers.{GivesRefusal, IsJoin, IsLeave, IsStoring, MayHave, Server}
 use Rattle.group_model.specs.Servers.{coming_batch, in_doubt, with_batch, with_change}
 use Rattle.group_model.specs.declared.entries.Refusal.{Refusal}
 use Rattle.group_records.specs.declared.heads.Head.{Head}
-use Rattle.tree_store.specs.Groups.{HasGroup, IsBatchOf, IsGroup, IsGroupBeforeOrAfter}
+use Rattle.group_records.specs.Records.{IsBatchOf}
+use Rattle.tree_store.specs.Groups.{HasGroup, IsGroup, IsGroupBeforeOrAfter}
 use Rattle.gcks_core.specs.declared.outputs.CoreOutput.{CoreOutput}
 use Rattle.gcks_core.specs.Prepares.{IsCoreOutputOf, IsReadyFor, PreparedBatch}
 use Rattle.gcks_core.specs.Private.Cores.{IsGroupOf}
@@ -88,10 +89,10 @@ module _ {D G R : Type 0} (draws : DrawGhosts R) (core : View D G R) (server : S
   }
 
   -- what waited was stored as a batch
-  pub stands_with_batch : (disk : D) (tree : Present) (kept : Kept) (queue : List Change) (made : Made) → queue ≡ []
-      → IsGroupOf core.head tree kept (server.list ++ made ∷ [])
-      → Stands draws (record core { disk = disk; tree = tree; kept = kept; queue = queue }) (with_batch server made)
-  stands_with_batch disk tree kept queue made none group = record {
+  pub stands_with_batch : (disk : D) (tree : Present) (queue : List Change) (made : Made) → queue ≡ []
+      → IsGroupOf core.head tree (server.list ++ made ∷ [])
+      → Stands draws (record core { disk = disk; tree = tree; queue = queue }) (with_batch server made)
+  stands_with_batch disk tree queue made none group = record {
     depth = stands.depth;
     limit = stands.limit;
     tree_depth = group.depth ∙ stands.depth;
@@ -126,7 +127,7 @@ module _ {D G R : Type 0} (draws : DrawGhosts R) (core : View D G R) (server : S
     ready_now = subst (λ queue. IsReadyFor g core.signer core.head core.tree queue server.list ready) stands.queue is_ready
 
     pub storable_now : IsStorable core.head core.tree server.queue server.list ready
-    storable_now = record { due = ready_now.due; text_is = ready_now.text_is; short = ready_now.short; step_is = ready_now.step_is }
+    storable_now = record { due = ready_now.due; text_is = ready_now.text_is; short = ready_now.short; is_marked = ready_now.is_marked }
 
     pub puts_out_now : IsCoreOutputOf g core.signer core.head.depth core.head.spi (server.list ++ coming_batch server ready.values ∷ []) ready.output
     puts_out_now = ready_now.puts_out
@@ -196,17 +197,17 @@ module _ {D G R : Type 0} {draws : DrawGhosts R} {g : SignerGhosts G} {core view
         (storable_now draws view server stands g ready (all_ready server stands))
 
     -- the step of the server
-    pub storing_step : {A : Type 0} (output : A) (disk : D) (tree : Present) (kept : Kept) (queue : List Change) → queue ≡ []
-        → ((head : Head) (list : List Made) (changes : List Change) → IsGroupOf head core.tree core.kept list
+    pub storing_step : {A : Type 0} (output : A) (disk : D) (tree : Present) (queue : List Change) → queue ≡ []
+        → ((head : Head) (list : List Made) (changes : List Change) → IsGroupOf head core.tree list
         → IsStorable head core.tree changes list ready
-        → IsGroupOf head tree kept (list ++ record { changes = changes; values = ready.values } ∷ []))
+        → IsGroupOf head tree (list ++ record { changes = changes; values = ready.values } ∷ []))
         → (next : Server) × IsStoring server ready.values (Ok output) next
-        × Stands draws (record core { disk = disk; tree = tree; kept = kept; queue = queue }) next
-    storing_step output disk tree kept queue none takes_in =
+        × Stands draws (record core { disk = disk; tree = tree; queue = queue }) next
+    storing_step output disk tree queue none takes_in =
         let made = coming_batch server ready.values in
         let was = stands_there same server stands in
         let group = takes_in core.head server.list server.queue (group_of draws core server was) storable_there in
-        (with_batch server made, refl, stands_with_batch draws core server was disk tree kept queue made none group)
+        (with_batch server made, refl, stands_with_batch draws core server was disk tree queue made none group)
 
     -- what it puts out
     pub puts_out_there : (output : CoreOutput) → output ≡ ready.output
@@ -245,7 +246,7 @@ module _ {D G R : Type 0} {draws : DrawGhosts R} {g : SignerGhosts G} {core view
         (file_in_doubt core.head server made) only)
 
   -- it is storable after the batches that made its tree
-  pub storable_now_there : (list : List Made) → IsGroupOf core.head core.tree core.kept list → IsStorable core.head core.tree core.queue list ready
+  pub storable_now_there : (list : List Made) → IsGroupOf core.head core.tree list → IsStorable core.head core.tree core.queue list ready
   storable_now_there list group =
       let server = sure_server draws core list in
       storable_there server (subst (λ at. Stands draws at server) same (stands_as draws core list group))

@@ -6,8 +6,8 @@ mod OpenLemmas
 mod PrepareLemmas
 mod ReadyLemmas
 mod ReopenLemmas
+mod ReplayLemmas
 mod ReplyLemmas
 mod StandLemmas
 mod StoreLemmas
 mod WaitLemmas
-mod WalkLemmas

@@ -1,13 +1,13 @@
 -- Lists of batches with their values, as a journal has them.
-use Rattle.std.proofs.Common.{◌≡◌, ◌∙◌, ℕ, ◌+◌, List, [], ◌∷◌, ◌++◌, length, refl, sym, ap, subst}
+use Rattle.std.proofs.Common.{◌≡◌, ◌∙◌, ℕ, ◌+◌, List, [], ◌∷◌, ◌++◌, length, map, refl, sym, ap, subst}
 use Rattle.std.proofs.lemmas.List.{length-append, length-map}
 use Rattle.group_terms.specs.declared.changes.Change.{Change}
 use Rattle.group_values.specs.Values.{Made, batches_made}
 use Rattle.group_model.specs.Stayed.{sequence_at}
 use Rattle.group_keys.specs.Drawn.{AreDrawnFrom, AreDrawn}
 use Rattle.group_records.specs.declared.batches.Stored.{Stored}
-use Rattle.tree_store.specs.Groups.{IsDue, batches_of}
-use Rattle.gcks_core.specs.Stored.{AreDue, AreDueFrom, made_of, stored_after, stored_from, stored_list}
+use Rattle.tree_store.specs.Groups.{IsDueAfter, batches_of, made_of}
+use Rattle.gcks_core.specs.Stored.{AreDue, AreDueFrom, stored_after, stored_from, stored_list}
 
 -- one batch more
 pub batches_more : (list : List Made) (made : Made) → batches_made (list ++ made ∷ []) ≡ batches_made list ++ made.changes ∷ []
@@ -49,7 +49,7 @@ module _ (depth : ℕ) where
 
   module _ (limit : ℕ) where
     -- what is due is what the definition makes of its changes and values
-    pub due_is : (before : List (List Change)) (stored : Stored) → IsDue depth limit before stored → stored ≡ stored_after depth before (made_of stored)
+    pub due_is : (before : List (List Change)) (stored : Stored) → IsDueAfter depth limit before stored → stored ≡ stored_after depth before (made_of stored)
     due_is before stored due = λ i. record {
       batch = stored.batch;
       epoch = due.epoch i;
@@ -58,23 +58,31 @@ module _ (depth : ℕ) where
     }
 
     due_from_more : (before : List (List Change)) (list : List Made) (made : Made) → AreDueFrom depth limit before list
-        → IsDue depth limit (before ++ batches_made list) (stored_after depth (before ++ batches_made list) made)
+        → IsDueAfter depth limit (before ++ batches_made list) (stored_after depth (before ++ batches_made list) made)
         → AreDueFrom depth limit before (list ++ made ∷ [])
     due_from_more before [] made are due =
-        (subst (λ b. IsDue depth limit b (stored_after depth b made)) (append_none before) due, tt)
+        (subst (λ b. IsDueAfter depth limit b (stored_after depth b made)) (append_none before) due, tt)
     due_from_more before (first ∷ list) made are due = (
       are.0,
       due_from_more (before ++ first.changes ∷ []) list made are.1
-          (subst (λ b. IsDue depth limit b (stored_after depth b made)) (sym (append_one before first.changes (batches_made list))) due),
+          (subst (λ b. IsDueAfter depth limit b (stored_after depth b made)) (sym (append_one before first.changes (batches_made list))) due),
     )
 
-    pub due_more : (list : List Made) (made : Made) → AreDue depth limit list → IsDue depth limit (batches_made list) (stored_after depth (batches_made list) made)
+    pub due_more : (list : List Made) (made : Made) → AreDue depth limit list → IsDueAfter depth limit (batches_made list) (stored_after depth (batches_made list) made)
         → AreDue depth limit (list ++ made ∷ [])
     due_more list made are due = due_from_more [] list made are due
 
     drawn_from : (before : List (List Change)) (list : List Made) → AreDueFrom depth limit before list → AreDrawnFrom depth before list
     drawn_from before [] are = tt
-    drawn_from before (made ∷ list) are = (are.0.drawn, drawn_from (before ++ made.changes ∷ []) list are.1)
+    drawn_from before (made ∷ list) are = (are.0.carried.drawn, drawn_from (before ++ made.changes ∷ []) list are.1)
 
     pub due_drawn : (list : List Made) → AreDue depth limit list → AreDrawn depth list
     due_drawn list are = drawn_from [] list are
+
+-- what was stored has the batches
+unstored_from : (depth : ℕ) (before : List (List Change)) (list : List Made) → map made_of (stored_from depth before list) ≡ list
+unstored_from depth before [] = refl
+unstored_from depth before (made ∷ list) = λ i. made ∷ unstored_from depth (before ++ made.changes ∷ []) list i
+
+pub unstored : (depth : ℕ) (list : List Made) → map made_of (stored_list depth list) ≡ list
+unstored depth list = unstored_from depth [] list

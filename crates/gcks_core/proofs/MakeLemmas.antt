@@ -38,7 +38,7 @@ module _ {D : Type 0} (g : Ghosts D) where
       inl (started g disk (IsCutOf (g.may_leave disk)) only_now (λ k now. (k, k, now, cut 0 k, torn 0 1 k)))
 
 -- the server that was just opened
-pub stands_opened : {D G R : Type 0} (draws : DrawGhosts R) (core : View D G R) (list : List Made) → IsGroupOf core.head core.tree core.kept list
+pub stands_opened : {D G R : Type 0} (draws : DrawGhosts R) (core : View D G R) (list : List Made) → IsGroupOf core.head core.tree list
     → core.needs_reopen ≡ false → core.queue ≡ [] → (place : ℕ) → draws.place_of core.draws ≡ place
     → Stands draws core (opened_server core.head.depth core.head.limit list place)
 stands_opened draws core list group needs_reopen queue place there =

@@ -6,9 +6,7 @@ use Rattle.gd_disk.specs.MomentLaws.{joined, keeps-joined, reads-joined, weaker}
 use Rattle.gd_disk.specs.Moments.{shown, Keeps, LeavesOnly, OnlyReads, ReportsFaults}
 use Rattle.gd_disk.specs.declared.disks.Disk.{Ghosts}
 use Rattle.group_terms.specs.Faults.{Rose}
-use Rattle.group_terms.specs.declared.changes.Change.{Change}
-use Rattle.group_values.specs.Values.{Kept, batches_made}
-use Rattle.group_model.specs.Present.{Present, StandsFor}
+use Rattle.group_pushes.specs.Fits.{MadeFits}
 use Rattle.group_model.specs.declared.entries.Refusal.{Refusal}
 use Rattle.group_model.specs.declared.entries.Refusal.TheVariants as refusals
 use Rattle.group_records.specs.declared.batches.Stored.{Stored}
@@ -16,28 +14,32 @@ use Rattle.group_records.specs.declared.heads.Head.{Head}
 use Rattle.tree_journal.specs.Records.{records}
 use Rattle.tree_journal.specs.declared.refusals.JournalRefusal.{JournalRefusal}
 use Rattle.tree_journal.specs.declared.refusals.JournalRefusal.TheVariants.{Closed, DiskFault, NotAJournal, NoMemory}
-use Rattle.tree_store.specs.Groups.{HasNoHead, HasNoneAt, IsDue, IsGroup, IsGroupTo, IsNoGroup, batches_of}
-use Rattle.tree_store.specs.Views.{View}
+use Rattle.tree_store.specs.declared.dues.Due.{Due}
+use Rattle.tree_store.specs.Groups.{HasNoHead, HasNoneAt, IsGroup, IsGroupTo, IsNoGroup, made_of}
+use Rattle.tree_store.specs.Views.{ReadSoFar, View}
+use Rattle.tree_store.specs.Replays.{IsReadAfter, IsReplayOf}
 use Rattle.gcks_core.specs.Private.Cores.{IsAtEnd}
-use Rattle.gcks_core.specs.Private.Reads.{IsReadTo, IsWalk}
-use Rattle.gcks_core.specs.Stored.{made_of, stored_list}
-use Rattle.gcks_core.proofs.ListLemmas.{stored_batches}
-use Rattle.gcks_core.proofs.WalkLemmas.{IsReading, read_file, read_next, read_stands}
+use Rattle.gcks_core.specs.Stored.{stored_list}
+use Rattle.gcks_core.proofs.ReplayLemmas.{IsReading, read_more, read_none, there}
 
 module _ {D : Type 0} (g : Ghosts D) where
   -- a disk keeps what it is where nothing is done
   pub keeps_none : (disk : D) → Keeps g disk disk
   keeps_none disk = record { honest = refl; exposed = (λ some. some, λ some. some); counted = omega arith }
 
+-- what holds of all that is there holds of it
+pub if_some : {A : Type 0} (P : A → Type 0) (found : Option A) (a : A) → found ≡ Some a → IfSome found P → P a
+if_some {A = A} P found a is holds = subst (λ (there : Option A). IfSome there P) is holds
+
 module _ {D : Type 0} (g : Ghosts D) (first : View D) (head : Head) where
   -- before the first batch
-  pub reading_begun : (present : Present) (kept : Kept) (last : Option Stored) → IsReadTo g first.disk first [] → IsWalk head present kept last []
+  pub reading_begun : (replay : ReadSoFar) → IsReplayOf head replay [] → replay.last ≡ None → Knows (shown g first.disk) (λ file. IsGroupTo file first.head [] first.at)
       → first.closed ≡ false → first.head ≡ head → Knows (shown g first.disk) (λ file. LeavesOnly g first.disk first.disk (λ c. c ≡ file))
-      → IsReading g first first head present kept last
-  reading_begun present kept last read walk is_open same still = record {
+      → IsReading g first first head replay
+  reading_begun replay is none file is_open same still = record {
     list = [];
-    read = read;
-    walk = walk;
+    begins = λ octets shows. subst (λ (h : Head). IsGroupTo octets h [] first.at) same (file octets shows);
+    read = read_none head replay is none;
     open_still = is_open;
     same_head = same;
     shows = refl;
@@ -46,13 +48,14 @@ module _ {D : Type 0} (g : Ghosts D) (first : View D) (head : Head) where
     keeps = keeps_none g first.disk;
   }
 
-  module _ (present : Present) (kept : Kept) (last : Option Stored) (now : View D) (reading : IsReading g first now head present kept last) where
-    -- what was read is the file that is shown now, as far as it goes
-    read_now : (file : List ℕ) → shown g now.disk ≡ Some file → IsGroupTo file now.head (stored_list now.head.depth reading.list) now.at
-    read_now file is = read_file g first.disk now reading.list reading.read file (sym reading.shows ∙ is)
+  module _ (replay : ReadSoFar) (now : View D) (reading : IsReading g first now head replay) where
+    -- what was read, as a journal has it
+    abbrev so_far : List Stored
+    so_far = stored_list head.depth reading.list
 
-    stands_now : StandsFor now.tree (batches_made reading.list)
-    stands_now = read_stands g first.disk now reading.list reading.read
+    -- it is the file that is shown now, as far as it goes
+    read_now : (file : List ℕ) → shown g now.disk ≡ Some file → IsGroupTo file head so_far now.at
+    read_now file is = reading.begins file (sym reading.shows ∙ is)
 
     -- one call more
     module _ (next : View D) where
@@ -74,34 +77,36 @@ module _ {D : Type 0} (g : Ghosts D) (first : View D) (head : Head) where
       still_stands same = same ∙ reading.unfaulted
 
       -- with the next batch
-      module _ (stored : Stored) (same_head : next.head ≡ now.head)
-          (goes : (batches : List (List Change)) → StandsFor now.tree batches
-          → IsDue now.head.depth now.head.limit batches stored × StandsFor next.tree (batches ++ stored.batch ∷ []))
-          (further : (before : List Stored) → StandsFor now.tree (batches_of before)
-          → Knows (shown g now.disk)
-          (λ file. IsGroupTo file now.head before now.at → IsGroupTo file now.head (before ++ stored ∷ []) next.at)) where
-        pub due_now : IsDue head.depth head.limit (batches_made reading.list) stored
-        due_now =
-            subst (λ (h : Head). IsDue h.depth h.limit (batches_made reading.list) stored) reading.same_head
-            (goes (batches_made reading.list) stands_now).0
+      module _ (after : ReadSoFar) (same_head : next.head ≡ now.head)
+          (goes : (list : List Stored) → IsReplayOf now.head replay list → (due : Due) × IsReadAfter now.head list due after
+          × Knows (shown g now.disk) (λ file. IsGroupTo file now.head list now.at → IsGroupTo file now.head (list ++ due.stored ∷ []) next.at)) where
+        further : (due : Due) × IsReadAfter head so_far due after
+            × Knows (shown g now.disk) (λ file. IsGroupTo file head so_far now.at → IsGroupTo file head (so_far ++ due.stored ∷ []) next.at)
+        further =
+            subst (λ (h : Head). IsReplayOf h replay so_far → (due : Due) × IsReadAfter h so_far due after
+            × Knows (shown g now.disk) (λ file. IsGroupTo file h so_far now.at → IsGroupTo file h (so_far ++ due.stored ∷ []) next.at))
+            reading.same_head (goes so_far) reading.read.replayed
 
-        pub reading_next : (tree : Present) (values : Kept) (after : Option Stored)
-            → IsWalk head tree values after (reading.list ++ made_of stored ∷ []) → next.closed ≡ false → shown g next.disk ≡ shown g now.disk
+        pub reading_next : IfSome after.last (λ due. MadeFits (made_of due.stored)) → next.closed ≡ false → shown g next.disk ≡ shown g now.disk
             → (now.closed ≡ false → Knows (shown g now.disk) (λ file. LeavesOnly g now.disk next.disk (λ c. c ≡ file)))
-            → g.faults next.disk ≡ g.faults now.disk → Keeps g now.disk next.disk → IsReading g first next head tree values after
-        reading_next tree values after walk is_open shows moments faults keeps = record {
-          list = reading.list ++ made_of stored ∷ [];
-          read =
-              let due = goes (batches_made reading.list) stands_now in
-              read_next g first.disk now next reading.list stored reading.read reading.shows same_head due.0 due.1 further;
-          walk = walk;
-          open_still = is_open;
-          same_head = same_head ∙ reading.same_head;
-          shows = still_shows shows;
-          moments = still_moments moments;
-          unfaulted = still_stands faults;
-          keeps = still_keeps keeps;
-        }
+            → g.faults next.disk ≡ g.faults now.disk → Keeps g now.disk next.disk → IsReading g first next head after
+        reading_next fits is_open shows moments faults keeps =
+            let due = further.0 in
+            let stored = due.stored in
+            record {
+              list = reading.list ++ made_of stored ∷ [];
+              begins = λ file is.
+                  subst (λ list. IsGroupTo file head list next.at) (there head replay after reading.list due reading.read further.1)
+                  (further.2 file (reading.shows ∙ is) (reading.begins file is));
+              read = read_more head replay after reading.list due reading.read further.1
+                  (if_some (λ (found : Due). MadeFits (made_of found.stored)) after.last due further.1.last fits);
+              open_still = is_open;
+              same_head = same_head ∙ reading.same_head;
+              shows = still_shows shows;
+              moments = still_moments moments;
+              unfaulted = still_stands faults;
+              keeps = still_keeps keeps;
+            }
 
       -- after the last batch
       pub reading_ends : next.closed ≡ false → IsSome next.end → shown g next.disk ≡ shown g now.disk
@@ -112,33 +117,27 @@ module _ {D : Type 0} (g : Ghosts D) (first : View D) (head : Head) where
         walked = walked;
         file = λ file is.
             let here = sym shows ∙ is in
-            subst (λ (h : Head). IsGroup file h (stored_list h.depth reading.list)) reading.same_head
-            (ends (stored_list now.head.depth reading.list) file here (read_now file here));
+            subst (λ (h : Head). IsGroupTo file h so_far now.at → IsGroup file h so_far) reading.same_head (ends so_far file here) (read_now file here);
       }
 
-    -- at a place at which there is no batch that is due
+    -- at a place at which there is no record that may come next
     pub breaks_off : (at : ℕ) → at ≡ now.at
-        → ((batches : List (List Change)) → StandsFor now.tree batches → Knows (shown g now.disk) (λ file. HasNoneAt file now.head batches at))
+        → ((list : List Stored) → IsReplayOf now.head replay list → Knows (shown g now.disk) (λ file. HasNoneAt file now.head list at))
         → Knows (shown g first.disk) (λ file. IsNoGroup file at)
     breaks_off at same none file is =
         let here = reading.shows ∙ is in
-        let list = stored_list now.head.depth reading.list in
         inr (inr (
-          now.head,
-          list,
-          subst (IsGroupTo file now.head list) (sym same) (read_now file here),
-          subst (λ b. HasNoneAt file now.head b at) (sym (stored_batches now.head.depth reading.list))
-              (none (batches_made reading.list) stands_now file here),
+          head,
+          so_far,
+          subst (IsGroupTo file head so_far) (sym same) (read_now file here),
+          subst (λ (h : Head). IsReplayOf h replay so_far → HasNoneAt file h so_far at) reading.same_head
+              (λ replayed. none so_far replayed file here) reading.read.replayed,
         ))
 
 -- what holds of an error holds of an answer that is it
 pub if_error : {T E : Type 0} (P : E → Type 0) (result : Result T E) (error : E) → IsErrAnd result (λ e. e ≡ error) → P error → IfErr result P
 if_error P (Ok value) error is holds = absurd is
 if_error P (Err why) error is holds = subst P (sym is) holds
-
--- what holds of all that is there holds of it
-pub if_some : {A : Type 0} (P : A → Type 0) (found : Option A) (a : A) → found ≡ Some a → IfSome found P → P a
-if_some {A = A} P found a is holds = subst (λ (there : Option A). IfSome there P) is holds
 
 pub none_there : {A : Type 0} (found : Option A) → ((a : A) → found ≡ Some a → ⊥) → found ≡ None
 none_there None not = refl

@@ -10,15 +10,15 @@ use Rattle.group_terms.specs.declared.values.BatchValues.{BatchValues}
 use Rattle.group_values.specs.Drawing.{blocks_for, nodes_drawn, place_after, values_drawn, with_high_bit}
 use Rattle.group_values.specs.Values.{Kept, Made, batches_made, ids_of}
 use Rattle.group_model.specs.Drawn.{drawn_at}
-use Rattle.group_model.specs.Present.{Present}
+use Rattle.key_tree.specs.Present.{Present}
 use Rattle.group_model.specs.Refusals.{why_no_batch}
 use Rattle.group_model.specs.Servers.{IsPreparation, Server, after_draws, blocks_to_draw, coming_positions, drawn_unless, refusal_to_batch}
 use Rattle.group_model.specs.Stayed.{sequence_at}
-use Rattle.group_model.specs.Steps.{IsStepOf}
+use Rattle.key_tree.specs.Marks.{IsMarkedFor}
 use Rattle.group_model.specs.declared.entries.Counter.TheVariants.{Epoch, Sequence}
 use Rattle.group_model.specs.declared.entries.Refusal.{Refusal}
 use Rattle.group_model.specs.declared.entries.Refusal.TheVariants.{NoMemory, Spent}
-use Rattle.group_model.specs.declared.steps.TreeStep.{TreeStep}
+use Rattle.key_tree.specs.declared.marks.Marked.{Marked}
 use Rattle.group_records.specs.declared.heads.Head.{Head}
 use Rattle.gcks_core.specs.Prepares.{PreparedBatch, values_in}
 use Rattle.gcks_core.specs.Private.Cores.{IsGroupOf}
@@ -66,18 +66,18 @@ pub values_there : (block : ℕ → List ℕ) (place : ℕ) (ids others : List �
     → values ≡ values_drawn block place ids → ids ≡ others → had ≡ values_drawn block place others
 values_there block place ids others values had same are equal = same ∙ are ∙ ap (values_drawn block place) equal
 
--- ---- the positions of a step
+-- ---- the positions of a batch
 
-module _ (head : Head) (tree : Present) (kept : Kept) (list : List Made) (group : IsGroupOf head tree kept list) (batch : List Change) where
-  positions_are : (limit : ℕ) (step : TreeStep) → IsStepOf tree batch limit step
-      → step.drawn ≡ drawn_at tree.depth (batches_made list ++ batch ∷ []) (length list + 1)
-  positions_are limit step is_step =
-      is_step.drawn (batches_made list) group.tree
-      ∙ ap (drawn_at tree.depth (batches_made list ++ batch ∷ [])) (is_step.epoch ∙ ap (λ n. n + 1) (group.tree.epoch ∙ length_batches list))
+module _ (head : Head) (tree : Present) (list : List Made) (group : IsGroupOf head tree list) (batch : List Change) where
+  positions_are : (limit : ℕ) (marked : Marked) → IsMarkedFor tree batch limit marked
+      → marked.drawn ≡ drawn_at tree.depth (batches_made list ++ batch ∷ []) (length list + 1)
+  positions_are limit marked marked_for =
+      marked_for.drawn (batches_made list) group.tree
+      ∙ ap (drawn_at tree.depth (batches_made list ++ batch ∷ [])) (marked_for.ready.epoch ∙ ap (λ n. n + 1) (group.tree.epoch ∙ length_batches list))
 
-  pub positions_there : (limit : ℕ) (step : TreeStep) → IsStepOf tree batch limit step → (positions : List ℕ) → positions ≡ step.drawn
+  pub positions_there : (limit : ℕ) (marked : Marked) → IsMarkedFor tree batch limit marked → (positions : List ℕ) → positions ≡ marked.drawn
       → positions ≡ drawn_at tree.depth (batches_made list ++ batch ∷ []) (length list + 1)
-  positions_there limit step is_step positions same = same ∙ positions_are limit step is_step
+  positions_there limit marked marked_for positions same = same ∙ positions_are limit marked marked_for
 
   -- why there is none, by the number of batches
   abbrev why_none : ℕ → Option Refusal

@@ -22,17 +22,18 @@ use Rattle.group_terms.specs.declared.values.Drawn.{Drawn}
 use Rattle.group_values.specs.Values.{Kept, KeepsLast, Made, batches_made, ids_of}
 use Rattle.group_model.specs.Drawn.{drawn_at}
 use Rattle.group_model.specs.Places.{Fits, Holders, holders_of, is_held_by, member_count, place_in}
-use Rattle.group_model.specs.Present.{Present, StandsFor}
+use Rattle.key_tree.specs.Present.{Present, StandsFor}
 use Rattle.group_model.specs.Stayed.{sequence_at, stayed_at}
-use Rattle.group_model.specs.Steps.{IsStepOf, stepped}
+use Rattle.key_tree.specs.Marks.{IsMarkedFor, installed}
 use Rattle.group_model.specs.Wraps.{wraps_at}
 use Rattle.group_model.specs.declared.entries.PushPair.{PushPair}
-use Rattle.group_model.specs.declared.steps.TreeStep.{TreeStep}
+use Rattle.key_tree.specs.declared.marks.Marked.{Marked}
 use Rattle.group_keys.specs.Drawn.{AreDrawn}
 use Rattle.group_keys.specs.Replies.{IsKeyedOf}
 use Rattle.group_records.specs.declared.heads.Head.{Head}
+use Rattle.group_records.specs.Records.{IsBatchOf}
 use Rattle.group_pushes.specs.Pairs.{IsPairIfStayed, IsPairOf}
-use Rattle.tree_store.specs.Groups.{IsBatchOf, IsDue}
+use Rattle.tree_store.specs.Groups.{IsDueAfter}
 use Rattle.gcks_core.specs.declared.outputs.CoreOutput.{CoreOutput}
 use Rattle.gcks_core.specs.Prepares.{IsCoreOutputOf, IsReadyFor}
 use Rattle.gcks_core.specs.Private.Cores.{IsGroupOf}
@@ -62,7 +63,7 @@ module _ (depth leaf : ℕ) (holders : Holders) (m : Name) (there : place_in dep
 
 -- ---- the leaves of a step are those of its joiners, in their order
 
-module _ (tree : Present) (batch : List Change) (limit : ℕ) (step : TreeStep) (is_step : IsStepOf tree batch limit step) (batches : List (List Change))
+module _ (tree : Present) (batch : List Change) (limit : ℕ) (marked : Marked) (marked_for : IsMarkedFor tree batch limit marked) (batches : List (List Change))
     (stands : StandsFor tree batches) (names : List Name) (m : Name) (rest : List Name) (so_far : names ++ m ∷ rest ≡ joiners batch) where
   abbrev after : Holders
   after = holders_of tree.depth (batches ++ batch ∷ [])
@@ -70,24 +71,24 @@ module _ (tree : Present) (batch : List Change) (limit : ℕ) (step : TreeStep) 
   abbrev place : Name → Option ℕ
   place n = place_in tree.depth after n
 
-  leaves_are : map Some step.joined ≡ map place names ++ place m ∷ map place rest
-  leaves_are = is_step.joined batches stands ∙ ap (map place) (sym so_far) ∙ map-append place names (m ∷ rest)
+  leaves_are : map Some marked.joined ≡ map place names ++ place m ∷ map place rest
+  leaves_are = marked_for.joined batches stands ∙ ap (map place) (sym so_far) ∙ map-append place names (m ∷ rest)
 
   -- there is one for the next joiner
-  leaf_there : length names < length step.joined
+  leaf_there : length names < length marked.joined
   leaf_there =
-      let all : length step.joined ≡ length (map place names ++ place m ∷ map place rest) = sym (length-map step.joined Some) ∙ ap length leaves_are in
+      let all : length marked.joined ≡ length (map place names ++ place m ∷ map place rest) = sym (length-map marked.joined Some) ∙ ap length leaves_are in
       let cut : length (map place names ++ place m ∷ map place rest) ≡ length (map place names) + length (place m ∷ map place rest) =
       length-append (map place names) (place m ∷ map place rest) in
       omega (arith, all, cut, length-map names place)
 
   -- and it is that one's
-  pub leaf_is : (d : ℕ) → place m ≡ Some (get_or step.joined (length names) d)
+  pub leaf_is : (d : ℕ) → place m ≡ Some (get_or marked.joined (length names) d)
   leaf_is d =
       let here : get_or (map place names ++ place m ∷ map place rest) (length names) None ≡ place m =
       ap (λ n. get_or (map place names ++ place m ∷ map place rest) n None) (sym (length-map names place))
       ∙ get_or-append_seam (map place names) (place m) (map place rest) None in
-      sym here ∙ ap (λ l. get_or l (length names) None) (sym leaves_are) ∙ get_or-map Some step.joined (length names) d None leaf_there
+      sym here ∙ ap (λ l. get_or l (length names) None) (sym leaves_are) ∙ get_or-map Some marked.joined (length names) d None leaf_there
 
 -- ---- the next change of a batch
 
@@ -169,13 +170,13 @@ module _ (tree : Present) (kept : Kept) (values : BatchValues) (spi : List ℕ) 
     so_far = names_with tree kept values spi batch at replies told change low_in here_in m into
 
     -- its leaf is that of the next joiner
-    module _ (limit : ℕ) (step : TreeStep) (is_step : IsStepOf tree batch limit step) (n : ℕ) (count : n ≡ length replies) (leaves : List ℕ)
-        (same_leaves : leaves ≡ step.joined) (leaf : ℕ) (leaf_here : leaf ≡ get_or leaves n leaf) where
+    module _ (limit : ℕ) (marked : Marked) (marked_for : IsMarkedFor tree batch limit marked) (n : ℕ) (count : n ≡ length replies) (leaves : List ℕ)
+        (same_leaves : leaves ≡ marked.joined) (leaf : ℕ) (leaf_here : leaf ≡ get_or leaves n leaf) where
       pub next_place : (batches : List (List Change)) → StandsFor tree batches
           → place_in tree.depth (holders_of tree.depth (batches ++ batch ∷ [])) m ≡ Some leaf
       next_place batches stands =
-          leaf_is tree batch limit step is_step batches stands (map name_of replies) m (joiners (drop (at + 1) batch)) so_far leaf
-          ∙ ap (λ (k : ℕ). Some (get_or step.joined k leaf)) (length-map replies name_of ∙ sym count)
+          leaf_is tree batch limit marked marked_for batches stands (map name_of replies) m (joiners (drop (at + 1) batch)) so_far leaf
+          ∙ ap (λ (k : ℕ). Some (get_or marked.joined k leaf)) (length-map replies name_of ∙ sym count)
           ∙ ap (λ (l : List ℕ). Some (get_or l n leaf)) (sym same_leaves) ∙ ap Some (sym leaf_here)
 
       pub next_from : (batches : List (List Change)) → StandsFor tree batches → 2 ^ tree.depth ≤ leaf
@@ -212,9 +213,9 @@ module _ {G : Type 0} (g : SignerGhosts G) (signer : G) (depth : ℕ) (spi : Lis
       by true there (sent, is, of_pair) = some sent is ∙ of_pair.wraps
       by false nobody is = none is ∙ sym (no_wraps depth (batches_made list) (length list) nobody)
 
-module _ {G : Type 0} (g : SignerGhosts G) (signer : G) (head : Head) (tree : Present) (kept : Kept) (batch : List Change) (step : TreeStep)
-    (values : BatchValues) (list : List Made) (group : IsGroupOf head tree kept list) (is_step : IsStepOf tree batch head.limit step) (fits : Fits tree.holders batch)
-    (drawn : ids_of values.nodes ≡ step.drawn) where
+module _ {G : Type 0} (g : SignerGhosts G) (signer : G) (head : Head) (tree : Present) (batch : List Change) (marked : Marked)
+    (values : BatchValues) (list : List Made) (group : IsGroupOf head tree list) (marked_for : IsMarkedFor tree batch head.limit marked) (fits : Fits tree.holders batch)
+    (drawn : ids_of values.nodes ≡ marked.drawn) where
   abbrev made : Made
   made = record { changes = batch; values = values }
 
@@ -236,31 +237,33 @@ module _ {G : Type 0} (g : SignerGhosts G) (signer : G) (head : Head) (tree : Pr
   same_length : length batches + 1 ≡ length all
   same_length = ap (λ n. n + 1) (length_batches list) ∙ sym (length_more list made)
 
-  stands_next : StandsFor (stepped tree step) longer
-  stands_next = (is_step.next batches group.tree).1
+  stands_next : StandsFor (installed tree marked) longer
+  stands_next = (marked_for.next batches group.tree).1
 
-  epoch_is : step.epoch ≡ length batches + 1
+  epoch_is : marked.epoch ≡ length batches + 1
   epoch_is = stands_next.epoch ∙ long
 
-  sequence_is : step.sequence ≡ sequence_at head.depth longer (length batches + 1)
+  sequence_is : marked.sequence ≡ sequence_at head.depth longer (length batches + 1)
   sequence_is = stands_next.sequence ∙ (λ i. sequence_at (group.depth i) longer (long i))
 
-  pub due_next : IsDue head.depth head.limit batches (stored_after head.depth batches made)
+  pub due_next : IsDueAfter head.depth head.limit batches (stored_after head.depth batches made)
   due_next = record {
     epoch = refl;
-    early = subst (λ n. n ≤ head.limit) long (is_step.next batches group.tree).2;
-    fits = subst (λ holders. Fits holders batch) (group.tree.holders ∙ ap (λ depth. holders_of depth batches) group.depth) fits;
-    drawn = drawn ∙ is_step.drawn batches group.tree ∙ (λ i. drawn_at (group.depth i) longer (epoch_is i));
+    early = subst (λ n. n ≤ head.limit) long (marked_for.next batches group.tree).2;
+    carried = record {
+      fits = subst (λ holders. Fits holders batch) (group.tree.holders ∙ ap (λ depth. holders_of depth batches) group.depth) fits;
+      drawn = drawn ∙ marked_for.drawn batches group.tree ∙ (λ i. drawn_at (group.depth i) longer (epoch_is i));
+    };
     sequence = refl;
-    numbered = subst (λ n. n ≤ head.limit) (λ i. sequence_at (group.depth i) longer (long i)) (is_step.next batches group.tree).3;
+    numbered = subst (λ n. n ≤ head.limit) (λ i. sequence_at (group.depth i) longer (long i)) (marked_for.next batches group.tree).3;
   }
 
   pub drawn_all : AreDrawn tree.depth all
-  drawn_all = drawn_next head tree kept list group (stored_after head.depth batches made) due_next
+  drawn_all = drawn_next head tree list group (stored_after head.depth batches made) due_next
 
   module _ (text : List ℕ) (output : CoreOutput)
-      (read : IsBatchOf text (record { batch = batch; epoch = step.epoch; sequence = step.sequence; values = values })) (short : length text ≤ 65536)
-      (epoch : output.epoch ≡ step.epoch) (sequence : output.sequence ≡ step.sequence) (members : output.members ≡ member_count (stepped tree step).holders)
+      (read : IsBatchOf text (record { batch = batch; epoch = marked.epoch; sequence = marked.sequence; values = values })) (short : length text ≤ 65536)
+      (epoch : output.epoch ≡ marked.epoch) (sequence : output.sequence ≡ marked.sequence) (members : output.members ≡ member_count (installed tree marked).holders)
       (pair : IsPairIfStayed g signer tree.depth head.spi all output.pushes)
       (some : (pair : PushPair) → output.pushes ≡ Some pair → output.wraps ≡ pair.wraps) (none : output.pushes ≡ None → output.wraps ≡ [])
       (joiners_are : map name_of output.told ≡ joiners batch)
@@ -277,13 +280,13 @@ module _ {G : Type 0} (g : SignerGhosts G) (signer : G) (head : Head) (tree : Pr
       pushes = pair_is;
     }
 
-    pub is_ready : IsReadyFor g signer head tree batch list (record { values = values; text = text; output = output; step = step })
+    pub is_ready : IsReadyFor g signer head tree batch list (record { values = values; text = text; output = output; marked = marked })
     is_ready = record {
       due = due_next;
       text_is = subst (IsBatchOf text) (λ i. record { batch = batch; epoch = epoch_is i; sequence = sequence_is i; values = values }) read;
       short = short;
       puts_out = puts_out;
-      step_is = is_step;
+      is_marked = marked_for;
       joiners_are = joiners_are;
       replies_are = subst (λ depth. All (λ (reply : Name × Keyed). IsKeyedOf depth head.spi all reply.0 reply.1) output.told) group.depth told;
     }

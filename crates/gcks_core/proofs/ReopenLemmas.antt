@@ -10,7 +10,7 @@ use Rattle.gd_edges.specs.declared.signers.Signer.{Ghosts as SignerGhosts}
 use Rattle.group_terms.specs.declared.changes.Change.{Change}
 use Rattle.group_values.specs.Values.{Kept, Made}
 use Rattle.group_model.specs.Places.{Fits, Holders}
-use Rattle.group_model.specs.Present.{Present}
+use Rattle.key_tree.specs.Present.{Present}
 use Rattle.group_model.specs.Servers.{MayHave, Server, opened_server, reopened}
 use Rattle.group_model.specs.declared.entries.PushPair.{PushPair}
 use Rattle.group_pushes.specs.Pairs.{IsPairIfStayed}
@@ -18,8 +18,10 @@ use Rattle.group_records.specs.declared.heads.Head.{Head}
 use Rattle.tree_store.specs.Groups.{IsGroup}
 use Rattle.gcks_core.specs.Private.Cores.{IsGroupOf}
 use Rattle.gcks_core.specs.Stands.{Stands}
-use Rattle.gcks_core.specs.Stored.{IsFileOf, IsOnDisk, made_of, stored_from, stored_list}
+use Rattle.tree_store.specs.Groups.{made_of}
+use Rattle.gcks_core.specs.Stored.{IsFileOf, IsOnDisk, stored_list}
 use Rattle.gcks_core.specs.Views.{View}
+use Rattle.gcks_core.proofs.ListLemmas.{unstored}
 use Rattle.gcks_core.proofs.MakeLemmas.{stands_opened}
 use Rattle.gcks_core.proofs.StoreLemmas.{OneGroup}
 use Rattle.gcks_core.proofs.StandLemmas.{stands_as}
@@ -33,13 +35,8 @@ nothing_waits holders = record {
   room = omega (arith, count_by-le-length is_some holders);
 }
 
--- what was stored has the batches
-unstored : (depth : ℕ) (before : List (List Change)) (list : List Made) → map made_of (stored_from depth before list) ≡ list
-unstored depth before [] = refl
-unstored depth before (made ∷ list) = λ i. made ∷ unstored depth (before ++ made.changes ∷ []) list i
-
 pub same_list : (depth other : ℕ) (list others : List Made) → stored_list depth list ≡ stored_list other others → list ≡ others
-same_list depth other list others same = sym (unstored depth [] list) ∙ ap (map made_of) same ∙ unstored other [] others
+same_list depth other list others same = sym (unstored depth list) ∙ ap (map made_of) same ∙ unstored other others
 
 -- a file has the batches of one group
 pub one_list : OneGroup → (file : List ℕ) (head other : Head) (list others : List Made) → IsGroup file head (stored_list head.depth list)
@@ -50,7 +47,7 @@ one_list one file head other list others is has =
 
 module _ {D G R : Type 0} (draws : DrawGhosts R) (old : View D G R) (server : Server) (stands : Stands draws old server) where
   -- the journal was opened again, and had these
-  pub stands_again : (new : View D G R) (found list : List Made) → IsGroupOf new.head new.tree new.kept found → new.head ≡ old.head → found ≡ list
+  pub stands_again : (new : View D G R) (found list : List Made) → IsGroupOf new.head new.tree found → new.head ≡ old.head → found ≡ list
       → new.needs_reopen ≡ false → new.queue ≡ [] → new.draws ≡ old.draws → Stands draws new (reopened server list)
   stands_again new found list group same_head same needs_reopen queue same_draws =
       subst (Stands draws new)
@@ -67,12 +64,12 @@ module _ {D G R : Type 0} (draws : DrawGhosts R) (old : View D G R) (server : Se
 
 -- what is found when a journal is opened again
 module _ {D G R : Type 0} (disk : Ghosts D) (signing : SignerGhosts G) (draws : DrawGhosts R) {inside old : View D G R} (same : inside ≡ old)
-    (now : D) (shows : shown disk now ≡ shown disk inside.disk) (head : Head) (tree : Present) (kept : Kept) (queue : List Change) (none : queue ≡ [])
-    (list : List Made) (group : IsGroupOf head tree kept list) (has : Knows (shown disk now) (λ file. IsGroup file head (stored_list head.depth list)))
+    (now : D) (shows : shown disk now ≡ shown disk inside.disk) (head : Head) (tree : Present) (queue : List Change) (none : queue ≡ [])
+    (list : List Made) (group : IsGroupOf head tree list) (has : Knows (shown disk now) (λ file. IsGroup file head (stored_list head.depth list)))
     (resent : Option PushPair) (pair : IsPairIfStayed signing inside.signer head.depth head.spi list resent) where
   -- the core that is open then
   abbrev new : View D G R
-  new = record { disk = now; signer = inside.signer; draws = inside.draws; head = head; tree = tree; kept = kept; queue = queue; needs_reopen = false }
+  new = record { disk = now; signer = inside.signer; draws = inside.draws; head = head; tree = tree; queue = queue; needs_reopen = false }
 
   was_shown : shown disk now ≡ shown disk old.disk
   was_shown = shows ∙ ap (λ (core : View D G R). shown disk core.disk) same

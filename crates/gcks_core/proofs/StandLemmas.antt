@@ -25,7 +25,7 @@ module _ {D G R : Type 0} (draws : DrawGhosts R) (core : View D G R) where
     place = draws.place_of core.draws;
   }
 
-  pub stands_as : (list : List Made) → IsGroupOf core.head core.tree core.kept list → Stands draws core (sure_server list)
+  pub stands_as : (list : List Made) → IsGroupOf core.head core.tree list → Stands draws core (sure_server list)
   stands_as list group = record {
     depth = refl;
     limit = refl;
@@ -41,11 +41,11 @@ module _ {D G R : Type 0} (draws : DrawGhosts R) (core : View D G R) where
     place = refl;
   }
 
-  pub some_server : (list : List Made) → IsGroupOf core.head core.tree core.kept list → (server : Server) × Stands draws core server
+  pub some_server : (list : List Made) → IsGroupOf core.head core.tree list → (server : Server) × Stands draws core server
   some_server list group = (sure_server list, stands_as list group)
 
   module _ (server : Server) (stands : Stands draws core server) where
-    pub group_of : IsGroupOf core.head core.tree core.kept server.list
+    pub group_of : IsGroupOf core.head core.tree server.list
     group_of = record {
       depth = stands.tree_depth ∙ sym stands.depth;
       tree = stands.tree;

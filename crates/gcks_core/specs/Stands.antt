@@ -3,7 +3,7 @@ use Rattle.std.specs.Prelude.{◌≡◌, ◌+◌, ◌^◌, false, length, None}
 use Rattle.std.specs.List.{All}
 use Rattle.gd_edges.specs.declared.draws.Draws.{Ghosts as DrawGhosts}
 use Rattle.group_values.specs.Values.{KeepsLast}
-use Rattle.group_model.specs.Present.{StandsFor}
+use Rattle.key_tree.specs.Present.{StandsFor}
 use Rattle.group_model.specs.Servers.{Server, present_batches}
 use Rattle.group_pushes.specs.Fits.{MadeFits}
 use Rattle.gcks_core.specs.Stored.{AreDue}
@@ -17,8 +17,8 @@ pub record Stands {D G R : Type 0} (draws : DrawGhosts R) (core : View D G R) (s
   pub limit : core.head.limit ≡ server.limit
   pub tree_depth : core.tree.depth ≡ server.depth
   pub tree : StandsFor core.tree (present_batches server)
-  pub room : length core.kept.nodes ≡ 2 ^ (server.depth + 1)
-  pub kept : KeepsLast core.kept server.list
+  pub room : length core.tree.kept.nodes ≡ 2 ^ (server.depth + 1)
+  pub kept : KeepsLast core.tree.kept server.list
   pub due : AreDue server.depth server.limit server.list
   pub fit : All MadeFits server.list
   pub queue : core.queue ≡ server.queue

@@ -9,7 +9,7 @@ use Rattle.group_model.specs.Servers.{Server, MayHave}
 use Rattle.group_model.specs.Stayed.{sequence_at}
 use Rattle.group_records.specs.declared.batches.Stored.{Stored}
 use Rattle.group_records.specs.declared.heads.Head.{Head}
-use Rattle.tree_store.specs.Groups.{IsDue, IsGroup}
+use Rattle.tree_store.specs.Groups.{IsDueAfter, IsGroup}
 
 -- a batch after others, with the epoch that it makes and the number of the last push after it
 abbrev pub stored_after : ℕ → List (List Change) → Made → Stored
@@ -19,10 +19,6 @@ stored_after depth before made = record {
   sequence = sequence_at depth (before ++ made.changes ∷ []) (length before + 1);
   values = made.values;
 }
-
--- what was stored, without what follows from those before it
-abbrev pub made_of : Stored → Made
-made_of stored = record { changes = stored.batch; values = stored.values }
 
 -- batches after others, one after the other
 abbrev pub stored_from : ℕ → List (List Change) → List Made → List Stored
@@ -37,7 +33,7 @@ stored_list depth list = stored_from depth [] list
 abbrev pub AreDueFrom : ℕ → ℕ → List (List Change) → List Made → Type 0
 AreDueFrom depth limit before [] = Unit {0}
 AreDueFrom depth limit before (made ∷ list) =
-    IsDue depth limit before (stored_after depth before made) × AreDueFrom depth limit (before ++ made.changes ∷ []) list
+    IsDueAfter depth limit before (stored_after depth before made) × AreDueFrom depth limit (before ++ made.changes ∷ []) list
 
 -- batches from the first one on are due, each after those before it
 abbrev pub AreDue : ℕ → ℕ → List Made → Type 0

@@ -13,23 +13,21 @@ ghost use Rattle.gcks_core.specs.Stored.{stored_after, stored_list};
 
 use crate::{CoreOutput, Prepared, Refusal};
 use gd_disk::Disk;
-use group_model::PresentTree;
 use group_pushes::prove_values_fit;
-use group_values::KeptValues;
+use key_tree::KeyTree;
 use tree_store::{TreeStore, a_file_has_one_group};
 
 /// Stores a batch, and then takes it in. It takes no memory.
 pub(crate) fn store_batch<D: Disk>(
     store: &mut TreeStore<D>,
-    tree: &mut PresentTree,
-    kept: &mut KeptValues,
+    tree: &mut KeyTree,
     ready: Prepared,
 ) -> Result<CoreOutput, Refusal>
-    requires group { (head : Head) × (list : List Made) × (changes : List Change) × IsGroupOf head tree.old kept.old list × IsAtEnd D.Disk store.old head list
+    requires group { (head : Head) × (list : List Made) × (changes : List Change) × IsGroupOf head tree.old list × IsAtEnd D.Disk store.old head list
         × IsStorable head tree.old changes list ready }
     ensures output { IfOk result (λ output. output ≡ ready.output) }
-    ensures group { (head : Head) (list : List Made) (changes : List Change) → IsGroupOf head tree.old kept.old list → IsStorable head tree.old changes list ready →
-        OnOk result (IsGroupOf head tree.new kept.new (list ++ record { changes = changes; values = ready.values } ∷ [])) }
+    ensures group { (head : Head) (list : List Made) (changes : List Change) → IsGroupOf head tree.old list → IsStorable head tree.old changes list ready →
+        OnOk result (IsGroupOf head tree.new (list ++ record { changes = changes; values = ready.values } ∷ [])) }
     ensures at_end { (head : Head) (list : List Made) (changes : List Change) → IsAtEnd D.Disk store.old head list → IsStorable head tree.old changes list ready →
         OnOk result (IsAtEnd D.Disk store.new head (list ++ record { changes = changes; values = ready.values } ∷ [])) }
     ensures durable { (head : Head) (list : List Made) (changes : List Change) → HasGroup (shown D.Disk store.old.disk) head (stored_list head.depth list) →
@@ -41,7 +39,7 @@ pub(crate) fn store_batch<D: Disk>(
     ensures in_doubt { (head : Head) (list : List Made) (changes : List Change) → HasGroup (shown D.Disk store.old.disk) head (stored_list head.depth list) →
         IsStorable head tree.old changes list ready → OnErr result (Knows (shown D.Disk store.new.disk)
         (IsGroupBeforeOrAfter head (stored_list head.depth list) (stored_after head.depth (batches_made list) (record { changes = changes; values = ready.values })))) }
-    ensures err { OnErr result ((tree.new ≡ tree.old) × (kept.new ≡ kept.old)) }
+    ensures err { OnErr result (tree.new ≡ tree.old) }
     ensures no_other { IfErr result (λ why. why ≡ DiskFault) }
     ensures disk { ReportsFaults D.Disk (result ≡ Err DiskFault) store.old.disk store.new.disk }
 {
@@ -50,13 +48,13 @@ pub(crate) fn store_batch<D: Disk>(
         values,
         text,
         output,
-        step,
+        marked,
     } = ready;
     prove_values_fit(&values);
     match store.commit(&text) {
         Ok(()) => {
-            tree.advance(step);
-            kept.take(&values);
+            tree.install(marked, &values);
+            tree.prove_room();
             Ok(output)
         }
         Err(_) => Err(Refusal::DiskFault),

@@ -20,8 +20,8 @@ use crate::waiting::{queue_join, queue_leave};
 use crate::{CoreOutput, MemberName, Prepared, PushPair, Queue, Refusal};
 use gd_disk::Disk;
 use gd_edges::{Draws, Signer};
-use group_model::{PresentTree, a_batch_that_fits_has_few_changes};
-use group_values::KeptValues;
+use group_model::a_batch_that_fits_has_few_changes;
+use key_tree::KeyTree;
 use std::alloc::Global;
 use std::marker::Model;
 use tree_store::{Head, TreeStore, a_file_has_one_group};
@@ -33,8 +33,7 @@ pub struct Core<D: Disk, G: Signer, R: Draws> {
     pub(crate) head: Head,
     pub(crate) signer: G,
     pub(crate) draws: R,
-    pub(crate) tree: PresentTree,
-    pub(crate) kept: KeptValues,
+    pub(crate) tree: KeyTree,
     pub(crate) queue: Queue,
     /// Whether it has to be opened again.
     pub(crate) needs_reopen: bool,
@@ -46,7 +45,7 @@ impl<D: Disk, G: Signer, R: Draws> Model for Core<D, G, R> {
 
     ghost Value = { View D G R };
 
-    ghost invariant = { λ core. IsCore D.Disk core.store core.head core.tree core.kept core.queue core.needs_reopen };
+    ghost invariant = { λ core. IsCore D.Disk core.store core.head core.tree core.queue core.needs_reopen };
 
     ghost view = { λ core. record {
       disk = core.store.disk;
@@ -54,7 +53,6 @@ impl<D: Disk, G: Signer, R: Draws> Model for Core<D, G, R> {
       draws = core.draws;
       head = core.head;
       tree = core.tree;
-      kept = core.kept;
       queue = core.queue;
       needs_reopen = core.needs_reopen;
     } };
@@ -109,7 +107,6 @@ impl<D: Disk, G: Signer, R: Draws> Core<D, G, R> {
         prepare_batch::<D, G, R>(
             alloc,
             &self.tree,
-            &self.kept,
             self.queue.batch(),
             &self.head,
             &self.signer,
@@ -144,7 +141,7 @@ impl<D: Disk, G: Signer, R: Draws> Core<D, G, R> {
         ensures disk { ReportsFaults D.Disk (result ≡ Err DiskFault) self.old.disk self.new.disk }
     {
         a_batch_that_fits_has_few_changes();
-        match store_batch(&mut self.store, &mut self.tree, &mut self.kept, prepared) {
+        match store_batch(&mut self.store, &mut self.tree, prepared) {
             Ok(output) => {
                 self.queue.clear();
                 Ok(output)
@@ -190,7 +187,6 @@ impl<D: Disk, G: Signer, R: Draws> Core<D, G, R> {
             Ok(found) => {
                 self.head = found.head;
                 self.tree = found.tree;
-                self.kept = found.kept;
                 self.queue = Queue::new();
                 self.needs_reopen = false;
                 Ok(found.resent)

@@ -1,4 +1,4 @@
-//! The core of a key server: a group in its journal, its present tree with the values of its keys, changes that wait, and batches with their pushes.
+//! The core of a key server: a group in its journal, its key tree, changes that wait, and batches with their pushes.
 #![tactic(auto)]
 
 pub use batch_queue::Queue;

@@ -101,7 +101,7 @@ impl<D: Disk, G: Signer, R: Draws> Core<D, G, R> {
     pub fn place(&self, member: &MemberName) -> Option<LkhId>
         ensures { result ≡ place_in self.now.tree.depth self.now.tree.holders member.now }
     {
-        self.tree.place(member)
+        self.tree.leaf_of(member)
     }
 
     /// Whether somebody of this name is a member.
@@ -129,7 +129,7 @@ impl<D: Disk, G: Signer, R: Draws> Core<D, G, R> {
         if self.needs_reopen {
             return Err(Refusal::NeedsReopen);
         }
-        Ok(keyed(&self.tree, &self.kept, &self.head.spi, member).unwrap())
+        Ok(keyed(&self.tree, &self.head.spi, member).unwrap())
     }
 
     /// Why the join of somebody may not wait for the next batch, if there is a reason: `NeedsReopen`, `AlreadyPending`, `TreeFull`, `BatchFull`, the first of
@@ -156,9 +156,9 @@ impl<D: Disk, G: Signer, R: Draws> Core<D, G, R> {
 
     /// The value of the present traffic key; `None` iff the epoch is 0.
     pub fn traffic(&self) -> Option<TrafficValue>
-        ensures { result ≡ self.now.kept.traffic }
+        ensures { result ≡ self.now.tree.kept.traffic }
     {
-        self.kept.traffic()
+        self.tree.traffic()
     }
 
     /// The next block of its draws, for somebody else.

@@ -18,9 +18,8 @@ use crate::reading::{Found, read_all, refusal_of};
 use crate::{Core, CoreOpened, NewGroup, Opening, Parts, Queue, Refusal};
 use gd_disk::{Disk, a_crash_may_leave_nothing_or_all};
 use gd_edges::{Draws, Signer};
-use group_model::PresentTree;
 use group_terms::NoMemory;
-use group_values::KeptValues;
+use key_tree::KeyTree;
 use std::alloc::Global;
 use tree_store::{FormatRefusal, Head, TreeStore};
 
@@ -62,7 +61,7 @@ impl<D: Disk, G: Signer, R: Draws> Core<D, G, R> {
             spi: draws.draw(),
             limit: group.limit,
         };
-        let Ok((tree, kept)) = begun(alloc, group.depth) else {
+        let Ok(tree) = begun(alloc, group.depth) else {
             return Err(Opening {
                 refusal: Refusal::NoMemory,
                 parts: Parts {
@@ -79,7 +78,6 @@ impl<D: Disk, G: Signer, R: Draws> Core<D, G, R> {
                 signer,
                 draws,
                 tree,
-                kept,
                 queue: Queue::new(),
                 needs_reopen: false,
             }),
@@ -134,21 +132,13 @@ impl<D: Disk, G: Signer, R: Draws> Core<D, G, R> {
             }
         };
         match read_all(alloc, &mut store, &signer) {
-            Ok(
-                Found {
-                    head,
-                    tree,
-                    kept,
-                    resent,
-                },
-            ) => Ok(CoreOpened {
+            Ok(Found { head, tree, resent }) => Ok(CoreOpened {
                 core: Core {
                     store,
                     head,
                     signer,
                     draws,
                     tree,
-                    kept,
                     queue: Queue::new(),
                     needs_reopen: false,
                 },
@@ -166,13 +156,13 @@ impl<D: Disk, G: Signer, R: Draws> Core<D, G, R> {
     }
 }
 
-/// The tree of a group before its first batch, and room for the values of its keys.
-fn begun(alloc: Global, depth: u8) -> Result<(PresentTree, KeptValues), NoMemory>
+/// The tree of a group before its first batch.
+fn begun(alloc: Global, depth: u8) -> Result<KeyTree, NoMemory>
     requires shallow { 1 ≤ depth }
     requires not_deep { depth ≤ 9 }
-    ensures { (head : Head) → head.depth ≡ depth → IfOk result (λ both. IsGroupOf head both.0 both.1 []) }
+    ensures { (head : Head) → head.depth ≡ depth → IfOk result (λ tree. IsGroupOf head tree []) }
 {
-    let tree = PresentTree::new(alloc, depth)?;
-    let kept = KeptValues::new(alloc, depth)?;
-    Ok((tree, kept))
+    let tree = KeyTree::new(alloc, depth)?;
+    tree.prove_room();
+    Ok(tree)
 }

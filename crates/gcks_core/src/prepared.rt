@@ -2,8 +2,8 @@
 ghost use Rattle.std.specs.Prelude.{◌≡◌};
 
 use crate::{CoreOutput, Keyed, MemberName};
-use group_model::TreeStep;
 use group_terms::{BatchValues, Octets};
+use key_tree::Marked;
 use std::marker::Model;
 
 /// A batch with all that it makes: the values of its keys, its record, what it puts out, and what it makes of the tree.
@@ -12,7 +12,7 @@ pub struct Prepared {
     pub(crate) values: BatchValues,
     pub(crate) text: Octets,
     pub(crate) output: CoreOutput,
-    pub(crate) step: TreeStep,
+    pub(crate) marked: Marked,
 }
 
 impl Model for Prepared {
@@ -24,7 +24,7 @@ impl Model for Prepared {
       values = prepared.values;
       text = prepared.text;
       output = prepared.output;
-      step = prepared.step;
+      marked = prepared.marked;
     } };
 }
 

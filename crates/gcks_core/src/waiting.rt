@@ -7,13 +7,14 @@ ghost use Rattle.group_model.specs.Servers.{GivesRefusal};
 
 use crate::{MemberName, Queue, Refusal};
 use batch_queue::QueueRefusal;
-use group_model::{PresentTree, a_batch_that_fits_has_few_changes, granted_changes_fit};
+use group_model::{a_batch_that_fits_has_few_changes, granted_changes_fit};
 use group_terms::{Change, MOST_CHANGES};
+use key_tree::KeyTree;
 
 /// Lets a name in with the next batch, which is no member.
 pub(crate) fn queue_join(
     needs_reopen: bool,
-    tree: &PresentTree,
+    tree: &KeyTree,
     queue: &mut Queue,
     member: &MemberName,
 ) -> Result<(), Refusal>
@@ -34,7 +35,7 @@ pub(crate) fn queue_join(
 /// Why a join may not wait, if there is a reason: the first that holds. Where there is none, the join of somebody who is no member fits with what waits.
 pub(crate) fn why_no_join(
     needs_reopen: bool,
-    tree: &PresentTree,
+    tree: &KeyTree,
     queue: &Queue,
     member: &MemberName,
 ) -> Option<Refusal>
@@ -65,7 +66,7 @@ pub(crate) fn why_no_join(
 /// Takes a member out with the next batch.
 pub(crate) fn queue_leave(
     needs_reopen: bool,
-    tree: &PresentTree,
+    tree: &KeyTree,
     queue: &mut Queue,
     member: &MemberName,
 ) -> Result<(), Refusal>
@@ -89,7 +90,7 @@ pub(crate) fn queue_leave(
 }
 
 /// The leaves that the next batch will leave taken: those of members that are not leaving, and those of pending joins.
-fn count_taken(tree: &PresentTree, queue: &Queue) -> usize
+fn count_taken(tree: &KeyTree, queue: &Queue) -> usize
     requires fits { Fits tree.now.holders queue.now }
     ensures { result ≡ leaves_taken tree.now.depth tree.now.holders queue.now }
 {

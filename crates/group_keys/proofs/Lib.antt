@@ -1,3 +1,2 @@
 pub mod LastLemmas
-pub mod PathLemmas
 pub mod ReplyLemmas

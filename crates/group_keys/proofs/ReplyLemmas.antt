@@ -18,20 +18,21 @@ use Rattle.group_terms.specs.declared.paths.Keyed.{Keyed}
 use Rattle.group_terms.specs.declared.paths.PathKey.{PathKey}
 use Rattle.group_terms.specs.declared.values.BatchValues.{BatchValues}
 use Rattle.group_terms.specs.declared.values.NodeValue.{NodeValue}
-use Rattle.group_values.specs.Values.{HasValue, Kept, KeepsLast, Made, Rises, batches_made, ids_of, last_value, node_value, traffic_value}
-use Rattle.group_model.specs.declared.steps.TreeStep.{TreeStep}
+use Rattle.group_values.specs.Values.{HasValue, KeepsLast, Made, Rises, batches_made, ids_of, last_value, node_value, traffic_value}
+use Rattle.key_tree.specs.declared.marks.Marked.{Marked}
 use Rattle.group_model.specs.Drawn.{drawn_at, is_held_below}
 use Rattle.group_model.specs.Fresh.{last_change, node_name, upwards}
 use Rattle.group_model.specs.Laws.{PlacesAreHeld}
 use Rattle.group_model.specs.Places.{Holders, holders_of, is_held_by, place_in}
-use Rattle.group_model.specs.Present.{Present, StandsFor, changes_at}
+use Rattle.key_tree.specs.Present.{IsPresentKey, Present, StandsFor}
+use Rattle.group_model.specs.LastChanges.{changes_at}
 use Rattle.group_model.specs.Stayed.{sequence_at}
-use Rattle.group_model.specs.Steps.{stepped}
+use Rattle.key_tree.specs.Marks.{installed}
 use Rattle.group_keys.specs.Drawn.{AreDrawn, AreDrawnFrom, IsInUse, IsLastDrawn}
-use Rattle.group_keys.specs.Private.Present.{IsNextKey, IsPresentKey}
+use Rattle.group_keys.specs.Private.Present.{IsNextKey}
 use Rattle.group_keys.specs.Replies.{IsKeyedOf}
 use Rattle.group_keys.proofs.LastLemmas.{below_any, slice_get-end}
-use Rattle.group_keys.proofs.PathLemmas.{some_power, twice}
+use Rattle.key_tree.proofs.PathLemmas.{some_power, twice}
 
 halved-suc : (n x : ℕ) → halved (suc n) x ≡ halved n x / 2
 halved-suc zero x = refl
@@ -101,17 +102,17 @@ pub record IsLastKey (tree : Present) (list : List Made) (key : PathKey) : Type 
   pub made : key.made ≡ unwrap_or (get_or tree.changes key.id None) 0
   pub value : key.id < 2 ^ (tree.depth + 1) → (value : NodeValue) → last_value list key.id ≡ Some value → value ≡ key.value
 
-pub present_last : (tree : Present) (kept : Kept) (list : List Made) (key : PathKey) → KeepsLast kept list → length kept.nodes ≡ 2 ^ (tree.depth + 1)
-    → IsPresentKey tree kept key → IsLastKey tree list key
-present_last tree kept list key keeps room present = record {
+pub present_last : (tree : Present) (list : List Made) (key : PathKey) → KeepsLast tree.kept list → length tree.kept.nodes ≡ 2 ^ (tree.depth + 1)
+    → IsPresentKey tree key → IsLastKey tree list key
+present_last tree list key keeps room present = record {
   made = present.made;
   value = λ low value last. cc (keeps.nodes key.id (omega (arith, low, room)) value last, present.value);
 }
 
-pub next_last : (tree : Present) (step : TreeStep) (kept : Kept) (values : BatchValues) (list : List Made) (changes : List Change) (key : PathKey)
-    → KeepsLast kept list → Rises (ids_of values.nodes) → IsNextKey tree step kept values key
-    → IsLastKey (stepped tree step) (list ++ record { changes = changes; values = values } ∷ []) key
-next_last tree step kept values list changes key keeps rises next = record {
+pub next_last : (tree : Present) (step : Marked) (values : BatchValues) (list : List Made) (changes : List Change) (key : PathKey)
+    → KeepsLast tree.kept list → Rises (ids_of values.nodes) → IsNextKey tree step values key
+    → IsLastKey (installed tree step) (list ++ record { changes = changes; values = values } ∷ []) key
+next_last tree step values list changes key keeps rises next = record {
   made = next.made;
   value = λ low value last. sym (next.value list changes value keeps rises last);
 }

@@ -7,63 +7,54 @@ ghost use Rattle.group_terms.specs.declared.paths.PathKey.{PathKey};
 ghost use Rattle.group_values.specs.Values.{KeepsLast, Made, batches_made};
 ghost use Rattle.group_model.specs.Fresh.{upwards};
 ghost use Rattle.group_model.specs.Places.{holders_of, place_in};
-ghost use Rattle.group_model.specs.Present.{StandsFor};
-ghost use Rattle.group_model.specs.Steps.{IsReady, IsStepOf};
+ghost use Rattle.key_tree.specs.Present.{StandsFor};
+ghost use Rattle.key_tree.specs.Marks.{IsReady, IsMarkedFor};
 ghost use Rattle.group_keys.specs.Drawn.{AreDrawn};
-ghost use Rattle.group_keys.specs.Private.Present.{IsNextKey, IsPresentKey};
+ghost use Rattle.group_keys.specs.Private.Present.{IsNextKey};
 ghost use Rattle.group_keys.specs.Replies.{IsKeyedOf};
 
 use crate::the_last_value_is_that_of_the_last_change;
-use group_model::{
-    PresentTree, TreeStep, drawn_positions_rise, each_leaf_has_its_place, places_are_held,
-};
+use group_model::{drawn_positions_rise, each_leaf_has_its_place, places_are_held};
 use group_terms::{BatchValues, Keyed, LkhId, MemberName, Path, PathKey};
-use group_values::KeptValues;
+use key_tree::{KeyTree, Marked, above};
 
 /// What a member of the present epoch is told that asks now (RFC 6407 section 3.2); `None` for who has no leaf, and only there. It takes no memory.
-pub fn keyed(
-    tree: &PresentTree,
-    kept: &KeptValues,
-    spi: &[u8; 16],
-    member: &MemberName,
-) -> Option<Keyed>
-    requires { length kept.now.nodes ≡ 2 ^ (tree.now.depth + 1) }
-    ensures keyed { (list : List Made) → StandsFor tree.now (batches_made list) → KeepsLast kept.now list → AreDrawn tree.now.depth list →
+pub fn keyed(tree: &KeyTree, spi: &[u8; 16], member: &MemberName) -> Option<Keyed>
+    ensures keyed { (list : List Made) → StandsFor tree.now (batches_made list) → KeepsLast tree.now.kept list → AreDrawn tree.now.depth list →
         IfSome result (IsKeyedOf tree.now.depth spi.now list member.now) }
-    ensures none { (list : List Made) → StandsFor tree.now (batches_made list) → KeepsLast kept.now list →
+    ensures none { (list : List Made) → StandsFor tree.now (batches_made list) → KeepsLast tree.now.kept list →
         IfNone result (place_in tree.now.depth tree.now.holders member.now ≡ None) }
     ensures nobody { place_in tree.now.depth tree.now.holders member.now ≡ None → result ≡ None }
 {
     the_last_value_is_that_of_the_last_change();
     each_leaf_has_its_place();
     places_are_held();
-    let leaf = tree.place(member)?;
-    let traffic = kept.traffic()?;
+    tree.prove_room();
+    let leaf = tree.leaf_of(member)?;
+    let traffic = tree.traffic()?;
     Some(Keyed {
         epoch: tree.epoch(),
         sequence: tree.sequence(),
         spi: *spi,
-        path: path_from(tree, kept, leaf),
+        path: tree.path(leaf),
         traffic,
     })
 }
 
-/// What a member is told of the epoch that a batch makes, found out before the tree takes the step (RFC 6407 section 3.2). It is the member that has this
+/// What a member is told of the epoch that a batch makes, found out before the batch is in (RFC 6407 section 3.2). It is the member that has this
 /// leaf then, and the batch drew the values. It takes no memory.
 pub fn keyed_after(
-    tree: &PresentTree,
-    step: &TreeStep,
-    kept: &KeptValues,
+    tree: &KeyTree,
+    marked: &Marked,
     values: &BatchValues,
     spi: &[u8; 16],
     leaf: LkhId,
 ) -> Keyed
-    requires ready { IsReady tree.now step.now }
-    requires room { length kept.now.nodes ≡ 2 ^ (tree.now.depth + 1) }
+    requires ready { IsReady tree.now marked.now }
     requires from { 2 ^ tree.now.depth ≤ leaf }
     requires to { leaf < 2 ^ (tree.now.depth + 1) }
-    ensures { (list : List Made) (changes : List Change) (limit : ℕ) (m : Name) → StandsFor tree.now (batches_made list) → KeepsLast kept.now list →
-        AreDrawn tree.now.depth (list ++ record { changes = changes; values = values.now } ∷ []) → IsStepOf tree.now changes limit step.now →
+    ensures { (list : List Made) (changes : List Change) (limit : ℕ) (m : Name) → StandsFor tree.now (batches_made list) → KeepsLast tree.now.kept list →
+        AreDrawn tree.now.depth (list ++ record { changes = changes; values = values.now } ∷ []) → IsMarkedFor tree.now changes limit marked.now →
         place_in tree.now.depth (holders_of tree.now.depth (batches_made list ++ changes ∷ [])) m ≡ Some leaf →
         IsKeyedOf tree.now.depth spi.now (list ++ record { changes = changes; values = values.now } ∷ []) m result }
 {
@@ -71,95 +62,42 @@ pub fn keyed_after(
     drawn_positions_rise();
     places_are_held();
     Keyed {
-        epoch: step.epoch(),
-        sequence: step.sequence(),
+        epoch: marked.epoch(),
+        sequence: marked.sequence(),
         spi: *spi,
-        path: path_after(tree, step, kept, values, leaf),
+        path: path_after(tree, marked, values, leaf),
         traffic: values.traffic,
     }
 }
 
-/// The keys from a leaf up to the root.
-fn path_from(tree: &PresentTree, kept: &KeptValues, leaf: LkhId) -> Path
-    requires room { length kept.now.nodes ≡ 2 ^ (tree.now.depth + 1) }
+/// The keys that the positions from a leaf up to the root have after a batch.
+fn path_after(tree: &KeyTree, marked: &Marked, values: &BatchValues, leaf: LkhId) -> Path
+    requires ready { IsReady tree.now marked.now }
     requires from { 2 ^ tree.now.depth ≤ leaf }
     requires to { leaf < 2 ^ (tree.now.depth + 1) }
     ensures ids { map (λ (key : PathKey). key.id) result ≡ upwards tree.now.depth leaf }
-    ensures keys { All (IsPresentKey tree.now kept.now) result }
+    ensures keys { All (IsNextKey tree.now marked.now values.now) result }
 {
     let mut path = Path::new();
     let mut id = leaf;
     for _ in 0..tree.depth() {
-        path.push(present_key(tree, kept, id));
+        path.push(next_key(tree, marked, values, id));
         id = above(id);
     }
-    path.push(present_key(tree, kept, id));
+    path.push(next_key(tree, marked, values, id));
     path
 }
 
-/// The key that a position has.
-fn present_key(tree: &PresentTree, kept: &KeptValues, id: LkhId) -> PathKey
-    requires { id < length kept.now.nodes }
+/// The key that a position has after a batch.
+fn next_key(tree: &KeyTree, marked: &Marked, values: &BatchValues, id: LkhId) -> PathKey
+    requires ready { IsReady tree.now marked.now }
+    requires within { id < 2 ^ (tree.now.depth + 1) }
     ensures id { result.id ≡ id }
-    ensures key { IsPresentKey tree.now kept.now result }
+    ensures key { IsNextKey tree.now marked.now values.now result }
 {
     PathKey {
         id,
-        made: tree.last(id).unwrap_or(0),
-        value: kept.node(id),
+        made: tree.last_after(marked, id).unwrap_or(0),
+        value: tree.value_after(values, id),
     }
-}
-
-/// The keys that the positions from a leaf up to the root have after a step.
-fn path_after(
-    tree: &PresentTree,
-    step: &TreeStep,
-    kept: &KeptValues,
-    values: &BatchValues,
-    leaf: LkhId,
-) -> Path
-    requires ready { IsReady tree.now step.now }
-    requires room { length kept.now.nodes ≡ 2 ^ (tree.now.depth + 1) }
-    requires from { 2 ^ tree.now.depth ≤ leaf }
-    requires to { leaf < 2 ^ (tree.now.depth + 1) }
-    ensures ids { map (λ (key : PathKey). key.id) result ≡ upwards tree.now.depth leaf }
-    ensures keys { All (IsNextKey tree.now step.now kept.now values.now) result }
-{
-    let mut path = Path::new();
-    let mut id = leaf;
-    for _ in 0..tree.depth() {
-        path.push(next_key(tree, step, kept, values, id));
-        id = above(id);
-    }
-    path.push(next_key(tree, step, kept, values, id));
-    path
-}
-
-/// The key that a position has after a step.
-fn next_key(
-    tree: &PresentTree,
-    step: &TreeStep,
-    kept: &KeptValues,
-    values: &BatchValues,
-    id: LkhId,
-) -> PathKey
-    requires ready { IsReady tree.now step.now }
-    requires room { length kept.now.nodes ≡ 2 ^ (tree.now.depth + 1) }
-    requires within { id < length kept.now.nodes }
-    ensures id { result.id ≡ id }
-    ensures key { IsNextKey tree.now step.now kept.now values.now result }
-{
-    PathKey {
-        id,
-        made: tree.last_after(step, id).unwrap_or(0),
-        value: kept.node_after(values, id),
-    }
-}
-
-/// The position above another one, which is not the root.
-fn above(id: LkhId) -> LkhId
-    requires { 1 < id }
-    ensures { result ≡ id / 2 }
-{
-    id.parent().unwrap()
 }

@@ -18,7 +18,7 @@ use Rattle.group_terms.specs.declared.changes.Change.{Change}
 use Rattle.group_model.specs.Places.{Holders, no_holders, is_held_by, is_member, place_in, vacated, placed, holders_after, holders_of, holders_at, Fits, FitInTurn}
 use Rattle.group_model.specs.Fresh.{is_same_holder, changed_leaves, is_fresh, last_change}
 use Rattle.group_model.specs.Private.Trees.{is_made_in, StandsAt, HasShape}
-use Rattle.group_model.specs.Present.{changes_at}
+use Rattle.group_model.specs.LastChanges.{changes_at}
 use Rattle.group_model.specs.declared.trees.Tree.{Tree}
 
 pow_pos_at : (n : ℕ) → 0 < 2 ^ n
@@ -130,41 +130,6 @@ place_in-first depth batches epoch m first =
 pub last_change-first : (depth : ℕ) (batches : List (List Change)) (epoch v : ℕ) → epoch ≡ 0 → None ≡ last_change depth batches epoch v
 unfolding last_change
 last_change-first depth batches epoch v first = rw first refl
-
--- no leaf is below a greater number than its own
-above_le : (n v x : ℕ) → is_below n v x ≡ true → v ≤ x
-above_le zero v x h = let same : x ≡ v = eqb-true x v h in omega arith
-above_le (suc n) v x h = elim (or_cases _ _ h) [
-  | inl here ↦ let same : x ≡ v = eqb-true x v here in omega arith
-  | inr more ↦ let half : v ≤ x / 2 = above_le n v (x / 2) more in omega arith
-]
-
-past_leaves : (depth first : ℕ) (passes : List Bool) (v : ℕ) → first + length passes ≤ v → list_any (λ (leaf : ℕ × Bool). leaf.1 && is_below depth v leaf.0) (enumerate_from first passes) ≡ false
-past_leaves depth first [] v past = refl
-past_leaves depth first (pass ∷ passes) v past =
-    let apart : is_below depth v first ≡ false = false_from_ne_true (is_below depth v first) (λ h. absurd (omega (arith, past, above_le depth v first h))) in
-    rw (and_right pass (is_below depth v first) apart) (past_leaves depth (first + 1) passes v (omega arith))
-
-changed_few : (before after : Holders) → length (changed_leaves before after) ≤ length after
-changed_few before after = omega (arith, length-map (zip before after) (λ (leaf : Option Name × Option Name). not (is_same_holder leaf.0 leaf.1)), length-zip before after)
-
--- a number past the last leaf never changes
-last_change-past : (depth : ℕ) (batches : List (List Change)) (epoch v : ℕ) → 2 ^ (depth + 1) ≤ v → last_change depth batches epoch v ≡ None
-unfolding last_change
-last_change-past depth batches zero v past = refl
-last_change-past depth batches (suc epoch) v past =
-    let few = changed_few (holders_at depth batches epoch) (holders_at depth batches (suc epoch)) in
-    let not_root : eqb v 1 ≡ false = ne_eqb v 1 (λ root. absurd (omega (arith, root, past, pow_more 2 depth, pow_pos_at depth))) in
-    let unmarked : some_leaf_below depth (changed_leaves (holders_at depth batches epoch) (holders_at depth batches (suc epoch))) v ≡ false =
-    past_leaves depth (2 ^ depth) (changed_leaves (holders_at depth batches epoch) (holders_at depth batches (suc epoch))) v (omega (arith, few, past, pow_more 2 depth, length-holders_of depth (take (suc epoch) batches))) in
-    rw (not_root, unmarked) (last_change-past depth batches epoch v past)
-
--- what is kept tells the last change of every number
-pub last_change-kept : (depth : ℕ) (batches : List (List Change)) (epoch v : ℕ) → get_or (changes_at depth batches epoch) v None ≡ last_change depth batches epoch v
-last_change-kept depth batches epoch v = elim (cases_lt v (2 ^ (depth + 1))) [
-  | inl low ↦ get_or-changes_at depth batches epoch v low
-  | inr past ↦ get_or_past (changes_at depth batches epoch) v None (omega (arith, past, length-changes_at depth batches epoch)) ∙ sym (last_change-past depth batches epoch v past)
-]
 
 pub changes_at-first : (depth : ℕ) (batches : List (List Change)) → replicate (2 ^ (depth + 1)) None ≡ changes_at depth batches 0
 unfolding last_change

@@ -19,7 +19,7 @@ use Rattle.group_model.proofs.EpochLemmas.{length-holders_of}
 use Rattle.group_model.proofs.StayedLemmas.{same_name-is, member_at}
 use Rattle.group_model.proofs.PlaceLemmas.{place_found, place_in-agree}
 use Rattle.group_model.proofs.FitLemmas.{has_place}
-use Rattle.group_model.specs.Private.Seats.{AreOnce}
+use Rattle.group_model.specs.Indexes.{AreOnce}
 use Rattle.group_model.proofs.OnceLemmas.{AreOnce-at}
 
 -- one more leaf

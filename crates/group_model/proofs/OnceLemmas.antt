@@ -8,7 +8,7 @@ use Rattle.group_terms.specs.Changes.{leavers, joiners}
 use Rattle.group_terms.specs.Names.{Name, same_name}
 use Rattle.group_terms.specs.declared.changes.Change.{Change}
 use Rattle.group_model.specs.Places.{Holders, no_holders, is_held_by, is_member, vacated, placed, names_once, holders_after, holders_at, Fits, FitInTurn, IsValid}
-use Rattle.group_model.specs.Private.Seats.{AreOnce}
+use Rattle.group_model.specs.Indexes.{AreOnce}
 use Rattle.group_model.proofs.EpochLemmas.{is_member-no_holders}
 use Rattle.group_model.proofs.StayedLemmas.{same_name-is, same_name-self, member_at, none_of, vacated_all_at, placed_at}
 use Rattle.group_model.proofs.QueueLemmas.{joiners_once}

@@ -20,6 +20,14 @@ sequence_at-append depth batches batch (suc epoch) early =
     ap (λ number. number + cond (stayed_at depth (batches ++ batch ∷ []) (suc epoch)) 2 0) (sequence_at-append depth batches batch epoch (omega arith))
     ∙ ap (λ stayed. sequence_at depth batches epoch + cond stayed 2 0) (stayed_at-append depth batches batch (suc epoch) early)
 
+pub sequence_at-next : (depth : ℕ) (batches : List (List Change)) (batch : List Change) → sequence_at depth (batches ++ batch ∷ []) (length batches + 1)
+    ≡ sequence_at depth batches (length batches) + cond (stayed_at depth (batches ++ batch ∷ []) (length batches + 1)) 2 0
+unfolding sequence_at
+sequence_at-next depth batches batch =
+    let longer : List (List Change) = batches ++ batch ∷ [] in
+    subst (λ epoch. sequence_at depth longer epoch ≡ sequence_at depth batches (length batches) + cond (stayed_at depth longer epoch) 2 0) (sym (add-one (length batches)))
+    (ap (λ number. number + cond (stayed_at depth longer (suc (length batches))) 2 0) (sequence_at-append depth batches batch (length batches) (omega arith)))
+
 not_nil : (wraps : List Wrap) (wrap : Wrap) → is_nil (wraps ++ wrap ∷ []) ≡ false
 not_nil [] wrap = refl
 not_nil (first ∷ wraps) wrap = refl
@@ -32,12 +40,7 @@ two_or_none depth batches epoch = elim (stayed_at depth batches epoch) as (λ st
   | false ↦ refl
 ]
 
-sequence_at-suc : (depth : ℕ) (batches : List (List Change)) (batch : List Change) → sequence_at depth (batches ++ batch ∷ []) (suc (length batches)) ≡ sequence_at depth batches (length batches) + cond (is_nil (wraps_at depth (batches ++ batch ∷ []) (suc (length batches)))) 0 2
-unfolding sequence_at
-sequence_at-suc depth batches batch =
-    ap (λ number. number + cond (stayed_at depth (batches ++ batch ∷ []) (suc (length batches))) 2 0) (sequence_at-append depth batches batch (length batches) (omega arith))
-    ∙ ap (λ more. sequence_at depth batches (length batches) + more) (two_or_none depth (batches ++ batch ∷ []) (suc (length batches)))
-
 pub sequence_at-new : (depth : ℕ) (batches : List (List Change)) (batch : List Change) → sequence_at depth (batches ++ batch ∷ []) (length batches + 1) ≡ sequence_at depth batches (length batches) + cond (is_nil (wraps_at depth (batches ++ batch ∷ []) (length batches + 1))) 0 2
 sequence_at-new depth batches batch =
-    subst (λ epoch. sequence_at depth (batches ++ batch ∷ []) epoch ≡ sequence_at depth batches (length batches) + cond (is_nil (wraps_at depth (batches ++ batch ∷ []) epoch)) 0 2) (sym (add-one (length batches))) (sequence_at-suc depth batches batch)
+    sequence_at-next depth batches batch
+    ∙ ap (λ more. sequence_at depth batches (length batches) + more) (two_or_none depth (batches ++ batch ∷ []) (length batches + 1))

@@ -8,8 +8,9 @@ use Rattle.group_terms.specs.declared.changes.Change.{Change}
 use Rattle.group_model.specs.declared.trees.Tree.{Tree}
 use Rattle.group_model.specs.Places.{no_holders, holders_after, holders_of, holders_at}
 use Rattle.group_model.specs.Fresh.{changed_leaves, last_change}
-use Rattle.group_model.specs.Present.{changes_at}
-use Rattle.group_model.specs.Private.Trees.{renewed_at, renewed, StandsAt}
+use Rattle.group_model.specs.LastChanges.{changes_at}
+use Rattle.group_model.specs.Private.Trees.{StandsAt}
+use Rattle.group_model.specs.LastChanges.{renewed_at, renewed}
 use Rattle.group_model.proofs.EpochLemmas.{fold-append_one, holders_at-append, last_change-append, get_or-changes_at, length-changes_at, changes_at-first}
 
 -- functions that agree below n make one list of the numbers below n
@@ -29,7 +30,7 @@ module _ (depth place : ℕ) (batches : List (List Change)) where
   unfolding last_change
   last_change-step v = rw add-one refl
 
-  changes_at-step : renewed (place + 1) (changes_at depth batches place) (map (some_leaf_below depth (changed_leaves (holders_at depth batches place) (holders_at depth batches (place + 1)))) (range_with_len 0 (2 ^ (depth + 1)))) ≡ changes_at depth batches (place + 1)
+  pub changes_at-step : renewed (place + 1) (changes_at depth batches place) (map (some_leaf_below depth (changed_leaves (holders_at depth batches place) (holders_at depth batches (place + 1)))) (range_with_len 0 (2 ^ (depth + 1)))) ≡ changes_at depth batches (place + 1)
   changes_at-step =
       let changed = changed_leaves (holders_at depth batches place) (holders_at depth batches (place + 1)) in
       let marks = map (some_leaf_below depth changed) (range_with_len 0 (2 ^ (depth + 1))) in
@@ -51,11 +52,11 @@ module _ (depth place : ℕ) (batches : List (List Change)) where
       }
 
 -- a later batch changes nothing
-pub StandsAt-append : (depth epoch : ℕ) (batches : List (List Change)) (batch : List Change) (tree : Tree) → epoch ≤ length batches → StandsAt depth batches epoch tree → StandsAt depth (batches ++ batch ∷ []) epoch tree
-StandsAt-append depth epoch batches batch tree early h = record {
-  holders = h.holders ∙ sym (holders_at-append depth batches batch epoch early);
-  made = h.made ∙ sym (map-range_agree (last_change depth (batches ++ batch ∷ []) epoch) (last_change depth batches epoch) (2 ^ (depth + 1)) None (λ v low. last_change-append depth batches batch epoch v early));
-}
+pub changes_at-append : (depth epoch : ℕ) (batches : List (List Change)) (batch : List Change) → epoch ≤ length batches
+    → changes_at depth (batches ++ batch ∷ []) epoch ≡ changes_at depth batches epoch
+changes_at-append depth epoch batches batch early =
+    map-range_agree (last_change depth (batches ++ batch ∷ []) epoch) (last_change depth batches epoch) (2 ^ (depth + 1)) None
+    (λ v low. last_change-append depth batches batch epoch v early)
 
 -- the empty tree is that of epoch 0
 pub StandsAt-first : (depth : ℕ) (batches : List (List Change)) (tree : Tree) → tree.holders ≡ no_holders depth → tree.made ≡ replicate (2 ^ (depth + 1)) None → StandsAt depth batches 0 tree

@@ -13,7 +13,7 @@ use Rattle.group_model.specs.Places.{Holders, no_holders, holders_at, IsValid}
 use Rattle.group_model.specs.Fresh.{is_fresh, last_change, node_name}
 use Rattle.group_model.specs.Stayed.{is_kept, kept_leaves, somebody_stayed}
 use Rattle.tree_leaves.specs.Unchanged.{unchanged_holders}
-use Rattle.group_model.specs.Present.{changes_at}
+use Rattle.group_model.specs.LastChanges.{changes_at}
 use Rattle.group_model.specs.Private.Trees.{is_made_in, child_wrap, child_wraps, wraps_down, wraps_between, StandsAt}
 use Rattle.group_model.specs.Wraps.{falling, wraps_of, node_wraps, wraps_at}
 use Rattle.group_model.specs.declared.trees.Tree.{Tree}

@@ -1,18 +1,18 @@
 -- What answers say: those to a join and to a leave, what a batch puts out, what an opening found, and whether the disk or memory failed.
-use Rattle.std.specs.Prelude.{◌≡◌, ◌⊎◌, ℕ, Bool, true, false, List, [], ◌∷◌, length, Option, None, Some, if◌then◌else◌}
+use Rattle.std.specs.Prelude.{◌≡◌, ◌⊎◌, ℕ, Bool, true, false, List, [], ◌∷◌, length, Option, None, Some}
 use Rattle.std.specs.List.{list_any}
 use Rattle.group_terms.specs.Names.{Name}
 use Rattle.group_terms.specs.declared.changes.Change.{Change}
 use Rattle.group_model.specs.declared.entries.Answer.{Answer}
-use Rattle.group_model.specs.declared.entries.Answer.TheVariants.{Done, Queued, Opened, Nothing, Refused}
+use Rattle.group_model.specs.declared.entries.Answer.TheVariants.{Done, Opened, Refused}
 use Rattle.group_model.specs.declared.entries.Asked.{Asked}
 use Rattle.group_model.specs.declared.entries.Asked.TheVariants.{Create, Begin}
 use Rattle.group_model.specs.declared.entries.Entry.{Entry}
 use Rattle.group_model.specs.declared.entries.Output.{Output}
 use Rattle.group_model.specs.declared.entries.Refusal.{Refusal}
-use Rattle.group_model.specs.declared.entries.Refusal.TheVariants.{NeedsReopen, DiskFault, NoMemory}
-use Rattle.group_model.specs.Places.{Holders, is_member, member_count, holders_of}
-use Rattle.group_model.specs.Refusals.{why_no_join, why_no_leave}
+use Rattle.group_model.specs.declared.entries.Refusal.TheVariants.{DiskFault, NoMemory}
+use Rattle.group_model.specs.Places.{Holders, member_count, holders_of}
+use Rattle.group_model.specs.Refusals.{why_no_leave}
 use Rattle.group_model.specs.Replies.{replies_to, says_of}
 use Rattle.group_model.specs.Stayed.{sequence_at}
 use Rattle.group_model.specs.Wraps.{wraps_at}

@@ -6,14 +6,13 @@ pub mod Derivations
 pub mod Drawn
 pub mod Growth
 pub mod Histories
+pub mod Indexes
+pub mod LastChanges
 pub mod Laws
-pub mod Present
 pub mod Private
 pub mod Refusals
 pub mod Replies
 pub mod Seen
 pub mod Servers
 pub mod Stayed
-pub mod Steps
-pub mod WrapCounts
 pub mod Wraps

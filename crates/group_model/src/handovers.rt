@@ -8,6 +8,7 @@ ghost use Rattle.group_model.specs.Private.Handovers.{handed_over, all_handed_ov
 use crate::{List, LkhId, MemberName, NoMemory};
 use std::alloc::Global;
 use tree_leaves::holders::{self, Holder};
+use tree_leaves::position;
 
 /// A leaf that changed hands.
 #[derive(Clone, Copy)]
@@ -96,13 +97,4 @@ fn is_below(steps: u8, above: u16, below: u16) -> bool
     } else {
         below == above || is_below(steps - 1, above, below / 2)
     }
-}
-
-/// The position of this number.
-pub(crate) fn position(number: usize) -> LkhId
-    requires positive { 0 < number }
-    requires small { number < 65536 }
-    ensures { result ≡ number }
-{
-    LkhId::new(number as u16).unwrap()
 }

@@ -4,7 +4,7 @@ ghost use Rattle.std.specs.HashMap.{get};
 ghost use Rattle.std.specs.List.{position};
 ghost use Rattle.group_terms.specs.Names.{same_name};
 ghost use Rattle.group_model.specs.Places.{Holders, is_held_by, is_member, place_in};
-ghost use Rattle.group_model.specs.Private.Seats.{IsIndex, IsIndexOf};
+ghost use Rattle.group_model.specs.Indexes.{IsIndex, IsIndexOf};
 
 use crate::{LkhId, MemberName, NoMemory};
 use std::alloc::Global;
@@ -13,13 +13,14 @@ use tree_leaves::holders::{self, Holder};
 
 /// The place of each member's leaf by its name, as long as there is room for that; without it names are looked for leaf by leaf.
 #[derive(Drop)]
-pub(crate) struct NameIndex {
+pub struct NameIndex {
     places: Option<HashMap<MemberName, usize>>,
 }
 
 impl NameIndex {
     /// The index of a tree with so many leaves, where nobody has one. It has room for twice as many names, so that it need not grow where names go and others come.
-    pub(crate) fn new(alloc: Global, leaves: usize) -> Result<Self, NoMemory>
+    /// `NoMemory` if out of memory for it.
+    pub fn new(alloc: Global, leaves: usize) -> Result<Self, NoMemory>
         ensures { IfOk result (λ index. (n : ℕ) → IsIndexOf (replicate n None) index) }
     {
         let places = HashMap::with_capacity(alloc, leaves.saturating_mul(2))?;
@@ -29,14 +30,14 @@ impl NameIndex {
     }
 
     /// No index is kept.
-    pub(crate) fn none() -> Self
+    pub fn none() -> Self
         ensures { (holders : Holders) → IsIndexOf holders result }
     {
         NameIndex { places: None }
     }
 
     /// The place of a member's leaf.
-    pub(crate) fn find(&self, holders: &[Holder], member: &MemberName) -> Option<usize>
+    pub fn find(&self, holders: &[Holder], member: &MemberName) -> Option<usize>
         requires { IsIndexOf holders.now self.now }
         ensures { result ≡ position (is_held_by member.now) holders.now }
     {
@@ -47,7 +48,7 @@ impl NameIndex {
     }
 
     /// Whether somebody of this name has a leaf.
-    pub(crate) fn has(&self, holders: &[Holder], member: &MemberName) -> bool
+    pub fn has(&self, holders: &[Holder], member: &MemberName) -> bool
         requires { IsIndexOf holders.now self.now }
         ensures { result ≡ is_member holders.now member.now }
     {
@@ -55,7 +56,7 @@ impl NameIndex {
     }
 
     /// The leaf that a member has.
-    pub(crate) fn leaf(&self, depth: u8, holders: &[Holder], member: &MemberName) -> Option<LkhId>
+    pub fn leaf(&self, depth: u8, holders: &[Holder], member: &MemberName) -> Option<LkhId>
         requires not_deep { depth ≤ 9 }
         requires leaves { length holders.now ≡ 2 ^ depth }
         requires index { IsIndexOf holders.now self.now }
@@ -68,7 +69,7 @@ impl NameIndex {
     }
 
     /// Follows a leaf from one holder to the next.
-    pub(crate) fn follow(&mut self, place: usize, before: &Holder, after: &Holder)
+    pub fn follow(&mut self, place: usize, before: &Holder, after: &Holder)
         ensures { (holders : Holders) → IsIndexOf holders self.old → place < length holders → slice_index_or holders place None ≡ before.now →
             IsIndexOf (slice_set holders place after.now) self.new }
     {

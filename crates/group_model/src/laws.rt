@@ -3,9 +3,6 @@ ghost use Rattle.group_model.specs.Growth.{RepliesGoToMembers};
 ghost use Rattle.group_model.specs.Laws.{EachLeafHasItsPlace, HoldersStay, LastChangesStay, PlacesAreHeld, NoLeafIsShared};
 ghost use Rattle.group_model.specs.Laws.{NoNameHasTwoLeaves, PlacesStay, BatchesSayWhoIsMember, WrapsUseTwoNumbers, DrawnPositionsRise};
 ghost use Rattle.group_model.specs.Laws.{NoChangeFits, LeaversAreFew, ChangesAreFew, GrantedJoinsFit, GrantedLeavesFit, Laws};
-ghost use Rattle.group_model.specs.WrapCounts.{WrapsAreFew, RemovalsWrapTwice};
-
-use group_terms::a_mark_is_that_of_a_child;
 
 /// Each leaf of the tree has its place among the holders, at every epoch.
 pub fn each_leaf_has_its_place()
@@ -52,14 +49,6 @@ pub fn replies_go_to_members()
 pub fn a_batch_that_wraps_uses_two_numbers()
     ensures { WrapsUseTwoNumbers }
 {}
-
-/// A batch encrypts no more than its number of changes bounds. A removal from a full tree of depth d encrypts 2d - 1 keys of the tree, and the traffic key.
-pub fn a_batch_encrypts_few()
-    ensures few { WrapsAreFew }
-    ensures removal { RemovalsWrapTwice }
-{
-    a_mark_is_that_of_a_child();
-}
 
 /// The positions for whose keys a batch draws values come by rising number, each once.
 pub fn drawn_positions_rise()

@@ -2,6 +2,7 @@
 //! entries of which a history of the key server is made.
 #![tactic(auto)]
 
+pub use batch_fits::fits;
 pub use entries::{
     Answer, Asked, Counter, Derivation, Entry, GroupSeen, Output, Outside, PushPair, Refusal,
     SentReply, Standing, SymReply,
@@ -11,25 +12,19 @@ pub use group_terms::{
     NoMemory, Octets, Phase1, PushRefusal, Rule, Wrap,
 };
 pub use history::History;
+pub use indexes::NameIndex;
 pub use laws::{
-    a_batch_encrypts_few, a_batch_says_who_is_a_member, a_batch_that_fits_has_few_changes,
+    a_batch_says_who_is_a_member, a_batch_that_fits_has_few_changes,
     a_batch_that_wraps_uses_two_numbers, drawn_positions_rise, each_leaf_has_its_place,
     first_epochs_stay, granted_changes_fit, laws_hold, members_never_share_a_leaf,
     no_name_has_two_leaves, places_are_held, places_stay_while_members_stay, replies_go_to_members,
 };
-pub use present::PresentTree;
-pub use steps::TreeStep;
 
-mod advances;
+mod batch_fits;
 mod entries;
-mod fits;
 mod handovers;
 mod history;
 mod indexes;
 mod laws;
 mod paths;
-mod present;
-mod seats;
-mod steps;
 mod trees;
-mod wraps;

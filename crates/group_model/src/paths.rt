@@ -1,54 +1,9 @@
 //! The keys that a member has.
 ghost use Rattle.std.specs.Prelude.{◌≡◌, ◌+◌, ◌^◌, ◌<◌, ◌≤◌, ℕ, map, length, IfOk};
 ghost use Rattle.group_model.specs.Fresh.{key_path, node_name, upwards};
-ghost use Rattle.group_model.specs.Present.{IsPathOf};
-ghost use Rattle.group_model.specs.Private.Presents.{key_in, path_in};
 
-use crate::{
-    History, KeyName, List, LkhId, MemberName, NoMemory, PresentTree, each_leaf_has_its_place,
-};
+use crate::{History, KeyName, List, LkhId, MemberName, NoMemory, each_leaf_has_its_place};
 use std::alloc::Global;
-
-impl PresentTree {
-    /// The keys of a member, from its leaf up to the root (the key set of Wong, Gouda and Lam); none of somebody who is no member.
-    pub fn path(&self, alloc: Global, member: &MemberName) -> Result<List<KeyName>, NoMemory>
-        ensures { IfOk result (IsPathOf self.now member.now) }
-    {
-        self.path_now(alloc, member)
-    }
-
-    /// The same, from what the tree has.
-    fn path_now(&self, alloc: Global, member: &MemberName) -> Result<List<KeyName>, NoMemory>
-        ensures { IfOk result (λ names. names ≡ path_in self.now member.now) }
-    {
-        match self.place(member) {
-            Some(leaf) => {
-                let positions = positions_up(alloc, leaf)?;
-                Ok(self.keys(alloc, positions.as_slice())?)
-            }
-            None => Ok(List::new(alloc)),
-        }
-    }
-
-    /// The keys of positions.
-    fn keys(&self, alloc: Global, positions: &[LkhId]) -> Result<List<KeyName>, NoMemory>
-        ensures { IfOk result (λ names. names ≡ map (key_in self.now.changes) positions.now) }
-    {
-        let mut names = List::with_room(alloc, positions.len())?;
-        for id in positions {
-            names.push(self.key(*id))?;
-        }
-        Ok(names)
-    }
-
-    /// The key that a position has.
-    fn key(&self, id: LkhId) -> KeyName
-        ensures { result ≡ key_in self.now.changes id }
-    {
-        let made = self.last(id).unwrap_or(0);
-        KeyName::Node { id, made }
-    }
-}
 
 impl History {
     /// The keys of a member of an epoch, from its leaf up to the root (the key set of Wong, Gouda and Lam); none of somebody who

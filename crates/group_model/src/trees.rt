@@ -1,17 +1,17 @@
 //! The tree that a batch leaves, and what the batch encrypts.
 ghost use Rattle.std.specs.Prelude.{◌≡◌, ◌+◌, ◌*◌, ◌^◌, ◌<◌, ◌≤◌, [], ◌∷◌, ◌++◌, length, replicate, map, slice_index_or, IfOk, OnOk, None, false};
 ghost use Rattle.std.specs.List.{range_with_len};
-ghost use Rattle.group_terms.specs.declared.keys.KeyName.TheVariants.{Node};
 ghost use Rattle.group_terms.specs.Positions.{some_leaf_below};
 ghost use Rattle.group_model.specs.Places.{no_holders, holders_after};
 ghost use Rattle.group_model.specs.Fresh.{changed_leaves};
-ghost use Rattle.group_model.specs.Private.Trees.{renewed_at, renewed, is_made_in, child_wrap, child_wraps, wraps_down};
+ghost use Rattle.group_model.specs.Private.Trees.{is_made_in, child_wrap, child_wraps, wraps_down};
+ghost use Rattle.group_model.specs.LastChanges.{renewed_at, renewed};
 
-use crate::handovers::position;
 use crate::{Change, KeyName, List, LkhId, NoMemory, Wrap};
 use group_terms::marks_above;
 use std::alloc::Global;
 use tree_leaves::holders::{self, Holder};
+use tree_leaves::node;
 
 /// Who has each leaf, and the last change of each position.
 #[derive(Drop)]
@@ -199,14 +199,4 @@ fn wrap_under(
         })?;
     }
     Ok(())
-}
-
-/// The name of the key that a position was given in an epoch.
-pub(crate) fn node(v: usize, made: u32) -> KeyName
-    requires positive { 0 < v }
-    requires small { v < 65536 }
-    ensures { result ≡ Node v made }
-{
-    let id = position(v);
-    KeyName::Node { id, made }
 }

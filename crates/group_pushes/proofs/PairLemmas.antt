@@ -20,12 +20,12 @@ use Rattle.group_values.specs.Values.{HasValue, Kept, KeepsLast, Made, Rises, ba
 use Rattle.group_model.specs.Fresh.{last_change, node_name}
 use Rattle.group_model.specs.Laws.{EachLeafHasItsPlace}
 use Rattle.group_model.specs.Places.{Holders, holders_at, is_held_by, no_holders}
-use Rattle.group_model.specs.Present.{Present, StandsFor}
-use Rattle.group_model.specs.Steps.{IsStepOf}
+use Rattle.key_tree.specs.Present.{Present, StandsFor}
+use Rattle.key_tree.specs.Marks.{IsMarkedFor}
 use Rattle.group_model.specs.Stayed.{sequence_at, somebody_stayed, stayed_at}
 use Rattle.group_model.specs.Wraps.{node_wraps, wraps_at}
 use Rattle.group_model.specs.declared.entries.PushPair.{PushPair}
-use Rattle.group_model.specs.declared.steps.TreeStep.{TreeStep}
+use Rattle.key_tree.specs.declared.marks.Marked.{Marked}
 use Rattle.group_keys.specs.Drawn.{AreDrawn, IsLastDrawn}
 use Rattle.kd_wire.specs.declared.sealing.WrapJob.{WrapJob}
 use Rattle.push_msg.specs.Texts.{IsPushText, membership_push, traffic_push}
@@ -171,9 +171,9 @@ abbrev nothing : Option PushPair
 nothing = None
 
 -- the step of a list's last batch
-module _ (tree : Present) (step : TreeStep) (list : List Made) (changes : List Change) (values : BatchValues) (limit : ℕ)
+module _ (tree : Present) (step : Marked) (list : List Made) (changes : List Change) (values : BatchValues) (limit : ℕ)
     (stands : StandsFor tree (batches_made list)) (drawn : AreDrawn tree.depth (list ++ record { changes = changes; values = values } ∷ []))
-    (is_step : IsStepOf tree changes limit step) where
+    (is_step : IsMarkedFor tree changes limit step) where
   abbrev made : Made
   made = record { changes = changes; values = values }
 
@@ -190,14 +190,14 @@ module _ (tree : Present) (step : TreeStep) (list : List Made) (changes : List C
   long = omega (arith, length-append list (made ∷ []))
 
   epoch_is : step.epoch ≡ length whole
-  epoch_is = omega (arith, is_step.epoch, stands.epoch, long, length-map list (λ (made : Made). made.changes))
+  epoch_is = omega (arith, is_step.ready.epoch, stands.epoch, long, length-map list (λ (made : Made). made.changes))
 
   sequence_is : step.sequence ≡ sequence_at tree.depth batches (length whole)
   sequence_is =
       let after = (is_step.next (batches_made list) stands).1 in
       after.sequence ∙ (λ i. sequence_at tree.depth (longer i) (length (longer i))) ∙ ap (sequence_at tree.depth batches) (length-map whole (λ (made : Made). made.changes))
 
-  pub wraps_are : (wraps : List Wrap) → ((batch : List Change) (limit : ℕ) → IsStepOf tree batch limit step → (batches : List (List Change)) → StandsFor tree batches
+  pub wraps_are : (wraps : List Wrap) → ((batch : List Change) (limit : ℕ) → IsMarkedFor tree batch limit step → (batches : List (List Change)) → StandsFor tree batches
       → wraps ≡ wraps_at tree.depth (batches ++ batch ∷ []) step.epoch) → wraps ≡ wraps_at tree.depth batches (length whole)
   wraps_are wraps are = are changes limit is_step (batches_made list) stands ∙ (λ i. wraps_at tree.depth (longer i) (epoch_is i))
 

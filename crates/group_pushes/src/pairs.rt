@@ -3,8 +3,8 @@ ghost use Rattle.std.specs.Prelude.{◌≡◌, ◌+◌, ◌-◌, ◌^◌, ◌≤
 ghost use Rattle.group_terms.specs.Octets.{iv_octets};
 ghost use Rattle.group_terms.specs.declared.changes.Change.{Change};
 ghost use Rattle.group_values.specs.Values.{KeepsLast, Made, batches_made};
-ghost use Rattle.group_model.specs.Present.{StandsFor};
-ghost use Rattle.group_model.specs.Steps.{IsReady, IsStepOf};
+ghost use Rattle.key_tree.specs.Present.{StandsFor};
+ghost use Rattle.key_tree.specs.Marks.{IsReady, IsMarkedFor};
 ghost use Rattle.group_keys.specs.Drawn.{AreDrawn};
 ghost use Rattle.group_pushes.specs.Pairs.{IsPairIfStayed};
 ghost use Rattle.group_pushes.specs.Private.Jobs.{IsLastValue};
@@ -12,41 +12,41 @@ ghost use Rattle.group_pushes.specs.Private.Jobs.{IsLastValue};
 use crate::arrays::update_arrays;
 use gd_edges::Signer;
 use group_keys::the_last_value_is_that_of_the_last_change;
-use group_model::{PresentTree, PushPair, TreeStep, each_leaf_has_its_place};
+use group_model::{PushPair, each_leaf_has_its_place};
 use group_terms::{BatchValues, LkhId, NoMemory, NodeValue, a_mark_is_that_of_a_child};
-use group_values::KeptValues;
+use key_tree::{KeyTree, Marked};
 use push_msg::{PushHead, write_membership, write_traffic};
+use rekey_plan::plan;
 use std::alloc::Global;
 
 /// The pair of pushes of a batch, if somebody stayed over it: the membership push under the key that the root had, with the new keys of the
-/// tree, and the traffic push under the root's new key. The batch is not taken in yet, neither by the tree nor by the values that are kept.
+/// tree, and the traffic push under the root's new key. The batch is not in the tree yet.
 pub fn write_pair<G: Signer>(
     alloc: Global,
-    tree: &PresentTree,
-    step: &TreeStep,
-    kept: &KeptValues,
+    tree: &KeyTree,
+    marked: &Marked,
     values: &BatchValues,
     spi: &[u8; 16],
     signer: &G,
 ) -> Result<Option<PushPair>, NoMemory>
-    requires ready { IsReady tree.now step.now }
-    requires room { length kept.now.nodes ≡ 2 ^ (tree.now.depth + 1) }
-    requires few { length step.now.fresh ≤ 321 }
-    ensures { (list : List Made) (changes : List Change) (limit : ℕ) → StandsFor tree.now (batches_made list) → KeepsLast kept.now list →
-        AreDrawn tree.now.depth (list ++ record { changes = changes; values = values.now } ∷ []) → IsStepOf tree.now changes limit step.now →
+    requires ready { IsReady tree.now marked.now }
+    requires few { length marked.now.renewed ≤ 321 }
+    ensures { (list : List Made) (changes : List Change) (limit : ℕ) → StandsFor tree.now (batches_made list) → KeepsLast tree.now.kept list →
+        AreDrawn tree.now.depth (list ++ record { changes = changes; values = values.now } ∷ []) → IsMarkedFor tree.now changes limit marked.now →
         IfOk result (IsPairIfStayed G.Signer signer.now tree.now.depth spi.now
         (list ++ record { changes = changes; values = values.now } ∷ [])) }
 {
     the_last_value_is_that_of_the_last_change();
     each_leaf_has_its_place();
     a_mark_is_that_of_a_child();
-    let wraps = tree.wraps(alloc, step)?;
+    tree.prove_room();
+    let wraps = plan(alloc, tree, marked)?;
     let Some((_, between)) = wraps.as_slice().split_last() else {
         return Ok(None);
     };
-    let arrays = update_arrays(alloc, kept, values, between)?;
-    let (old_root, new_root) = keks(kept, values);
-    let (first, second) = heads(spi, step.sequence());
+    let arrays = update_arrays(alloc, tree, values, between)?;
+    let (old_root, new_root) = keks(tree, values);
+    let (first, second) = heads(spi, marked.sequence());
     let membership = write_membership(alloc, &first, arrays.as_slice(), &old_root, signer)?;
     let traffic = write_traffic(alloc, &second, &values.traffic, &new_root, signer)?;
     Ok(Some(PushPair {
@@ -77,15 +77,14 @@ fn head(spi: &[u8; 16], sequence: u32) -> PushHead
 }
 
 /// The keys under which the pushes are encrypted: the one that the root had, and its new one.
-fn keks(kept: &KeptValues, values: &BatchValues) -> (NodeValue, NodeValue)
-    requires { 1 < length kept.now.nodes }
-    ensures old { slice_get kept.now.nodes 1 ≡ Some result.0 }
-    ensures new { IsLastValue kept.now values.now 1 result.1 }
+fn keks(tree: &KeyTree, values: &BatchValues) -> (NodeValue, NodeValue)
+    ensures old { slice_get tree.now.kept.nodes 1 ≡ Some result.0 }
+    ensures new { IsLastValue tree.now.kept values.now 1 result.1 }
     ensures old_iv { length result.0.iv ≡ iv_octets }
     ensures new_iv { length result.1.iv ≡ iv_octets }
 {
     let root = root_id();
-    let (old, new) = (kept.node(root), kept.node_after(values, root));
+    let (old, new) = (tree.value(root), tree.value_after(values, root));
     prove_iv_fits(&old);
     prove_iv_fits(&new);
     (old, new)

@@ -9,7 +9,7 @@ use Rattle.gd_wire.specs.Readings.{from_start, value_of, here, octets, octet, oc
 use Rattle.gd_wire.proofs.AlwaysLemmas.{Always, always_give, always_check, always_from, always_then, always_next}
 use Rattle.gd_wire.proofs.ReadingLemmas.{value_ok}
 use Rattle.group_records.specs.Readings.{many, change, node, traffic, batch_record}
-use Rattle.group_records.specs.Texts.{batch_kind, version}
+use Rattle.group_records.specs.Texts.{batch_kind, batch_version}
 use Rattle.group_records.specs.declared.batches.Stored.{Stored}
 
 abbrev IsHigh : TrafficValue → Type 0
@@ -27,7 +27,7 @@ batch_high : Always (λ stored. IsHigh stored.values.traffic) batch_record
 unfolding batch_record
 batch_high =
     let P : Stored → Type 0 = λ stored. IsHigh stored.values.traffic in
-    always_next P (due_octet batch_kind Value) _ (always_next P (due_octet version Version) _ (always_then P long_number _ (λ epoch.
+    always_next P (due_octet batch_kind Value) _ (always_next P (due_octet batch_version Version) _ (always_then P long_number _ (λ epoch.
     always_then P long_number _ (λ sequence. always_then P here _ (λ at. always_then P octet _ (λ count.
     always_check P (nat_le count 32) Value at _ (λ few. always_then P (many change count) _ (λ batch. always_then P number _ (λ size.
     always_then P (many node size) _ (λ nodes. always_from P IsHigh traffic _ traffic_high (λ value high. always_next P end _ (

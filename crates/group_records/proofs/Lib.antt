@@ -1,4 +1,5 @@
 pub mod HighLemmas
 pub mod ManyLemmas
+pub mod OnceLemmas
 pub mod RecordFacts
 pub mod WrittenLemmas

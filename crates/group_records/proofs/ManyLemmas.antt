@@ -1,6 +1,6 @@
 -- Loops over what is read one after the other.
 -- Items one after the other are the reading `many`; `many_step` serves each loop, and exits by `?` need no answer.
-use Rattle.std.proofs.Common.{◌≡◌, ℕ, suc, ◌+◌, List, [], ◌∷◌, ◌++◌, Result, Ok, sym, ap, ◌∙◌, append_assoc}
+use Rattle.std.proofs.Common.{◌≡◌, ℕ, suc, List, [], ◌∷◌, ◌++◌, Result, Ok, sym, ap, ◌∙◌, append_assoc}
 use Rattle.group_terms.specs.declared.wires.WireFault.{WireFault}
 use Rattle.gd_wire.specs.Readings.{Cursor, Reading, and_then, mapped, give}
 use Rattle.gd_wire.proofs.ReadingLemmas.{mapped_step}

@@ -1,3 +1,4 @@
 pub mod Fits
 pub mod Readings
+pub mod Records
 pub mod Texts

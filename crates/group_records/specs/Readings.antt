@@ -14,7 +14,7 @@ use Rattle.group_records.specs.declared.batches.Stored.{Stored}
 use Rattle.group_records.specs.declared.faults.RecordFault.{RecordFault}
 use Rattle.group_records.specs.declared.faults.RecordFault.TheVariants.{Malformed, NoMemory}
 use Rattle.group_records.specs.declared.heads.Head.{Head}
-use Rattle.group_records.specs.Texts.{head_kind, batch_kind, version}
+use Rattle.group_records.specs.Texts.{head_kind, head_version, batch_kind, batch_version}
 
 -- a number of readings, one after the other
 abbrev pub many : {A : Type 0} → Reading A → ℕ → Reading (List A)
@@ -53,7 +53,7 @@ group_name = do
 unfoldable pub head_record : Reading Head
 head_record = do
   due_octet head_kind Value
-  due_octet version Version
+  due_octet head_version Version
   depth_at ← here
   depth ← octet
   check (nat_le 1 depth && nat_le depth 9) Value depth_at
@@ -96,7 +96,7 @@ traffic = do
 unfoldable pub batch_record : Reading Stored
 batch_record = do
   due_octet batch_kind Value
-  due_octet version Version
+  due_octet batch_version Version
   epoch ← long_number
   sequence ← long_number
   at ← here

@@ -1,4 +1,4 @@
--- The records of a group's journal. Both formats are our choice. A record begins with its kind and the version of its format.
+-- The records of a group's journal, whose formats are our choice. A record begins with its kind and the version of the format of that kind.
 use Rattle.std.specs.Prelude.{ℕ, List, ◌∷◌, ◌++◌, length}
 use Rattle.std.specs.List.{flat_map}
 use Rattle.byteorder.specs.Endian.{big_bytes}
@@ -9,17 +9,19 @@ use Rattle.group_terms.specs.declared.values.Drawn.{Drawn}
 use Rattle.group_terms.specs.declared.values.TrafficValue.{TrafficValue}
 use Rattle.group_records.specs.declared.heads.Head.{Head}
 
--- the kind of the record of a head
+-- the kind of the record of a head, and the version of its format
 abbrev pub head_kind : ℕ
 head_kind = 0
 
--- the kind of the record of a batch
+abbrev pub head_version : ℕ
+head_version = 1
+
+-- the kind of the record of a batch, and the version of its format
 abbrev pub batch_kind : ℕ
 batch_kind = 1
 
--- the version of the format of both kinds of records
-abbrev pub version : ℕ
-version = 1
+abbrev pub batch_version : ℕ
+batch_version = 1
 
 -- how many octets a name has, and these
 abbrev pub named_text : List ℕ → List ℕ
@@ -27,7 +29,7 @@ named_text name = length name ∷ name
 
 -- the head: the depth of the tree, the SPI of rekey datagrams, the limit of epochs and sequence numbers in 4 octets, and the group's name
 abbrev pub head_text : Head → List ℕ
-head_text head = head_kind ∷ version ∷ head.depth ∷ (head.spi ++ (big_bytes 4 head.limit ++ named_text head.name))
+head_text head = head_kind ∷ head_version ∷ head.depth ∷ (head.spi ++ (big_bytes 4 head.limit ++ named_text head.name))
 
 -- a change: 0 for who goes out and 1 for who comes in, and the name
 abbrev pub change_text : Change → List ℕ
@@ -54,6 +56,6 @@ traffic_text traffic = traffic.cipher_key ++ (traffic.integrity_key ++ traffic.s
 -- positions have new keys, and their values; and that of the traffic key
 abbrev pub batch_text : List Change → ℕ → ℕ → BatchValues → List ℕ
 batch_text batch epoch sequence values =
-    batch_kind ∷ version
+    batch_kind ∷ batch_version
     ∷ (big_bytes 4 epoch ++ (big_bytes 4 sequence ++ (length batch ∷ (changes_text batch
     ++ (big_bytes 2 (length values.nodes) ++ (nodes_text values.nodes ++ traffic_text values.traffic))))))

@@ -6,7 +6,6 @@ ghost use Rattle.group_records.specs.Readings.{batch_record, BatchAnswers};
 
 use crate::changes::{append_changes, changes};
 use crate::faults::RecordFault;
-use crate::heads::VERSION;
 use crate::nodes::{append_nodes, append_traffic, nodes, traffic};
 use gd_wire::{Reader, WireWhat, fault, write_u16, write_u32};
 use group_terms::{Batch, BatchValues, MOST_CHANGES, NoMemory, Octets};
@@ -14,6 +13,9 @@ use std::alloc::Global;
 
 /// The kind of a batch's record.
 const BATCH: u8 = 1;
+
+/// The version of its format.
+const BATCH_VERSION: u8 = 1;
 
 /// A batch with the epoch that it made, the number of the last push after it, and the values of the keys that it made.
 #[derive(Drop)]
@@ -35,7 +37,7 @@ pub fn read_batch(alloc: Global, body: &[u8]) -> Result<Stored, RecordFault>
 {
     let mut text = Reader::new(body, 0);
     text.due_octet(BATCH, WireWhat::Value)?;
-    text.due_octet(VERSION, WireWhat::Version)?;
+    text.due_octet(BATCH_VERSION, WireWhat::Version)?;
     let epoch = text.long_number()?;
     let sequence = text.long_number()?;
     let at = text.here();
@@ -71,7 +73,7 @@ pub fn write_batch(
     let changes = batch.changes();
     let nodes = values.nodes.as_slice();
     let mut out = Octets::new(alloc);
-    out.extend(&[BATCH, VERSION])?;
+    out.extend(&[BATCH, BATCH_VERSION])?;
     write_u32(epoch, &mut out)?;
     write_u32(sequence, &mut out)?;
     out.push(changes.len() as u8)?;

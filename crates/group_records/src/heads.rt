@@ -10,10 +10,11 @@ use gd_wire::{Reader, WireFault, WireWhat, fault, write_u32};
 use group_terms::{GroupName, NoMemory, Octets};
 use std::alloc::Global;
 
-/// The kind of a head, and the version of both kinds of records.
-pub(crate) const HEAD: u8 = 0;
+/// The kind of a head's record.
+const HEAD: u8 = 0;
 
-pub(crate) const VERSION: u8 = 1;
+/// The version of its format.
+const HEAD_VERSION: u8 = 1;
 
 /// What a group is made with: the depth of its tree, its name, the SPI of its rekey datagrams (RFC 6407 section 5.3), and how far its epochs
 /// and its sequence numbers may go.
@@ -38,7 +39,7 @@ pub fn read_head(body: &[u8]) -> Result<Head, WireFault>
 {
     let mut text = Reader::new(body, 0);
     text.due_octet(HEAD, WireWhat::Value)?;
-    text.due_octet(VERSION, WireWhat::Version)?;
+    text.due_octet(HEAD_VERSION, WireWhat::Version)?;
     let depth_at = text.here();
     let depth = text.octet()?;
     if !(1..=9).contains(&depth) {
@@ -66,7 +67,7 @@ pub fn write_head(alloc: Global, head: &Head) -> Result<Octets, NoMemory>
     ensures few { IfOk result (λ text. length text ≤ 56) }
 {
     let mut out = Octets::new(alloc);
-    out.extend(&[HEAD, VERSION, head.depth])?;
+    out.extend(&[HEAD, HEAD_VERSION, head.depth])?;
     out.extend(&head.spi)?;
     write_u32(head.limit, &mut out)?;
     append_name(head.name.text(), &mut out)?;

@@ -68,7 +68,7 @@ impl<D: Disk, G: Signer, R: Draws> GroupServer<D, G, R> {
 
     /// The value of the present traffic key; `None` iff the epoch is 0.
     pub fn traffic(&self) -> Option<TrafficValue>
-        ensures { result ≡ self.now.core.kept.traffic }
+        ensures { result ≡ self.now.core.tree.kept.traffic }
     {
         self.core.traffic()
     }

@@ -46,7 +46,7 @@ valid_from : (depth limit : ℕ) (before : List (List Change)) (list : List Made
     → FitInTurn (holders_of depth before) (batches_made list)
 valid_from depth limit before [] due = tt
 valid_from depth limit before (made ∷ list) due = (
-  due.0.fits,
+  due.0.carried.fits,
   subst (λ holders. FitInTurn holders (batches_made list)) (fold-append holders_after (no_holders depth) before (made.changes ∷ []))
       (valid_from depth limit (before ++ made.changes ∷ []) list due.1),
 )

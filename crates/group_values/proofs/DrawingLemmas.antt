@@ -1,10 +1,11 @@
 -- Draws that go on.
 -- The blocks of the draws are a function of places, an argument of `nodes_drawn`, with pointwise equations in the loop's invariant.
-use Rattle.std.proofs.Common.{◌≡◌, ℕ, zero, suc, ◌+◌, ◌<◌, List, [], ◌∷◌, ◌++◌, length, drop, get_or, sym, ap, ◌∙◌, append_assoc, arith, add-one}
+use Rattle.std.proofs.Common.{◌≡◌, ℕ, zero, suc, ◌+◌, ◌<◌, List, [], ◌∷◌, ◌++◌, length, drop, get_or, refl, sym, ap, ◌∙◌, append_assoc, arith, add-one}
 use Rattle.std.proofs.Math.Seq.{drop-cons}
 use Rattle.group_terms.specs.declared.values.Drawn.{Drawn}
 use Rattle.group_terms.specs.declared.values.NodeValue.{NodeValue}
 use Rattle.group_values.specs.Drawing.{next_place, node_drawn, nodes_drawn, place_after}
+use Rattle.group_values.specs.Values.{ids_of}
 
 pub place_after-more : (m n place : ℕ) → place_after n (place_after m place) ≡ place_after (m + n) place
 place_after-more zero n place = let none : n ≡ zero + n = omega arith in ap (λ k. place_after k place) none
@@ -25,3 +26,8 @@ nodes_next block items more place later i id value ids low is drawn goes longer 
     ∙ append_assoc items (record { id = id; value = value } ∷ []) (nodes_drawn block (place_after 2 place) (drop (i + 1) ids))
     ∙ ap (λ v. items ++ record { id = id; value = v } ∷ nodes_drawn block (place_after 2 place) (drop (i + 1) ids)) drawn
     ∙ sym (ap (λ left. items ++ nodes_drawn block place left) cut)
+
+-- the values are those of the positions
+pub ids_drawn : (block : ℕ → List ℕ) (place : ℕ) (ids : List ℕ) → ids_of (nodes_drawn block place ids) ≡ ids
+ids_drawn block place [] = refl
+ids_drawn block place (id ∷ ids) = λ i. id ∷ ids_drawn block (place_after 2 place) ids i

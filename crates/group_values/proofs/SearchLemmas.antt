@@ -1,5 +1,5 @@
--- What a search finds among values whose positions rise.
-use Rattle.std.proofs.Common.{◌≡◌, ◌≢◌, ℕ, zero, suc, ◌<◌, ◌≤◌, cond, List, [], ◌∷◌, ◌++◌, Option, None, Some, length, get_or, refl, sym, ap, ◌∙◌, arith, inl, inr}
+-- What a search finds among things whose numbers rise, and among values whose positions rise.
+use Rattle.std.proofs.Common.{◌≡◌, ◌≢◌, ℕ, zero, suc, ◌<◌, ◌≤◌, cond, List, [], ◌∷◌, ◌++◌, Option, None, Some, length, map, get_or, refl, sym, ap, ◌∙◌, arith, inl, inr}
 use Rattle.std.proofs.Common.{Result, Ok, Err, IfOk, IfErr}
 use Rattle.std.specs.List.{All, HoldsAt, fold}
 use Rattle.std.specs.List.Sorted.{IsBinarySearchResult, IsNonDecreasingBy}
@@ -7,7 +7,7 @@ use Rattle.std.specs.Ordering.{nat_cmp, ordering_index}
 use Rattle.std.proofs.lemmas.Bool.{cases_eq, cases_lt, eq-eqb, ne_eqb}
 use Rattle.std.proofs.lemmas.Bool.Decides.{nat_tests}
 use Rattle.std.proofs.lemmas.Cmp.{ranked}
-use Rattle.std.proofs.lemmas.List.{get_or-map}
+use Rattle.std.proofs.lemmas.List.{get_or-map, length-map}
 use Rattle.group_terms.specs.declared.changes.Change.{Change}
 use Rattle.group_terms.specs.declared.values.BatchValues.{BatchValues}
 use Rattle.group_terms.specs.declared.values.Drawn.{Drawn}
@@ -15,41 +15,38 @@ use Rattle.group_terms.specs.declared.values.NodeValue.{NodeValue}
 use Rattle.group_values.specs.Values.{Made, Rises, after_draw, ids_of, last_value, value_of}
 use Rattle.group_values.proofs.KeepingLemmas.{last_value-more}
 
--- a later position is greater
-rises_at : (nodes : List Drawn) (i j : ℕ) (d : Drawn) → Rises (ids_of nodes) → i < j → j < length nodes → (get_or nodes i d).id < (get_or nodes j d).id
-rises_at [] i j d rises before low = absurd (omega arith)
-rises_at (node ∷ nodes) i zero d rises before low = absurd (omega arith)
-rises_at (node ∷ nodes) zero (suc j) d rises before low =
-    let there = get_or-map (λ (node : Drawn). node.id) nodes j d 0 (omega arith) in
-    omega (arith, there, rises.0 j 0 (omega (arith, length_ids nodes)))
-  where
-    length_ids : (nodes : List Drawn) → length (ids_of nodes) ≡ length nodes
-    length_ids [] = refl
-    length_ids (node ∷ nodes) = ap suc (length_ids nodes)
-rises_at (node ∷ nodes) (suc i) (suc j) d rises before low = rises_at nodes i j d rises.1 (omega arith) (omega arith)
+-- of things that have numbers which rise
+module _ {X : Type 0} (number : X → ℕ) where
+  -- a later one has a greater number
+  pub rises_at : (xs : List X) (i j : ℕ) (d : X) → Rises (map number xs) → i < j → j < length xs → number (get_or xs i d) < number (get_or xs j d)
+  rises_at [] i j d rises before low = absurd (omega arith)
+  rises_at (x ∷ xs) i zero d rises before low = absurd (omega arith)
+  rises_at (x ∷ xs) zero (suc j) d rises before low =
+      omega (arith, get_or-map number xs j d 0 (omega arith), rises.0 j 0 (omega (arith, length-map xs number)))
+  rises_at (x ∷ xs) (suc i) (suc j) d rises before low = rises_at xs i j d rises.1 (omega arith) (omega arith)
 
--- so the comparisons with a position rise, as a search asks
-comparisons_rise : (nodes : List Drawn) (v : ℕ) → Rises (ids_of nodes) → IsNonDecreasingBy (λ (node : Drawn). ordering_index (nat_cmp node.id v)) nodes
-comparisons_rise nodes v rises i j d le low =
-    let up : (get_or nodes i d).id ≤ (get_or nodes j d).id = grind (arith, rises_at nodes i j d rises, λ (same : i ≡ j). ap (λ k. (get_or nodes k d).id) same) in
-    grind (arith, nat_tests)
+  -- so the comparisons with a number rise, as a search asks
+  comparisons_rise : (xs : List X) (v : ℕ) → Rises (map number xs) → IsNonDecreasingBy (λ x. ordering_index (nat_cmp (number x) v)) xs
+  comparisons_rise xs v rises i j d le low =
+      let up : number (get_or xs i d) ≤ number (get_or xs j d) = grind (arith, rises_at xs i j d rises, λ (same : i ≡ j). ap (λ k. number (get_or xs k d)) same) in
+      grind (arith, nat_tests)
 
--- where a place was found, its position is the one looked for
-pub search_found : (nodes : List Drawn) (v : ℕ) (r : Result ℕ ℕ) → IsBinarySearchResult (λ (node : Drawn). nat_cmp node.id v) nodes r
-    → IfOk r (HoldsAt (λ (node : Drawn). node.id ≡ v) nodes)
-search_found nodes v (Ok place) found = λ d. ranked _ v _ (sym (found d))
-search_found nodes v (Err place) parted = tt
+  -- where a place was found, its number is the one looked for
+  pub search_found : (xs : List X) (v : ℕ) (r : Result ℕ ℕ) → IsBinarySearchResult (λ x. nat_cmp (number x) v) xs r
+      → IfOk r (HoldsAt (λ x. number x ≡ v) xs)
+  search_found xs v (Ok place) found = λ d. ranked _ v _ (sym (found d))
+  search_found xs v (Err place) parted = tt
 
--- where no place was found, no position is the one looked for
-pub search_absent : (nodes : List Drawn) (v : ℕ) (r : Result ℕ ℕ) → IsBinarySearchResult (λ (node : Drawn). nat_cmp node.id v) nodes r → Rises (ids_of nodes)
-    → IfErr r (λ place. All (λ (node : Drawn). node.id ≢ v) nodes)
-search_absent nodes v (Ok place) found rises = tt
-search_absent nodes v (Err place) parted rises = λ k d low same.
-    let halves = parted (comparisons_rise nodes v rises) in
-    elim (cases_lt k place) [
-      | inl below ↦ absurd (omega (arith, same, ranked _ v _ (sym (halves.0 k d (omega arith) below))))
-      | inr above ↦ absurd (omega (arith, same, ranked _ v _ (sym (halves.1 k d above low))))
-    ]
+  -- where no place was found, no number is the one looked for
+  pub search_absent : (xs : List X) (v : ℕ) (r : Result ℕ ℕ) → IsBinarySearchResult (λ x. nat_cmp (number x) v) xs r → Rises (map number xs)
+      → IfErr r (λ place. All (λ x. number x ≢ v) xs)
+  search_absent xs v (Ok place) found rises = tt
+  search_absent xs v (Err place) parted rises = λ k d low same.
+      let halves = parted (comparisons_rise xs v rises) in
+      elim (cases_lt k place) [
+        | inl below ↦ absurd (omega (arith, same, ranked _ v _ (sym (halves.0 k d (omega arith) below))))
+        | inr above ↦ absurd (omega (arith, same, ranked _ v _ (sym (halves.1 k d above low))))
+      ]
 
 -- values for other positions leave what was there
 pub drawn_absent : (nodes : List Drawn) (v : ℕ) (now : Option NodeValue) → All (λ (node : Drawn). node.id ≢ v) nodes → fold (after_draw v) now nodes ≡ now
@@ -65,7 +62,7 @@ drawn_found [] v place now d low is rises = absurd (omega arith)
 drawn_found (node ∷ nodes) v zero now d low is rises =
     let one : after_draw v now node ≡ Some node.value = ap (λ b. cond b (Some node.value) now) (eq-eqb node.id v is) in
     ap (λ old. fold (after_draw v) old nodes) one
-    ∙ drawn_absent nodes v (Some node.value) (λ k e within same. omega (arith, is, same, rises_at (node ∷ nodes) 0 (suc k) e rises (omega arith) (omega arith)))
+    ∙ drawn_absent nodes v (Some node.value) (λ k e within same. omega (arith, is, same, rises_at (λ (node : Drawn). node.id) (node ∷ nodes) 0 (suc k) e rises (omega arith) (omega arith)))
 drawn_found (node ∷ nodes) v (suc place) now d low is rises = drawn_found nodes v place (after_draw v now node) d (omega arith) is rises.1
 
 -- the first of two values that is there

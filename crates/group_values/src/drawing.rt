@@ -1,6 +1,7 @@
 //! Drawing the values of the keys that a batch makes.
 ghost use Rattle.std.specs.Prelude.{◌≡◌, ℕ, ◌*◌, ◌≤◌, ◌++◌, length, take, IfOk, OnOk, OnErr};
 ghost use Rattle.group_values.specs.Drawing.{blocks_for, node_drawn, nodes_drawn, place_after, traffic_drawn, values_drawn, with_high_bit};
+ghost use Rattle.group_values.specs.Values.{ids_of};
 
 use gd_edges::Draws;
 use group_terms::{BatchValues, Drawn, List, LkhId, Log, NoMemory, NodeValue, TrafficValue};
@@ -14,6 +15,7 @@ pub fn draw_values<R: Draws>(
     positions: &[LkhId],
 ) -> Result<BatchValues, NoMemory>
     ensures values { IfOk result (λ values. values ≡ values_drawn (R.block_at draws.old) (R.place_of draws.old) positions.now) }
+    ensures positions { IfOk result (λ values. ids_of values.nodes ≡ positions.now) }
     ensures place { OnOk result (R.place_of draws.new ≡ place_after (blocks_for positions.now) (R.place_of draws.old)) }
     ensures blocks { (k : ℕ) → R.block_at draws.new k ≡ R.block_at draws.old k }
     ensures err { OnErr result (draws.new ≡ draws.old) }

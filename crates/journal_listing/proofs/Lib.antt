@@ -1,2 +1,2 @@
-pub mod WalkLemmas
 pub mod ListingFacts
+pub mod ReplayLemmas

@@ -1,12 +1,11 @@
 -- What the definition of a listing tells apart: the records that are committed are listed, and no octets after them.
 use Rattle.std.proofs.Common.{◌≡◌, ◌∙◌, ℕ, List, [], ◌∷◌, ◌++◌, map, Some, Result, Ok, Err, ap, sym, subst, refl}
-use Rattle.group_records.specs.declared.batches.Stored.{Stored}
 use Rattle.group_records.specs.declared.heads.Head.{Head}
 use Rattle.journal_listing.specs.declared.rows.JournalEnd.TheVariants.{Begun}
 use Rattle.journal_listing.specs.declared.rows.ListedBatch.{ListedBatch}
 use Rattle.journal_listing.specs.Listings.{IsListingOf, listed_as}
 use Rattle.tree_journal.specs.Records.{front_text, records}
-use Rattle.tree_store.specs.Groups.{AreBatches}
+use Rattle.tree_store.specs.Groups.{AreRecordsOf}
 
 -- one record of one octet: what follows its clear commit mark is no record, whether it is an octet or looks like a record
 abbrev one_record : List (List ℕ)
@@ -24,10 +23,6 @@ later (Ok []) = []
 later (Ok (first ∷ bodies)) = bodies
 later (Err place) = []
 
-no_batches : (head : Head) (list : List Stored) → AreBatches head [] [] list → list ≡ []
-no_batches head [] are = refl
-no_batches head (stored ∷ list) are = absurd are
-
 -- of a file with the record of its head alone no batch is listed, though octets follow that
 head_alone_lists_no_batch : (file first : List ℕ) (head : Head) (batches : List ListedBatch) (at : ℕ) → records file ≡ Ok (first ∷ [])
     → IsListingOf file (record { head = Some head; batches = batches; end = Begun at }) → batches ≡ []
@@ -35,4 +30,4 @@ head_alone_lists_no_batch file first head batches at has is =
     let list = is.0 in
     let group = is.2.0 in
     let none : group.1 ≡ [] = ap later (sym group.2 ∙ has) in
-    is.1 ∙ ap (map listed_as) (no_batches head list (subst (λ bodies. AreBatches head [] bodies list) none group.4))
+    is.1 ∙ ap (map listed_as) (subst (λ bodies. AreRecordsOf head [] bodies list) none group.4)

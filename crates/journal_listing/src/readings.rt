@@ -1,16 +1,18 @@
 //! Reading a journal in memory to its end.
-ghost use Rattle.std.specs.Prelude.{◌≡◌, [], ℕ, List as Items, None, false, length, map, IfOk, OnOk};
+ghost use Rattle.std.specs.Prelude.{◌≡◌, [], ℕ, List as Items, None, Some, false, length, map, IfOk, IsSome, OnOk};
 ghost use Rattle.group_records.specs.declared.batches.Stored.{Stored};
 ghost use Rattle.journal_listing.specs.Listings.{EndsAfter, IsListingOf, listed_as};
-ghost use Rattle.journal_listing.specs.Private.Walks.{GoesOn, IsEndAt, IsFurther, IsReadTo};
+ghost use Rattle.journal_listing.specs.Private.Replays.{GoesOn, IsEndAt, IsFurther, IsReadTo};
 ghost use Rattle.journal_listing.specs.declared.rows.JournalEnd.TheVariants.{NotAJournal};
+ghost use Rattle.tree_store.specs.Groups.{IsGroupTo};
+ghost use Rattle.tree_store.specs.declared.dues.Due.{Due};
 ghost use Rattle.tree_journal.specs.declared.refusals.JournalRefusal.TheVariants.{NotAJournal as NoJournal};
 
 use crate::rows::{JournalEnd, ListedBatch, Listing, listed};
 use gd_disk::{FARTHEST, MemDisk};
 use group_terms::{List, NoMemory, Octets};
 use std::alloc::Global;
-use tree_store::{FormatRefusal, JournalRefusal, TreeStore};
+use tree_store::{FormatRefusal, JournalRefusal, Replay, TreeStore};
 
 /// What comes next in a journal.
 #[derive(Drop)]
@@ -48,7 +50,7 @@ fn list_headless(alloc: Global, why: JournalRefusal) -> Result<Listing, NoMemory
 /// What is listed of a store that was just opened, on a disk of this size.
 fn list_store(alloc: Global, mut store: TreeStore<MemDisk>, size: u64) -> Result<Listing, NoMemory>
     requires open { store.closed ≡ false }
-    requires read { IsReadTo store [] }
+    requires read { IsGroupTo store.disk.image store.head [] store.at }
     requires size { size ≡ length store.disk.image }
     ensures { IfOk result (IsListingOf store.disk.image) }
 {
@@ -62,7 +64,7 @@ fn list_store(alloc: Global, mut store: TreeStore<MemDisk>, size: u64) -> Result
     })
 }
 
-/// Lists the batches of a store that was just opened; how the octets of its disk end.
+/// Lists the batches of a store that was just opened; how the octets of its disk end. `NoMemory` if out of memory for them.
 fn list_batches(
     alloc: Global,
     store: &mut TreeStore<MemDisk>,
@@ -70,38 +72,55 @@ fn list_batches(
     batches: &mut List<ListedBatch>,
 ) -> Result<JournalEnd, NoMemory>
     requires open { store.old.closed ≡ false }
-    requires read { IsReadTo store.old [] }
+    requires read { IsGroupTo store.old.disk.image store.old.head [] store.old.at }
     requires size { size ≡ length store.old.disk.image }
     requires none { batches.old ≡ [] }
     ensures { IfOk result (λ end. (list : Items Stored) × (batches.new ≡ map listed_as list)
         × EndsAfter store.old.disk.image store.old.head list end) }
 {
+    let mut replay = Replay::begin(alloc, &store.head())?;
     'batches: loop {
-        match next_batch(alloc, store, size)? {
+        match next_batch(alloc, store, &mut replay, size)? {
             Next::Batch { batch } => batches.push(batch)?,
             Next::End { end } => return Ok(end),
         }
     }
 }
 
-/// The next batch, or how the octets of a disk of this size end.
-fn next_batch(alloc: Global, store: &mut TreeStore<MemDisk>, size: u64) -> Result<Next, NoMemory>
+/// The next batch, or how the octets of a disk of this size end. `NoMemory` if out of memory for it.
+fn next_batch(
+    alloc: Global,
+    store: &mut TreeStore<MemDisk>,
+    replay: &mut Replay,
+    size: u64,
+) -> Result<Next, NoMemory>
     requires open { store.old.closed ≡ false }
     requires size { size ≡ length store.old.disk.image }
-    ensures next { (list : Items Stored) → IsReadTo store.old list → IfOk result (GoesOn list store.old store.new) }
+    ensures next { (list : Items Stored) → IsReadTo store.old replay.old list → IfOk result (GoesOn list store.old store.new replay.new) }
     ensures further { IfOk result (IsFurther store.old store.new) }
     ensures same { store.new.disk.image ≡ store.old.disk.image }
     ensures head { store.new.head ≡ store.old.head }
     ensures open { OnOk result (store.new.closed ≡ false) }
 {
-    match store.next_batch(alloc) {
-        Ok(Some(stored)) => Ok(Next::Batch {
-            batch: listed(stored),
+    match store.next_batch(alloc, replay) {
+        Ok(true) => Ok(Next::Batch {
+            batch: last_listed(replay),
         }),
-        Ok(None) => Ok(Next::End {
+        Ok(false) => Ok(Next::End {
             end: end_at(store.place(), size),
         }),
         Err(why) => Ok(Next::End { end: end_of(why)? }),
+    }
+}
+
+/// The batch that was read last, as it is listed.
+fn last_listed(replay: &Replay) -> ListedBatch
+    requires { IsSome replay.now.last }
+    ensures { (next : Due) → replay.now.last ≡ Some next → result ≡ listed_as next.stored }
+{
+    match replay.last() {
+        Some(next) => listed(&next.stored),
+        None => unreachable!(),
     }
 }
 

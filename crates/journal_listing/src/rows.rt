@@ -35,20 +35,25 @@ pub struct Listing {
     pub end: JournalEnd,
 }
 
-/// A batch as it is listed. The values of its keys are dropped.
-pub(crate) fn listed(stored: Stored) -> ListedBatch
-    ensures { result ≡ listed_as stored }
+/// A batch as it is listed. The values of its keys are left out.
+pub(crate) fn listed(stored: &Stored) -> ListedBatch
+    ensures { result ≡ listed_as stored.now }
 {
-    let Stored {
-        batch,
-        epoch,
-        sequence,
-        values,
-    } = stored;
     ListedBatch {
-        epoch,
-        sequence,
-        keys: values.nodes.len(),
-        changes: batch,
+        epoch: stored.epoch,
+        sequence: stored.sequence,
+        keys: stored.values.nodes.len(),
+        changes: copied(&stored.batch),
     }
+}
+
+/// The same changes.
+fn copied(batch: &Batch) -> Batch
+    ensures { result ≡ batch.now }
+{
+    let mut copy = Batch::new();
+    for change in batch.changes() {
+        copy.push(*change);
+    }
+    copy
 }

@@ -13,7 +13,7 @@ use Rattle.group_terms.specs.Names.{Name}
 use Rattle.group_terms.specs.declared.phases.Phase1.{Phase1}
 use Rattle.indexmap.specs.IndexSet.{insert_key}
 use Rattle.group_model.proofs.FitLemmas.{list_any-map}
-use Rattle.group_model.proofs.SeatLemmas.{is_some-position}
+use Rattle.group_model.proofs.IndexLemmas.{is_some-position}
 use Rattle.pull_sessions.specs.declared.sas.Sa.{Sa}
 use Rattle.pull_sessions.specs.declared.sas.Session.{Session}
 use Rattle.pull_sessions.specs.Private.Places.{no_sa, with_session_at}

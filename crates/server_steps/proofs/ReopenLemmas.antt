@@ -16,9 +16,9 @@ use Rattle.group_model.specs.declared.entries.Refusal.{Refusal}
 use Rattle.group_model.specs.declared.entries.Refusal.TheVariants.{DiskFault, NotAJournal, NoMemory}
 use Rattle.group_records.specs.declared.batches.Stored.{Stored}
 use Rattle.group_records.specs.declared.heads.Head.{Head}
-use Rattle.tree_store.specs.Groups.{IsGroup, IsNoGroup}
+use Rattle.tree_store.specs.Groups.{IsGroup, IsNoGroup, made_of}
 use Rattle.gcks_core.specs.Stands.{Stands}
-use Rattle.gcks_core.specs.Stored.{IsFileOf, made_of, stored_from, stored_list}
+use Rattle.gcks_core.specs.Stored.{IsFileOf, stored_from, stored_list}
 use Rattle.gcks_core.specs.Views.{View}
 use Rattle.pull_sessions.specs.Sessions.{Sessions, without_sessions}
 use Rattle.server_steps.specs.Hosts.{Host, with_disk, with_server}

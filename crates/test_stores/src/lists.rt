@@ -5,8 +5,8 @@ use crate::records::push_next;
 use crate::stores::{head_of, look, on_new};
 use crate::unseen::holding;
 use gd_edges::ChaChaDraws;
-use group_model::PresentTree;
 use group_terms::{Batch, Change, List, MOST_CHANGES, MemberName, Octets};
+use key_tree::KeyTree;
 use std::alloc::Global;
 
 #[test]
@@ -47,7 +47,7 @@ fn push_some(alloc: Global, depth: u8, seed: u64, records: &mut List<Octets>) ->
     requires shallow { 1 ≤ depth }
     requires not_deep { depth ≤ 9 }
 {
-    let mut tree = PresentTree::new(alloc, depth).ok()?;
+    let mut tree = KeyTree::new(alloc, depth).ok()?;
     let mut numbers = Numbers { state: seed };
     let mut draws = ChaChaDraws::new(seed, 0);
     for _ in 0..1 + numbers.below(40) {
@@ -58,7 +58,7 @@ fn push_some(alloc: Global, depth: u8, seed: u64, records: &mut List<Octets>) ->
 }
 
 /// A batch that fits after those for which a tree stands, out of twice as many names as it has leaves.
-fn some_batch(tree: &PresentTree, numbers: &mut Numbers) -> Batch {
+pub(crate) fn some_batch(tree: &KeyTree, numbers: &mut Numbers) -> Batch {
     let names = 2 * tree.leaves() as u64;
     let mut room = tree.leaves().saturating_sub(tree.members() as usize);
     let mut batch = Batch::new();
@@ -79,7 +79,7 @@ fn some_batch(tree: &PresentTree, numbers: &mut Numbers) -> Batch {
 }
 
 /// The name `m` with the last four digits of a number.
-fn name(number: u64) -> MemberName {
+pub(crate) fn name(number: u64) -> MemberName {
     let text = [
         b'm',
         b'0' + (number / 1000 % 10) as u8,
@@ -92,8 +92,8 @@ fn name(number: u64) -> MemberName {
 
 /// A linear congruential generator, with the multiplier and the increment of Knuth's MMIX.
 #[derive(Drop)]
-struct Numbers {
-    state: u64,
+pub(crate) struct Numbers {
+    pub(crate) state: u64,
 }
 
 impl Numbers {

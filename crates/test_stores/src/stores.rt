@@ -5,7 +5,7 @@ ghost use Rattle.std.specs.Prelude.{◌≡◌, Ok, Some, false, IsSome};
 use crate::unseen::UnseenDisk;
 use group_terms::{GroupName, NoMemory, Octets};
 use std::alloc::Global;
-use tree_store::{FormatRefusal, Head, JournalRefusal, Stored, TreeStore};
+use tree_store::{FormatRefusal, Head, JournalRefusal, Replay, Stored, TreeStore};
 
 pub(crate) type Store = TreeStore<UnseenDisk>;
 
@@ -113,45 +113,66 @@ fn reopened(alloc: Global, store: &mut Store) -> Option<JournalRefusal> {
     store.reopen(alloc).err()
 }
 
-/// Reads the next batch and lets it go; whether there is one.
-fn go_on(alloc: Global, store: &mut Store) -> Result<bool, JournalRefusal>
+/// Reads the next batch; whether there is one.
+fn go_on(alloc: Global, store: &mut Store, replay: &mut Replay) -> Result<bool, JournalRefusal>
     ensures { result ≡ Ok false → IsSome store.new.end }
 {
-    let next = store.next_batch(alloc)?;
-    let is_there = next.is_some();
-    drop(next);
-    Ok(is_there)
+    store.next_batch(alloc, replay)
 }
 
 /// How many of these batches are read from where reading goes on, up to the last one of a store; `None` where others are read.
 fn found(alloc: Global, store: &mut Store, records: &[Octets]) -> Option<usize>
     ensures { IsSome result → IsSome store.new.end }
 {
+    let mut replay = begun(alloc, store)?;
+    let found = found_by(alloc, store, &mut replay, records);
+    drop(replay);
+    found
+}
+
+/// A replay of a store.
+fn begun(alloc: Global, store: &Store) -> Option<Replay> {
+    Replay::begin(alloc, &store.head()).ok()
+}
+
+fn found_by(
+    alloc: Global,
+    store: &mut Store,
+    replay: &mut Replay,
+    records: &[Octets],
+) -> Option<usize>
+    ensures { IsSome result → IsSome store.new.end }
+{
     for (count, record) in records.iter().enumerate() {
-        match is_next(alloc, store, record) {
+        match is_next(alloc, store, replay, record) {
             Some(true) => {}
             Some(false) => return Some(count),
             None => return None,
         }
     }
-    match go_on(alloc, store) {
+    match go_on(alloc, store, replay) {
         Ok(false) => Some(records.len()),
         _ => None,
     }
 }
 
 /// Whether the batch of this record is read, or none is left; `None` where neither is so.
-fn is_next(alloc: Global, store: &mut Store, record: &Octets) -> Option<bool>
+fn is_next(alloc: Global, store: &mut Store, replay: &mut Replay, record: &Octets) -> Option<bool>
     ensures { result ≡ Some false → IsSome store.new.end }
 {
-    let next = store.next_batch(alloc);
-    let is_next = match &next {
-        Ok(Some(next)) if is_in(alloc, next, record) => Some(true),
-        Ok(None) => Some(false),
+    match go_on(alloc, store, replay) {
+        Ok(true) if is_last(alloc, replay, record) => Some(true),
+        Ok(false) => Some(false),
         _ => None,
-    };
-    drop(next);
-    is_next
+    }
+}
+
+/// Whether the batch that was read last has this record.
+fn is_last(alloc: Global, replay: &Replay, record: &Octets) -> bool {
+    match replay.last() {
+        Some(next) => is_in(alloc, &next.stored, record),
+        None => false,
+    }
 }
 
 /// Whether a batch has this record.

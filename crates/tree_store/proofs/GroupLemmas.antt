@@ -1,14 +1,12 @@
--- Batches one after the other, and files that have them.
-use Rattle.std.proofs.Common.{◌≡◌, ◌∙◌, ℕ, ◌+◌, ◌≤◌, List, [], ◌∷◌, ◌++◌, length, true, Option, Result, Ok, Err, inl, inr, ⊎_elim, refl, sym, ap, subst, append_assoc, append-nil}
-use Rattle.gd_wire.specs.Readings.{from_start, value_of}
-use Rattle.group_terms.specs.declared.changes.Change.{Change}
-use Rattle.group_terms.specs.declared.wires.WireFault.{WireFault}
+-- Records one after the other, and files that have them.
+use Rattle.std.proofs.Common.{◌≡◌, ◌∙◌, ℕ, ◌+◌, ◌≤◌, List, [], ◌∷◌, ◌++◌, length, true, Option, Ok, Err, inl, inr, ⊎_elim, refl, sym, ap, subst, append-nil}
 use Rattle.group_records.specs.declared.batches.Stored.{Stored}
 use Rattle.group_records.specs.declared.heads.Head.{Head}
-use Rattle.group_records.specs.Readings.{batch_record}
+use Rattle.group_records.specs.Records.{Record, a_batch, IsReadAs, IsBatchOf}
+use Rattle.group_records.proofs.OnceLemmas.{batch_once}
 use Rattle.tree_journal.specs.Crashes.{Opens, IsBeforeOrAfter}
 use Rattle.tree_journal.specs.Records.{records, bodies_from, is_named, with_front, AreRecordsFrom, IsRecordAt}
-use Rattle.tree_store.specs.Groups.{IsBatchOf, IsDue, AreBatches, IsGroup, IsGroupTo, HasGroup, IsGroupBeforeOrAfter, batches_of}
+use Rattle.tree_store.specs.Groups.{IsDue, IsAfter, AreRecordsOf, IsGroup, IsGroupTo, HasGroup, IsGroupBeforeOrAfter}
 
 -- the laws of the records of a journal
 pub record Laws : Type 0 where
@@ -35,33 +33,33 @@ stand_then file from to [] body here there =
 stand_then file from to (next ∷ bodies) body (first, rest) there = (first, stand_then file (from + 5 + length next) to bodies body rest there)
 
 module _ (head : Head) where
-  -- one batch more, which is due after them
-  batches_then : (before : List (List Change)) (bodies : List (List ℕ)) (list : List Stored) (body : List ℕ) (stored : Stored)
-      → AreBatches head before bodies list → IsBatchOf body stored → IsDue head.depth head.limit (before ++ batches_of list) stored
-      → AreBatches head before (bodies ++ body ∷ []) (list ++ stored ∷ [])
-  batches_then before [] [] body stored are read due =
-      (read, subst (λ (b : List (List Change)). IsDue head.depth head.limit b stored) (append-nil before) due, cc)
-  batches_then before [] (first ∷ list) body stored are read due = absurd are
-  batches_then before (next ∷ bodies) [] body stored are read due = absurd are
-  batches_then before (next ∷ bodies) (first ∷ list) body stored are read due = (
-    are.0,
-    are.1,
-    batches_then (before ++ first.batch ∷ []) bodies list body stored are.2 read
-        (subst (λ (b : List (List Change)). IsDue head.depth head.limit b stored) (sym (append_assoc before (first.batch ∷ []) (batches_of list))) due),
-  )
+  -- with one record more
+  records_then : (before : List Stored) (bodies : List (List ℕ)) (list : List Stored) (body : List ℕ) (next : Record) (after : List Stored)
+      → AreRecordsOf head before bodies list → IsReadAs body next → IsAfter head list next after
+      → AreRecordsOf head before (bodies ++ body ∷ []) after
+  records_then before [] list body next after are read step =
+      (next, after, read, subst (λ (mid : List Stored). IsAfter head mid next after) are step, refl)
+  records_then before (first ∷ bodies) list body next after (said, mid, found, leads, rest) read step =
+      (said, mid, found, leads, records_then mid bodies list body next after rest read step)
+
+  -- with the record of a batch more, which is due after them
+  batch_then : (bodies : List (List ℕ)) (list : List Stored) (body : List ℕ) (stored : Stored)
+      → AreRecordsOf head [] bodies list → IsBatchOf body stored → IsDue head list stored
+      → AreRecordsOf head [] (bodies ++ body ∷ []) (list ++ stored ∷ [])
+  batch_then bodies list body stored are read due = records_then [] bodies list body (a_batch stored) (list ++ stored ∷ []) are read (due, refl)
 
   module _ (file : List ℕ) (list : List Stored) (at : ℕ) where
     -- a file has these batches up to a place, and one more up to the next
     pub group_then : (body : List ℕ) (stored : Stored) → IsRecordAt file at body → IsBatchOf body stored
-        → IsDue head.depth head.limit (batches_of list) stored → IsGroupTo file head list at
+        → IsDue head list stored → IsGroupTo file head list at
         → IsGroupTo file head (list ++ stored ∷ []) (at + 5 + length body)
-    group_then body stored there read due (first, bodies, named, stand, is_head, batches) = (
+    group_then body stored there read due (first, bodies, named, stand, is_head, are) = (
       first,
       bodies ++ body ∷ [],
       named,
       stand_then file 9 at (first ∷ bodies) body stand there,
       is_head,
-      batches_then [] bodies list body stored batches read due,
+      batch_then bodies list body stored are read due,
     )
 
     -- and no more
@@ -76,22 +74,13 @@ module _ (head : Head) where
       batches,
     )
 
--- a record is read as one head at the most, and as one batch
-value_or : {A : Type 0} → A → Result A WireFault → A
-value_or other (Ok value) = value
-value_or other (Err fault) = other
-
-pub value_once : {A : Type 0} (answer : Result A WireFault) (one other : A) → answer ≡ Ok one → answer ≡ Ok other → one ≡ other
-unfolding value_or
-value_once answer one other first second = ap (value_or one) (sym first ∙ second)
-
 -- which files are the group, and which are it with the batch of one record more, where its records are these
 pub record Grows (head : Head) (list : List Stored) (body : List ℕ) (stored : Stored) (bodies : List (List ℕ)) : Type 0 where
   pub before : (file : List ℕ) → records file ≡ Ok bodies → IsGroup file head list
   pub after : (file : List ℕ) → records file ≡ Ok (bodies ++ body ∷ []) → IsGroup file head (list ++ stored ∷ [])
 
 pub grows : (shows : Option (List ℕ)) (head : Head) (list : List Stored) (made body : List ℕ) (stored : Stored) → body ≡ made → HasGroup shows head list
-    → IsBatchOf made stored → (due : Stored) × IsBatchOf made due × IsDue head.depth head.limit (batches_of list) due
+    → IsBatchOf made stored → (due : Stored) × IsBatchOf made due × IsDue head list due
     → (bodies : List (List ℕ)) × Opens shows bodies × Grows head list body stored bodies
 grows shows head list made body stored same (octets, is, (first, bodies, are, is_head, batches)) read (due, due_read, is_due) = (
   first ∷ bodies,
@@ -103,8 +92,8 @@ grows shows head list made body stored same (octets, is, (first, bodies, are, is
       bodies ++ body ∷ [],
       has,
       is_head,
-      batches_then head [] bodies list body stored batches (subst (λ (b : List ℕ). IsBatchOf b stored) (sym same) read)
-          (subst (IsDue head.depth head.limit (batches_of list)) (value_once (value_of (batch_record (from_start 0 made))) due stored due_read read) is_due),
+      batch_then head bodies list body stored batches (subst (λ (b : List ℕ). IsBatchOf b stored) (sym same) read)
+          (subst (IsDue head list) (batch_once made due stored due_read read) is_due),
     );
   },
 )

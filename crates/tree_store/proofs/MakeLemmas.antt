@@ -1,16 +1,17 @@
 -- What a crash leaves while a group is made.
-use Rattle.std.proofs.Common.{◌≡◌, ◌⊎◌, inl, inr, ⊎_elim, ℕ, List, [], ◌∷◌, Result, Ok, Err}
+use Rattle.std.proofs.Common.{◌≡◌, ◌⊎◌, inl, inr, ⊎_elim, ℕ, List, [], ◌∷◌, Result, Ok, Err, refl}
 use Rattle.std.specs.Result.{IsErrAnd}
 use Rattle.gd_disk.specs.Disks.{Torn, Cut}
 use Rattle.gd_disk.specs.MomentLaws.{started, joined, weaker}
 use Rattle.gd_disk.specs.Moments.{LeavesOnly}
 use Rattle.gd_disk.specs.declared.disks.Disk.{Ghosts}
 use Rattle.group_records.specs.declared.heads.Head.{Head}
+use Rattle.group_records.specs.Records.{IsHeadOf}
 use Rattle.tree_journal.specs.Crashes.{IsBeforeOrAfter, IsCutOf, IsUnfilled, MakesJournal}
 use Rattle.tree_journal.specs.Records.{records}
 use Rattle.tree_journal.specs.declared.refusals.FormatRefusal.{FormatRefusal}
 use Rattle.tree_store.specs.Views.{View, store_disk}
-use Rattle.tree_store.specs.Groups.{IsHeadOf, IsGroup, MakesGroup}
+use Rattle.tree_store.specs.Groups.{IsGroup, MakesGroup}
 
 -- the disk that a refusal gives back
 pub gave_back : {D : Type 0} (result : Result (View D) (FormatRefusal D)) (refused : FormatRefusal D) → IsErrAnd result (λ other. other ≡ refused)
@@ -20,7 +21,7 @@ gave_back (Err other) refused is = λ i. (is i).disk
 
 -- a file with the head's record alone is the group without a batch
 pub head_alone : (head : Head) (made : List ℕ) → IsHeadOf made head → (file : List ℕ) → records file ≡ Ok (made ∷ []) → IsGroup file head []
-head_alone head made is_head file are = (made, [], are, is_head, cc)
+head_alone head made is_head file are = (made, [], are, is_head, refl)
 
 module _ {D : Type 0} (g : Ghosts D) (head : Head) (old : D) where
   abbrev Cuts : List ℕ → Type 0

@@ -1,37 +1,42 @@
 -- A file has one group at the most.
 -- Records at their places (`AreRecordsFrom`), not the reading that they give, which says nothing of them where it breaks off later.
-use Rattle.std.proofs.Common.{◌≡◌, ◌∙◌, ◌⊎◌, inl, inr, ⊎_elim, ℕ, ◌+◌, ◌≤◌, List, [], ◌∷◌, ◌++◌, length, true, Some, Result, Ok, Err, refl, sym, ap, subst, arith, append_assoc, append-nil}
-use Rattle.gd_wire.specs.Readings.{from_start, value_of}
-use Rattle.group_terms.specs.declared.changes.Change.{Change}
+use Rattle.std.proofs.Common.{◌≡◌, ◌∙◌, ◌⊎◌, inl, inr, ⊎_elim, ℕ, ◌+◌, ◌≤◌, List, [], ◌∷◌, ◌++◌, length, true, Some, Result, Ok, Err, refl, sym, ap, subst, arith}
 use Rattle.group_records.specs.declared.batches.Stored.{Stored}
 use Rattle.group_records.specs.declared.heads.Head.{Head}
-use Rattle.group_records.specs.Readings.{head_record, batch_record}
+use Rattle.group_records.specs.Records.{Record, a_head, a_batch, IsReadAs, IsHeadOf}
+use Rattle.group_records.proofs.OnceLemmas.{head_once, read_once}
 use Rattle.tree_journal.specs.Records.{records, bodies_from, body_next, is_named, with_front, AreRecordsFrom, IsRecordAt}
-use Rattle.tree_store.specs.Groups.{IsHeadOf, IsBatchOf, IsDue, AreBatches, IsGroup, IsNoGroup, HasNoHead, HasNoneAt, batches_of}
-use Rattle.tree_store.proofs.GroupLemmas.{Laws, front_read, named_records, value_once}
+use Rattle.tree_store.specs.Groups.{IsAfter, IsNoneAfter, AreRecordsOf, IsGroup, IsNoGroup, HasNoHead, HasNoneAt}
+use Rattle.tree_store.proofs.GroupLemmas.{Laws, front_read, named_records}
 
 -- a head and batches in records that were read
 Has : Head → List Stored → Result (List (List ℕ)) ℕ → Type 0
 Has head list (Err place) = ⊥
 Has head list (Ok []) = ⊥
-Has head list (Ok (first ∷ bodies)) = IsHeadOf first head × AreBatches head [] bodies list
+Has head list (Ok (first ∷ bodies)) = IsHeadOf first head × AreRecordsOf head [] bodies list
 
 has : (file : List ℕ) (head : Head) (list : List Stored) → IsGroup file head list → Has head list (records file)
 unfolding Has
 has file head list (first, bodies, are, is_head, batches) = subst (Has head list) (sym are) (is_head, batches)
 
-same_batches : (head : Head) (before : List (List Change)) (bodies : List (List ℕ)) (list others : List Stored)
-    → AreBatches head before bodies list → AreBatches head before bodies others → list ≡ others
-same_batches head before [] [] [] one other = refl
-same_batches head before [] (stored ∷ list) others one other = absurd one
-same_batches head before [] [] (stored ∷ others) one other = absurd other
-same_batches head before (body ∷ bodies) [] others one other = absurd one
-same_batches head before (body ∷ bodies) (stored ∷ list) [] one other = absurd other
-same_batches head before (body ∷ bodies) (stored ∷ list) (next ∷ others) one other =
-    let same : stored ≡ next = value_once (value_of (batch_record (from_start 0 body))) stored next one.0 other.0 in
-    let rest = same_batches head (before ++ stored.batch ∷ []) bodies list others one.2
-    (subst (λ (s : Stored). AreBatches head (before ++ s.batch ∷ []) bodies others) (sym same) other.2) in
-    λ i. same i ∷ rest i
+-- a record leads from batches to the same ones
+after_once : (head : Head) (before : List Stored) (next : Record) (one other : List Stored) → IsAfter head before next one → IsAfter head before next other
+    → one ≡ other
+after_once head before (a_head next) one other is was = absurd is
+after_once head before (a_batch stored) one other is was = is.1 ∙ sym was.1
+
+step_once : (head : Head) (before : List Stored) (body : List ℕ) (next also : Record) (one other : List Stored) → IsReadAs body next → IsReadAs body also
+    → IsAfter head before next one → IsAfter head before also other → one ≡ other
+step_once head before body next also one other read found is was =
+    after_once head before next one other is (subst (λ (said : Record). IsAfter head before said other) (sym (read_once body next also read found)) was)
+
+-- and so do records one after the other
+same_batches : (head : Head) (before : List Stored) (bodies : List (List ℕ)) (list others : List Stored)
+    → AreRecordsOf head before bodies list → AreRecordsOf head before bodies others → list ≡ others
+same_batches head before [] list others one other = one ∙ sym other
+same_batches head before (body ∷ bodies) list others (next, mid, read, step, rest) (also, then_mid, found, leads, more) =
+    let same : mid ≡ then_mid = step_once head before body next also mid then_mid read found step leads in
+    same_batches head then_mid bodies list others (subst (λ (from : List Stored). AreRecordsOf head from bodies list) same rest) more
 
 both : (read : Result (List (List ℕ)) ℕ) (head other : Head) (list others : List Stored) → Has head list read → Has other others read
     → (head ≡ other) × (list ≡ others)
@@ -39,39 +44,34 @@ unfolding Has
 both (Err place) head other list others one two = absurd one
 both (Ok []) head other list others one two = absurd one
 both (Ok (first ∷ bodies)) head other list others one two =
-    let same : head ≡ other = value_once (value_of (head_record (from_start 0 first))) head other one.0 two.0 in
-    (same, same_batches head [] bodies list others one.1 (subst (λ (h : Head). AreBatches h [] bodies others) (sym same) two.1))
+    let same : head ≡ other = head_once first head other one.0 two.0 in
+    (same, same_batches head [] bodies list others one.1 (subst (λ (h : Head). AreRecordsOf h [] bodies others) (sym same) two.1))
 
 pub one_group : (file : List ℕ) (head other : Head) (list others : List Stored) → IsGroup file head list → IsGroup file other others
     → (head ≡ other) × (list ≡ others)
 one_group file head other list others one two = both (records file) head other list others (has file head list one) (has file other others two)
 
--- batches, of which the first ones are in these records, have one that is due in the next record
-next_due : (head : Head) (before : List (List Change)) (bodies : List (List ℕ)) (firsts list : List Stored) (body : List ℕ) (later : List (List ℕ))
-    → AreBatches head before bodies firsts → AreBatches head before (bodies ++ body ∷ later) list
-    → (stored : Stored) × IsBatchOf body stored × IsDue head.depth head.limit (before ++ batches_of firsts) stored
-next_due head before [] [] [] body later are all = absurd all
-next_due head before [] [] (stored ∷ list) body later are all =
-    (stored, all.0, subst (λ (b : List (List Change)). IsDue head.depth head.limit b stored) (sym (append-nil before)) all.1)
-next_due head before [] (first ∷ firsts) list body later are all = absurd are
-next_due head before (next ∷ bodies) [] list body later are all = absurd are
-next_due head before (next ∷ bodies) (first ∷ firsts) [] body later are all = absurd all
-next_due head before (next ∷ bodies) (first ∷ firsts) (stored ∷ list) body later are all =
-    let same : stored ≡ first = value_once (value_of (batch_record (from_start 0 next))) stored first all.0 are.0 in
-    let found = next_due head (before ++ first.batch ∷ []) bodies firsts list body later are.2
-    (subst (λ (s : Stored). AreBatches head (before ++ s.batch ∷ []) (bodies ++ body ∷ later) list) same all.2) in
-    (found.0, found.1, subst (λ (b : List (List Change)). IsDue head.depth head.limit b found.0) (append_assoc before (first.batch ∷ []) (batches_of firsts)) found.2)
+-- of records with these first ones the next one leads on from the batches of those
+next_leads : (head : Head) (before : List Stored) (bodies : List (List ℕ)) (firsts list : List Stored) (body : List ℕ) (later : List (List ℕ))
+    → AreRecordsOf head before bodies firsts → AreRecordsOf head before (bodies ++ body ∷ later) list
+    → (next : Record) × (after : List Stored) × IsReadAs body next × IsAfter head firsts next after
+next_leads head before [] firsts list body later are (next, after, read, step, rest) =
+    (next, after, read, subst (λ (from : List Stored). IsAfter head from next after) (sym are) step)
+next_leads head before (first ∷ bodies) firsts list body later (next, mid, read, step, rest) (also, then_mid, found, leads, more) =
+    let same : mid ≡ then_mid = step_once head before first next also mid then_mid read found step leads in
+    next_leads head mid bodies firsts list body later rest
+    (subst (λ (from : List Stored). AreRecordsOf head from (bodies ++ body ∷ later) list) (sym same) more)
 
--- after these batches of a group there is one that is due, or none at all
+-- after these batches of a group there is a record that may come, or none at all
 no_other : (head other : Head) (list firsts : List Stored) (first body : List ℕ) (bodies : List (List ℕ)) (rest : Result (List (List ℕ)) ℕ)
-    → Has head list (with_front (first ∷ bodies) (with_front (body ∷ []) rest)) → IsHeadOf first other → AreBatches other [] bodies firsts
-    → ((stored : Stored) → IsBatchOf body stored → IsDue other.depth other.limit (batches_of firsts) stored → ⊥) → ⊥
+    → Has head list (with_front (first ∷ bodies) (with_front (body ∷ []) rest)) → IsHeadOf first other → AreRecordsOf other [] bodies firsts
+    → IsNoneAfter other firsts body → ⊥
 unfolding Has
 no_other head other list firsts first body bodies (Err place) is is_head are none = is
 no_other head other list firsts first body bodies (Ok later) is is_head are none =
-    let same : head ≡ other = value_once (value_of (head_record (from_start 0 first))) head other is.0 is_head in
-    let found = next_due other [] bodies firsts list body later are (subst (λ (h : Head). AreBatches h [] (bodies ++ body ∷ later) list) same is.1) in
-    none found.0 found.1 found.2
+    let same : head ≡ other = head_once first head other is.0 is_head in
+    let found = next_leads other [] bodies firsts list body later are (subst (λ (h : Head). AreRecordsOf h [] (bodies ++ body ∷ later) list) same is.1) in
+    none found.0 found.1 found.2 found.3
 
 -- a place has one record at the most
 one_record : (file : List ℕ) (at : ℕ) (body other : List ℕ) → IsRecordAt file at body → IsRecordAt file at other → body ≡ other
@@ -117,29 +117,29 @@ module _ (laws : Laws) where
       let order : at + (5 + length body) ≤ place = laws.breaks file after place later in
       omega arith
 
-  -- where none is due there is not the record of one that is
-  none_due : (file : List ℕ) (head : Head) (before : List (List Change)) (at : ℕ) (body : List ℕ) (stored : Stored) → HasNoneAt file head before at
-      → IsRecordAt file at body → IsBatchOf body stored → IsDue head.depth head.limit before stored → ⊥
-  none_due file head before at body stored (inl broken) there read due =
+  -- where no record may come there is none that does
+  none_comes : (file : List ℕ) (head : Head) (before : List Stored) (at : ℕ) (body : List ℕ) (next : Record) (after : List Stored) → HasNoneAt file head before at
+      → IsRecordAt file at body → IsReadAs body next → IsAfter head before next after → ⊥
+  none_comes file head before at body next after (inl broken) there read step =
       let past : at + 5 ≤ at = record_breaks file at at body there broken in
       omega arith
-  none_due file head before at body stored (inr (other, too, none)) there read due =
-      none stored (subst (λ (text : List ℕ). IsBatchOf text stored) (one_record file at body other there too) read) due
+  none_comes file head before at body next after (inr (other, too, none)) there read step =
+      none next after (subst (λ (text : List ℕ). IsReadAs text next) (one_record file at body other there too) read) step
 
   -- so it is not the beginning of a longer one
   not_ahead : (file : List ℕ) (at : ℕ) (head other : Head) (list more : List Stored) (first next : List ℕ) (bodies others : List (List ℕ))
-      → IsHeadOf first head → IsHeadOf next other → AreBatches head [] bodies list → AreBatches other [] others more
-      → HasNoneAt file head (batches_of list) at → Ahead file at (first ∷ bodies) (next ∷ others) → ⊥
+      → IsHeadOf first head → IsHeadOf next other → AreRecordsOf head [] bodies list → AreRecordsOf other [] others more
+      → HasNoneAt file head list at → Ahead file at (first ∷ bodies) (next ∷ others) → ⊥
   unfolding Ahead
   not_ahead file at head other list more first next bodies others is_head is_other are too none (body, later, same, there) =
       let same_first : next ≡ first = cc same in
       let rest : others ≡ bodies ++ body ∷ later = cc same in
       let read : IsHeadOf first other = subst (λ (text : List ℕ). IsHeadOf text other) same_first is_other in
-      let same_head : other ≡ head = value_once (value_of (head_record (from_start 0 first))) other head read is_head in
-      let all : AreBatches head [] (bodies ++ body ∷ later) more =
-      subst (λ (h : Head). AreBatches h [] (bodies ++ body ∷ later) more) same_head (subst (λ (b : List (List ℕ)). AreBatches other [] b more) rest too) in
-      let found = next_due head [] bodies list more body later are all in
-      none_due file head (batches_of list) at body found.0 none there found.1 found.2
+      let same_head : other ≡ head = head_once first other head read is_head in
+      let all : AreRecordsOf head [] (bodies ++ body ∷ later) more =
+      subst (λ (h : Head). AreRecordsOf h [] (bodies ++ body ∷ later) more) same_head (subst (λ (b : List (List ℕ)). AreRecordsOf other [] b more) rest too) in
+      let found = next_leads head [] bodies list more body later are all in
+      none_comes file head list at body found.0 found.1 none there found.2 found.3
 
   -- a file that begins as a group's has a head
   headed : (file : List ℕ) (first : List ℕ) (head : Head) → is_named file ≡ true → IsRecordAt file 9 first → IsHeadOf first head → HasNoHead file → ⊥

@@ -1,7 +1,7 @@
 -- A store that is not closed, and what was read of it before an append.
 -- A premise that a closed store cannot meet is under `closed ≡ false →`; a clause on Ok alone takes it from `unless_closed`.
 use Rattle.std.proofs.Common.{◌≡◌, ℕ, List, ◌∷◌, Option, Some, Result, Ok, Err, Bool, true, false, refl, sym, subst}
-use Rattle.std.specs.Prelude.{OnOk}
+use Rattle.std.specs.Prelude.{OnErr, OnOk}
 use Rattle.gd_disk.specs.Disks.{Knows}
 use Rattle.group_records.specs.declared.batches.Stored.{Stored}
 use Rattle.group_records.specs.declared.heads.Head.{Head}
@@ -19,6 +19,11 @@ pub unless_closed : {T : Type 0} (closed : Bool) (result : Result T JournalRefus
     → (closed ≡ false → OnOk result P) → OnOk result P
 unless_closed {T = T} true result P shut goes = subst (λ (answer : Result T JournalRefusal). OnOk answer P) (sym (shut refl)) tt
 unless_closed false result P shut goes = goes refl
+
+-- what holds whatever the answer is, holds of an error
+pub on_err : {T P : Type 0} (result : Result T JournalRefusal) → P → OnErr result P
+on_err (Ok done) holds = tt
+on_err (Err why) holds = holds
 
 -- what was read before an append is there after it
 module _ {T : Type 0} (old new : Option (List ℕ)) (head : Head) (read : List Stored) (at : ℕ)

@@ -1,3 +1,4 @@
 pub mod Groups
 pub mod Private
+pub mod Replays
 pub mod Views

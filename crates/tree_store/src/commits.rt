@@ -3,11 +3,12 @@ ghost use Rattle.std.specs.Prelude.{◌≡◌, ◌⊎◌, ◌≤◌, ◌++◌, [
 ghost use Rattle.gd_disk.specs.Disks.{Knows};
 ghost use Rattle.gd_disk.specs.Moments.{shown, LeavesOnly, ReportsFaults};
 ghost use Rattle.gd_wire.specs.Readings.{octet_at};
+ghost use Rattle.group_records.specs.Records.{IsBatchOf};
 ghost use Rattle.group_records.specs.Texts.{batch_text};
 ghost use Rattle.group_records.specs.declared.batches.Stored.{Stored};
 ghost use Rattle.group_records.specs.declared.heads.Head.{Head};
 ghost use Rattle.tree_journal.specs.declared.refusals.JournalRefusal.TheVariants.{Closed, DiskFault};
-ghost use Rattle.tree_store.specs.Groups.{IsBatchOf, IsDue, IsGroup, IsGroupTo, HasGroup, IsGroupBeforeOrAfter, batches_of};
+ghost use Rattle.tree_store.specs.Groups.{IsDue, IsGroup, IsGroupTo, HasGroup, IsGroupBeforeOrAfter};
 
 use crate::stores::TreeStore;
 use gd_disk::Disk;
@@ -17,7 +18,7 @@ use std::alloc::Global;
 use tree_journal::JournalRefusal;
 
 impl<D: Disk> TreeStore<D> {
-    /// The record of a batch with the values of its keys, of at most 65,535 positions; `NoMemory` where there is none for it. It is read as that
+    /// The record of a batch with the values of its keys, of at most 65,535 positions; `NoMemory` if out of memory for it. It is read as that
     /// batch if the SPI of its traffic key has its highest bit set, as it must (RFC 4303 section 2.1).
     pub fn make_record(
         alloc: Global,
@@ -40,13 +41,13 @@ impl<D: Disk> TreeStore<D> {
     /// Stores a batch, whose record was made before and which is due after those that are stored. It takes no memory. A store that was opened has
     /// to be read to its last batch first.
     ///
-    /// On an honest disk the batch is there from Ok on, whatever crash comes. At `DiskFault` it is there or not, and the store is closed: from then
-    /// on each call answers `Closed`.
+    /// On an honest disk the batch is there from Ok on, whatever crash comes. `DiskFault` if the disk failed: the batch is there or not, and the
+    /// store is closed; from then on each call answers `Closed`.
     pub fn commit(&mut self, made: &Octets) -> Result<(), JournalRefusal>
         requires few { length made.now ≤ 65536 }
         requires walked { self.old.closed ≡ false → IsSome self.old.end }
         requires due { self.old.closed ≡ false → (head : Head) (list : List Stored) → HasGroup (shown D.Disk self.old.disk) head list →
-            (stored : Stored) × IsBatchOf made.now stored × IsDue head.depth head.limit (batches_of list) stored }
+            (stored : Stored) × IsBatchOf made.now stored × IsDue head list stored }
         ensures ok { (head : Head) (list : List Stored) (stored : Stored) → HasGroup (shown D.Disk self.old.disk) head list →
             IsBatchOf made.now stored → OnOk result (HasGroup (shown D.Disk self.new.disk) head (list ++ stored ∷ [])) }
         ensures durable { (head : Head) (list : List Stored) (stored : Stored) → HasGroup (shown D.Disk self.old.disk) head list →
@@ -67,7 +68,6 @@ impl<D: Disk> TreeStore<D> {
         ensures walked { IsSome self.old.end → IsSome self.new.end }
         ensures place { self.new.at ≡ self.old.at }
         ensures head { self.new.head ≡ self.old.head }
-        ensures tree { self.new.tree ≡ self.old.tree }
         ensures disk { ReportsFaults D.Disk (result ≡ Err DiskFault) self.old.disk self.new.disk }
     {
         self.journal.append(made.as_slice())

@@ -1,10 +1,9 @@
-//! A store and what it has read.
+//! The store of a group.
 ghost use Rattle.std.specs.Prelude.{◌≡◌, ◌≤◌, false};
 ghost use Rattle.gd_disk.specs.Disks.{Knows, Only};
 ghost use Rattle.gd_disk.specs.Moments.{shown, LeavesOnly};
 
 use gd_disk::Disk;
-use group_model::PresentTree;
 use group_records::Head;
 use group_terms::Octets;
 use std::fmt;
@@ -16,8 +15,6 @@ use tree_journal::Journal;
 pub struct TreeStore<D: Disk> {
     pub(crate) journal: Journal<D>,
     pub(crate) head: Head,
-    /// The tree after the batches that were read.
-    pub(crate) tree: PresentTree,
     /// Room for a record.
     pub(crate) body: Octets,
 }
@@ -33,12 +30,12 @@ impl<D: Disk> fmt::Debug for TreeStore<D> {
 }
 
 impl<D: Disk> Model for TreeStore<D> {
-    ghost use Rattle.std.specs.Prelude.{◌≡◌, ◌≤◌};
+    ghost use Rattle.std.specs.Prelude.{◌≤◌};
     ghost use Rattle.tree_store.specs.Views.{View};
 
     ghost Value = { View D };
 
-    ghost invariant = { λ store. (store.tree.depth ≡ store.head.depth) × (1 ≤ store.head.limit) };
+    ghost invariant = { λ store. (1 ≤ store.head.depth) × (store.head.depth ≤ 9) × (1 ≤ store.head.limit) };
 
     ghost view = { λ store. record {
       disk = store.journal.disk;
@@ -46,7 +43,6 @@ impl<D: Disk> Model for TreeStore<D> {
       at = store.journal.at;
       end = store.journal.end;
       head = store.head;
-      tree = store.tree;
     } };
 }
 
@@ -58,7 +54,6 @@ impl<D: Disk> TreeStore<D> {
         ensures not_deep { result.depth ≤ 9 }
         ensures limited { 1 ≤ result.limit }
     {
-        self.tree.depth();
         self.head
     }
 

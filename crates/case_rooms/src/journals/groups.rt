@@ -5,7 +5,7 @@ use case_lines::Text;
 use gd_disk::Disk;
 use std::alloc::Global;
 use tree_journal::JournalRefusal;
-use tree_store::{FormatRefusal, Stored, TreeStore};
+use tree_store::{FormatRefusal, Replay, Stored, TreeStore};
 
 /// The depth of a group, how many batches were read, and where it is after the last one.
 #[derive(Clone, Copy)]
@@ -62,12 +62,20 @@ fn read_batches<D: Disk>(
         epoch: 0,
         sequence: 0,
     };
-    while let Some(stored) = store.next_batch(alloc)? {
-        see(alloc, &stored, shows, &mut seen, text);
-        drop(stored);
+    let mut replay = Replay::begin(alloc, &store.head())?;
+    while store.next_batch(alloc, &mut replay)? {
+        see_last(alloc, &replay, shows, &mut seen, text);
     }
+    drop(replay);
     add_seen(&seen, text);
     Ok(())
+}
+
+fn see_last(alloc: Global, replay: &Replay, shows: bool, seen: &mut Seen, text: &mut Text) {
+    match replay.last() {
+        Some(next) => see(alloc, &next.stored, shows, seen, text),
+        None => {}
+    }
 }
 
 fn see(alloc: Global, stored: &Stored, shows: bool, seen: &mut Seen, text: &mut Text) {

@@ -1,28 +1,30 @@
 -- What is known while a journal is read.
 use Rattle.std.specs.Prelude.{◌≡◌, List, [], ◌∷◌, ◌++◌, Option, None, Some}
-use Rattle.gd_disk.specs.Disks.{Knows}
-use Rattle.gd_disk.specs.Moments.{shown}
-use Rattle.gd_disk.specs.declared.disks.Disk.{Ghosts}
-use Rattle.group_values.specs.Values.{Kept, Made, batches_made}
-use Rattle.group_model.specs.Present.{Present, StandsFor}
-use Rattle.group_records.specs.declared.batches.Stored.{Stored}
+use Rattle.std.specs.List.{All}
+use Rattle.group_values.specs.Values.{Made, batches_made}
+use Rattle.key_tree.specs.Marks.{IsMarkedFor}
+use Rattle.key_tree.specs.Present.{Present}
+use Rattle.group_pushes.specs.Fits.{MadeFits}
 use Rattle.group_records.specs.declared.heads.Head.{Head}
-use Rattle.tree_store.specs.Groups.{IsDue, IsGroupTo}
-use Rattle.tree_store.specs.Views.{View}
+use Rattle.tree_store.specs.declared.dues.Due.{Due}
+use Rattle.tree_store.specs.Groups.{IsDueAfter, made_of}
+use Rattle.tree_store.specs.Replays.{IsReplayOf}
+use Rattle.tree_store.specs.Views.{ReadSoFar}
 use Rattle.gcks_core.specs.Private.Cores.{IsGroupOf}
-use Rattle.gcks_core.specs.Stored.{made_of, stored_list}
+use Rattle.gcks_core.specs.Stored.{AreDue, stored_list}
 
--- the batch that was read last, if there is one, comes after those of a list, for which it is due, and makes it the other one
-abbrev pub IsLast : Head → List Made → Option Stored → List Made → Type 0
-IsLast head before None list = (before ≡ []) × (list ≡ [])
-IsLast head before (Some stored) list = IsDue head.depth head.limit (batches_made before) stored × (list ≡ before ++ made_of stored ∷ [])
+-- the batch that was read last, if there is one, is due after these, which made a tree, and is marked in it; with it they are the other list
+abbrev pub IsLast : Head → Present → List Made → Option Due → List Made → Type 0
+IsLast head present before None list = (before ≡ []) × (list ≡ [])
+IsLast head present before (Some next) list =
+    IsDueAfter head.depth head.limit (batches_made before) next.stored × IsMarkedFor present next.stored.batch head.limit next.marked
+    × (list ≡ before ++ made_of next.stored ∷ [])
 
--- A tree is what all batches made that were read but the last one, with the values of its keys.
-unfoldable pub IsWalk : Head → Present → Kept → Option Stored → List Made → Type 0
-IsWalk head present kept last list = (before : List Made) × IsGroupOf head present kept before × IsLast head before last list
-
--- A store was read so far: its tree is what these batches made, and they begin the file that it was opened with.
-unfoldable pub IsReadTo : {D : Type 0} → Ghosts D → D → View D → List Made → Type 0
-IsReadTo g disk store list =
-    StandsFor store.tree (batches_made list)
-    × Knows (shown g disk) (λ file. IsGroupTo file store.head (stored_list store.head.depth list) store.at)
+-- These batches were read of a store, and the values of each are keys. The tree is what all of them made but the last one.
+pub record IsRead (head : Head) (replay : ReadSoFar) (list : List Made) : Type 0 where
+  pub replayed : IsReplayOf head replay (stored_list head.depth list)
+  pub due : AreDue head.depth head.limit list
+  pub fit : All MadeFits list
+  pub before : List Made
+  pub group : IsGroupOf head replay.tree before
+  pub last : IsLast head replay.tree before replay.last list

@@ -1,5 +1,5 @@
 -- What a tree keeps at an epoch.
-use Rattle.std.specs.Prelude.{◌≡◌, ℕ, ◌+◌, ◌-◌, ◌*◌, ◌^◌, ◌==◌, ◌||◌, Bool, false, List, [], ◌∷◌, ◌++◌, length, map, slice_index_or, Option, None, Some, if◌then◌else◌}
+use Rattle.std.specs.Prelude.{◌≡◌, ℕ, ◌+◌, ◌-◌, ◌*◌, ◌^◌, ◌==◌, Bool, false, List, [], ◌∷◌, ◌++◌, length, map, slice_index_or, Option, None, Some, if◌then◌else◌}
 use Rattle.std.specs.List.{range_with_len, flat_map, list_any}
 use Rattle.std.specs.Option.{unwrap_or}
 use Rattle.group_terms.specs.declared.changes.Change.{Change}
@@ -7,7 +7,7 @@ use Rattle.group_terms.specs.declared.keys.KeyName.TheVariants.{Node, Traffic}
 use Rattle.group_terms.specs.declared.keys.Wrap.{Wrap}
 use Rattle.group_model.specs.declared.trees.Tree.{Tree}
 use Rattle.group_model.specs.Places.{Holders, holders_at}
-use Rattle.group_model.specs.Present.{changes_at}
+use Rattle.group_model.specs.LastChanges.{changes_at}
 use Rattle.group_model.specs.Wraps.{falling}
 use Rattle.tree_leaves.specs.Unchanged.{unchanged_holders}
 use Rattle.group_terms.specs.Positions.{some_leaf_below}
@@ -21,13 +21,6 @@ pub record StandsAt (depth : ℕ) (batches : List (List Change)) (epoch : ℕ) (
 pub record HasShape (depth : ℕ) (tree : Tree) : Type 0 where
   pub leaves : length tree.holders ≡ 2 ^ depth
   pub positions : length tree.made ≡ 2 ^ (depth + 1)
-
--- the root and each marked position change in this epoch
-abbrev pub renewed_at : ℕ → List (Option ℕ) → List Bool → ℕ → Option ℕ
-renewed_at epoch made marks v = if v == 1 || slice_index_or marks v false then Some epoch else slice_index_or made v None
-
-abbrev pub renewed : ℕ → List (Option ℕ) → List Bool → List (Option ℕ)
-renewed epoch made marks = map (renewed_at epoch made marks) (range_with_len 0 (length made))
 
 -- whether a last change was in this epoch
 abbrev pub is_made_in : ℕ → Option ℕ → Bool

@@ -16,9 +16,9 @@ drawn_few depth batches epoch =
     omega (arith, length-filter passes all, count_by-le-length passes all, length-range_with_len 1 (2 ^ (depth + 1) - 1))
 
 pub returns : goal.returns
-returns c batches batch limit step stands is_step =
+returns c batches batch limit marked stands marked_for =
     let depth = c.args.tree.now.depth in
     let nine : depth + 1 ≤ 10 = omega (arith, c.depth.ensures.depth, c.depth.ensures.not_deep) in
     let few : 2 ^ (depth + 1) ≤ 2 ^ 10 = pow_mono {i = depth + 1} {j = 10} nine in
-    let same : length step.drawn ≡ length (drawn_at depth (batches ++ batch ∷ []) step.epoch) = ap length (is_step.drawn batches stands) in
-    omega (arith, same, drawn_few depth (batches ++ batch ∷ []) step.epoch, few)
+    let same : length marked.drawn ≡ length (drawn_at depth (batches ++ batch ∷ []) marked.epoch) = ap length (marked_for.drawn batches stands) in
+    omega (arith, same, drawn_few depth (batches ++ batch ∷ []) marked.epoch, few)

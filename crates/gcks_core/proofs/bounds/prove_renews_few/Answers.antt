@@ -6,7 +6,7 @@ rows a zero le = omega arith
 rows a (suc n) le = let more : a * suc n ≡ a * n + a = omega arith in omega (arith, rows a n le, more, le)
 
 pub returns : goal.returns
-returns c limit step is_step =
+returns c limit marked marked_for =
     let changes = length c.args.batch.now in
     let ten : c.args.tree.now.depth + 1 ≤ 10 = omega (arith, c.depth.ensures.depth, c.depth.ensures.not_deep) in
-    omega (arith, rows (c.args.tree.now.depth + 1) changes ten, is_step.few, c.changes.ensures.few)
+    omega (arith, rows (c.args.tree.now.depth + 1) changes ten, marked_for.few, c.changes.ensures.few)

@@ -2,13 +2,12 @@ use Rattle.std.proofs.Common.{◌++◌, ◌∷◌, [], List, inl, inr, Err, sym,
 use Rattle.group_terms.specs.declared.changes.Change.{Change}
 use Rattle.group_terms.specs.declared.values.BatchValues.{BatchValues}
 use Rattle.group_values.specs.Values.{Made, batches_made}
-use Rattle.group_model.specs.Present.{Present}
 use Rattle.gcks_core.specs.Prepares.{PreparedBatch}
 use Rattle.gcks_core.specs.Private.Cores.{IsGroupOf}
 use Rattle.gcks_core.specs.Private.Stores.{IsStorable}
 use Rattle.gcks_core.specs.Stored.{stored_after, stored_list}
 use Rattle.gcks_core.proofs.CommitLemmas.{read_inside}
-use Rattle.gcks_core.proofs.GroupLemmas.{taken_in, values_within}
+use Rattle.gcks_core.proofs.GroupLemmas.{taken_in, values_there}
 use Rattle.gcks_core.proofs.StoreLemmas.{due_to_store, group_more, known_after}
 use Rattle.gcks_core.proofs.committing.store_batch.Goals as goal
 
@@ -21,22 +20,22 @@ commit-requires-clause-due g c goes other others has =
     let there = subst (IsStorable head c.args.tree.now changes list) (sym c.ready.view_is) storable in
     due_to_store head c.args.tree.now changes list _ there c.a_file_has_one_group.ensures.one has.0 (at_end.file has.0 has.1) other others has.2
 
-pub take-requires : goal.take-requires
-take-requires g c =
+pub install-requires-clause-drawn : goal.install-requires-clause-drawn
+install-requires-clause-drawn g c =
     let (head, list, changes, group, at_end, storable) = c.requires.group in
     let there = subst (IsStorable head c.args.tree.now changes list) (sym c.ready.view_is) storable in
     let stored = stored_after head.depth (batches_made list) (made_of_them changes c.ready.inside.values) in
-    values_within head c.args.tree.now c.args.kept.now list group stored there.due
+    values_there head c.args.tree.now list group stored head.limit c.ready.inside.marked there.due there.is_marked
 
 pub returns-in-Ok-clause-group : goal.returns-in-Ok-clause-group
 returns-in-Ok-clause-group g c head list changes group storable =
     let there = subst (IsStorable head c.args.tree.now changes list) (sym c.ready.view_is) storable in
     let made = made_of_them changes c.ready.inside.values in
-    let P : PreparedBatch → Type 0 = λ ready. IsGroupOf head c.advance.new.self c.take.new.self (list ++ made_of_them changes ready.values ∷ []) in
+    let now = c.install.new.self in
+    let P : PreparedBatch → Type 0 = λ ready. IsGroupOf head now (list ++ made_of_them changes ready.values ∷ []) in
     subst P c.ready.view_is
-    (subst (λ (tree : Present). IsGroupOf head tree c.take.new.self (list ++ made ∷ [])) (sym c.advance.ensures)
-    (taken_in head c.args.tree.now c.args.kept.now list group made there.due head.limit c.ready.inside.step there.step_is c.take.new.self
-    c.take.ensures.room (c.take.ensures.last list changes group.keeps) c.prove_values_fit.ensures))
+    (taken_in head c.args.tree.now list group made there.due head.limit now
+    (c.install.ensures.stands changes head.limit there.is_marked) c.prove_room.ensures (c.install.ensures.last list changes group.keeps) c.prove_values_fit.ensures)
 
 pub returns-in-Ok-clause-at_end : goal.returns-in-Ok-clause-at_end
 returns-in-Ok-clause-at_end g c head list changes at_end storable =

@@ -1,8 +1,8 @@
-use Rattle.std.proofs.Common.{◌∙◌, ◌+◌, ◌^◌, sym, ap}
-use Rattle.gcks_core.proofs.WalkLemmas.{begun_group}
+use Rattle.std.proofs.Common.{◌∙◌, sym}
+use Rattle.gcks_core.proofs.ReplayLemmas.{begun_group}
 use Rattle.gcks_core.proofs.makings.begun.Goals as goal
 
 pub returns : goal.returns
 returns c head same =
-    begun_group head c.in_ok-tree.tree c.in_ok-kept.kept (c.in_ok-tree.ensures.depth ∙ sym same) c.in_ok-tree.ensures.empty
-    (c.in_ok-kept.ensures.room ∙ ap (λ depth. 2 ^ (depth + 1)) (sym same)) c.in_ok-kept.ensures.none
+    let tree = c.in_ok-tree.tree in
+    begun_group head tree (c.in_ok-tree.ensures.depth ∙ sym same) c.in_ok-tree.ensures.empty c.prove_room.ensures c.in_ok-tree.ensures.none

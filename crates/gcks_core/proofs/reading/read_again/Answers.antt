@@ -5,13 +5,12 @@ use Rattle.gd_disk.specs.MomentLaws.{leaves_now}
 use Rattle.tree_journal.specs.declared.refusals.JournalRefusal.TheVariants.{NotAJournal}
 use Rattle.tree_store.specs.Groups.{IsNoGroup}
 use Rattle.gcks_core.proofs.OpenLemmas.{then_read}
-use Rattle.gcks_core.proofs.WalkLemmas.{read_begun}
 use Rattle.gcks_core.proofs.reading.read_again.Goals as goal
 
 pub read_all-requires-clause-begun : goal.read_all-requires-clause-begun
 read_all-requires-clause-begun g c =
     let said = c.in_ok-reopen.ensures in
-    read_begun g.D.Disk c.reopen.new.self.disk c.reopen.new.self said.tree (λ file is. said.read file (sym said.reads.same ∙ is))
+    λ file is. said.read file (sym said.reads.same ∙ is)
 
 pub returns-clause-broken : goal.returns-clause-broken
 returns-clause-broken g c =

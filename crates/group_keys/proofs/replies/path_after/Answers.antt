@@ -1,9 +1,9 @@
 use Rattle.std.proofs.Common.{arith}
-use Rattle.group_keys.proofs.PathLemmas.{all_keys, below_root, in_the_tree, one_step_up}
+use Rattle.key_tree.proofs.PathLemmas.{all_keys, below_root, in_the_tree, one_step_up}
 use Rattle.group_keys.proofs.replies.path_after.Goals as goal
 
 pub next_key-requires-clause-within : goal.next_key-requires-clause-within
-next_key-requires-clause-within c = omega (arith, c.requires.room, in_the_tree c.loop.invariant)
+next_key-requires-clause-within c = in_the_tree c.loop.invariant
 
 pub above-id-requires : goal.above-id-requires
 above-id-requires c = below_root c.loop.invariant (omega (arith, c.loop-test.true, c.depth-end.ensures.depth))

@@ -1,6 +1,6 @@
 use Rattle.group_keys.specs.Private.Present.{IsNextKey}
-use Rattle.group_keys.proofs.PathLemmas.{IsOnTheWay}
+use Rattle.key_tree.proofs.PathLemmas.{IsOnTheWay}
 use Rattle.group_keys.proofs.replies.path_after.Given as goal
 
 abbrev pub invariant-loop : goal.invariant-loop
-invariant-loop l = IsOnTheWay (IsNextKey l.tree l.step l.kept l.values) l.tree.depth l.fn.leaf l.path l.counter l.id
+invariant-loop l = IsOnTheWay (IsNextKey l.tree l.marked l.values) l.tree.depth l.fn.leaf l.path l.counter l.id

@@ -1,6 +1,6 @@
 use Rattle.std.proofs.Common.{◌++◌, ◌∷◌, [], ap, sym, ◌∙◌, arith}
 use Rattle.std.proofs.lemmas.List.FromFn.{map-range_with_len_more}
-use Rattle.group_model.specs.Private.Trees.{renewed_at}
+use Rattle.group_model.specs.LastChanges.{renewed_at}
 use Rattle.group_model.proofs.trees.renew.Goals as goal
 
 pub loop-v-preserved : goal.loop-v-preserved

@@ -5,7 +5,7 @@ use Rattle.group_pushes.proofs.arrays.append_array.Goals as goal
 
 pub returns-clause-arrays : goal.returns-clause-arrays
 returns-clause-arrays c wraps are =
-    let kept = c.args.kept.now in
+    let kept = c.args.tree.now.kept in
     let values = c.args.values.now in
     let wrap = c.args.wrap.now in
     let written = c.in_ok-write_update.ensures.ok in

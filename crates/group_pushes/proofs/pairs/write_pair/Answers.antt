@@ -11,7 +11,7 @@ use Rattle.group_pushes.proofs.pairs.write_pair.Goals as goal
 pub returns-in_default : goal.returns-in_default
 returns-in_default g c list changes limit stands keeps drawn is_step =
     let tree = c.args.tree.now in
-    let step = c.args.step.now in
+    let step = c.args.marked.now in
     let values = c.args.values.now in
     let wraps = c.in_ok-wraps.wraps in
     let are = wraps_are tree step list changes values limit stands drawn is_step wraps c.in_ok-wraps.ensures.wraps in
@@ -22,17 +22,13 @@ pub update_arrays-requires-clause-within : goal.update_arrays-requires-clause-wi
 update_arrays-requires-clause-within g c =
     let wraps = c.in_ok-wraps.wraps in
     let between : List Wrap = c.in-Some.between.now in
-    subst (λ bound. All (IsBetween bound) between) (sym c.requires.room)
-    (front_within (IsBetween (2 ^ (c.args.tree.now.depth + 1))) wraps between _ (sym c.as_slice.ensures ∙ c.in-Some.ensures.cases.0) c.in_ok-wraps.ensures.within)
-
-pub keks-requires : goal.keks-requires
-keks-requires g c = omega (arith, c.requires.room, root_low c.args.tree.now.depth)
+    front_within (IsBetween (2 ^ (c.args.tree.now.depth + 1))) wraps between _ (sym c.as_slice.ensures ∙ c.in-Some.ensures.cases.0) c.in_ok-wraps.ensures.within
 
 pub returns : goal.returns
 returns g c list changes limit stands keeps drawn is_step =
     let tree = c.args.tree.now in
-    let step = c.args.step.now in
-    let kept = c.args.kept.now in
+    let step = c.args.marked.now in
+    let kept = c.args.tree.now.kept in
     let values = c.args.values.now in
     let signer = c.args.signer.now in
     let wraps = c.in_ok-wraps.wraps in
@@ -52,7 +48,7 @@ returns g c list changes limit stands keeps drawn is_step =
       each = c.each_leaf_has_its_place.ensures;
     } in
     a_pair tree step list changes values limit stands drawn is_step laws kept keeps g.G.Signer signer c.args.spi.now pair between _ arrays c.keks.result.0 c.keks.result.1
-    c.requires.room are (sym c.as_slice.ensures ∙ c.in-Some.ensures.cases.0) number
+    c.prove_room.ensures are (sym c.as_slice.ensures ∙ c.in-Some.ensures.cases.0) number
     (subst (AreArraysAfter kept values between) (sym c.as_slice-2.ensures) c.in_ok-arrays.ensures.arrays)
     c.keks.ensures.old c.keks.ensures.new c.keks.ensures.old_iv c.keks.ensures.new_iv c.in_ok-membership.ensures.kind
     (subst (λ head. IsPushText (g.G.Signer.signature signer) (g.G.Signer.size_of signer) c.keks.result.0

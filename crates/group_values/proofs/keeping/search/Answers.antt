@@ -9,11 +9,11 @@ use Rattle.group_values.proofs.keeping.search.Goals as goal
 pub returns-clause-found : goal.returns-clause-found
 returns-clause-found c =
     let searched = c.binary_search_by_key.ensures.position (λ (node : Drawn). node.id) (answers_always _ _ _ (λ f a r g called. search rules)) in
-    search_found c.args.nodes.now c.args.id c.binary_search_by_key.result
+    search_found (λ (node : Drawn). node.id) c.args.nodes.now c.args.id c.binary_search_by_key.result
     (subst (λ (v : ℕ). IsBinarySearchResult (λ (node : Drawn). nat_cmp node.id v) c.args.nodes.now c.binary_search_by_key.result) c.number.ensures.value searched)
 
 pub returns-clause-absent : goal.returns-clause-absent
 returns-clause-absent c rises =
     let searched = c.binary_search_by_key.ensures.position (λ (node : Drawn). node.id) (answers_always _ _ _ (λ f a r g called. search rules)) in
-    search_absent c.args.nodes.now c.args.id c.binary_search_by_key.result
+    search_absent (λ (node : Drawn). node.id) c.args.nodes.now c.args.id c.binary_search_by_key.result
     (subst (λ (v : ℕ). IsBinarySearchResult (λ (node : Drawn). nat_cmp node.id v) c.args.nodes.now c.binary_search_by_key.result) c.number.ensures.value searched) rises

@@ -33,7 +33,7 @@ invariant_of-self g c =
 pub returns-in-Ok-clause-step : goal.returns-in-Ok-clause-step
 returns-in-Ok-clause-step g c server stands =
     storing_step c.self.view_is c.requires.ready server stands c.in-Ok.output c.store_batch.new.store.disk c.store_batch.new.tree
-    c.store_batch.new.kept c.clear.new.self c.clear.ensures c.in-Ok.ensures.group
+    c.clear.new.self c.clear.ensures c.in-Ok.ensures.group
 
 pub returns-in-Ok-clause-puts_out : goal.returns-in-Ok-clause-puts_out
 returns-in-Ok-clause-puts_out g c server stands =

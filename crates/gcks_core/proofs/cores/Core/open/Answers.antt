@@ -5,7 +5,6 @@ use Rattle.gd_disk.specs.Moments.{OnlyReads}
 use Rattle.group_model.specs.declared.entries.Refusal.TheVariants as refusals
 use Rattle.gcks_core.proofs.MakeLemmas.{stands_opened}
 use Rattle.gcks_core.proofs.OpenLemmas.{no_head, said_fault, said_none, then_read}
-use Rattle.gcks_core.proofs.WalkLemmas.{read_begun}
 use Rattle.gcks_core.proofs.cores.Core.open.Goals as goal
 
 pub returns-in-Err-clause-broken : goal.returns-in-Err-clause-broken
@@ -24,7 +23,7 @@ returns-in-Err-clause-only g c at said =
 pub read_all-requires-clause-begun : goal.read_all-requires-clause-begun
 read_all-requires-clause-begun g c =
     let opened = c.in-Ok.ensures in
-    read_begun g.D.Disk c.in-Ok.store.disk c.in-Ok.store opened.tree (λ file is. opened.read file (sym opened.reads.same ∙ is))
+    λ file is. opened.read file (sym opened.reads.same ∙ is)
 
 pub returns-in-Ok-read_all-clause-read : goal.returns-in-Ok-read_all-clause-read
 returns-in-Ok-read_all-clause-read g c =

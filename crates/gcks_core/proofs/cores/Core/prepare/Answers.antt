@@ -15,7 +15,6 @@ returns-clause-step g c server stands =
       draws = c.self.inside.draws;
       head = c.self.inside.head;
       tree = c.self.inside.tree;
-      kept = c.self.inside.kept;
       queue = c.self.inside.queue;
       needs_reopen = c.self.inside.needs_reopen;
     } in

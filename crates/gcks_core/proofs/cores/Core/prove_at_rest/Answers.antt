@@ -20,7 +20,6 @@ returns-clause-some g c =
       draws = core.draws;
       head = core.head;
       tree = core.tree;
-      kept = core.kept;
       queue = core.queue;
       needs_reopen = core.needs_reopen;
     } in

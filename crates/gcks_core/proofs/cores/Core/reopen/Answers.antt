@@ -9,7 +9,7 @@ pub returns-in-Ok-clause-found : goal.returns-in-Ok-clause-found
 returns-in-Ok-clause-found g c =
     let read = c.in-Ok.ensures in
     let found = c.in-Ok.found in
-    found_again g.D.Disk g.G.Signer g.R.Draws c.self.view_is c.read_again.new.store.disk read.reads.same found.head found.tree found.kept
+    found_again g.D.Disk g.G.Signer g.R.Draws c.self.view_is c.read_again.new.store.disk read.reads.same found.head found.tree
     c.new-self-inside.result c.new-self-inside.ensures read.found.0 read.found.1 read.found.2.file found.resent read.found.3
     c.a_file_has_one_group.ensures.one
 
@@ -17,7 +17,7 @@ pub returns-in-Ok-clause-read : goal.returns-in-Ok-clause-read
 returns-in-Ok-clause-read g c =
     let read = c.in-Ok.ensures in
     let found = c.in-Ok.found in
-    read_anew g.D.Disk g.G.Signer g.R.Draws c.self.view_is c.read_again.new.store.disk read.reads.same found.head found.tree found.kept
+    read_anew g.D.Disk g.G.Signer g.R.Draws c.self.view_is c.read_again.new.store.disk read.reads.same found.head found.tree
     c.new-self-inside.result c.new-self-inside.ensures read.found.0 read.found.1 read.found.2.file found.resent read.found.3
 
 pub returns-in-Err-clause-broken : goal.returns-in-Err-clause-broken

@@ -27,7 +27,7 @@ returns-clause-ok g c server stands =
     let group = group_of g.R.Draws _ server was in
     let given : IsKeyedOf core.tree.depth core.head.spi server.list m c.unwrap.result =
     subst (λ (found : Option Keyed). IfSome found (IsKeyedOf core.tree.depth core.head.spi server.list m)) c.unwrap.ensures
-    (c.keyed.ensures.keyed server.list group.tree group.keeps (drawn_there core.head core.tree core.kept server.list group)) in
+    (c.keyed.ensures.keyed server.list group.tree group.keeps (drawn_there core.head core.tree server.list group)) in
     let spi = ap (λ (view : View g.row.D.Denot g.row.G.Denot g.row.R.Denot). view.head.spi) c.self.view_is in
     subst (λ (depth : ℕ). IsKeyedOf depth c.args.self.now.head.spi server.list m c.unwrap.result) was.tree_depth
     (subst (λ (octets : List ℕ). IsKeyedOf core.tree.depth octets server.list m c.unwrap.result) spi given)

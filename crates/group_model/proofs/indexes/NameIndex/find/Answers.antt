@@ -1,8 +1,8 @@
 use Rattle.std.proofs.Common.{◌∙◌, subst, IfSome}
 use Rattle.std.specs.HashMap.{get}
 use Rattle.group_terms.specs.Names.{same_name}
-use Rattle.group_model.specs.Private.Seats.{IsIndex}
-use Rattle.group_model.proofs.SeatLemmas.{found_by_name}
+use Rattle.group_model.specs.Indexes.{IsIndex}
+use Rattle.group_model.proofs.IndexLemmas.{found_by_name}
 use Rattle.group_model.proofs.indexes.NameIndex.find.Goals as goal
 
 pub returns-in-Some : goal.returns-in-Some

@@ -2,7 +2,7 @@ use Rattle.std.proofs.Common.{ap}
 use Rattle.std.specs.HashMap.{get}
 use Rattle.std.specs.Map.{lookup}
 use Rattle.group_terms.specs.Names.{same_name}
-use Rattle.group_model.proofs.SeatLemmas.{nobody_found}
+use Rattle.group_model.proofs.IndexLemmas.{nobody_found}
 use Rattle.group_model.proofs.indexes.NameIndex.new.Goals as goal
 
 pub returns : goal.returns

@@ -1,7 +1,7 @@
 use Rattle.std.proofs.Common.{◌∙◌, ◌||◌, ap, sym}
 use Rattle.std.specs.Prelude.{is_some}
 use Rattle.std.specs.List.{list_any}
-use Rattle.group_model.proofs.SeatLemmas.{is_some-position}
+use Rattle.group_model.proofs.IndexLemmas.{is_some-position}
 use Rattle.pull_sessions.specs.Sessions.{has_cookies, is_of}
 use Rattle.pull_sessions.proofs.SaLemmas.{taken}
 use Rattle.pull_sessions.proofs.sas.Sas.has.Goals as goal

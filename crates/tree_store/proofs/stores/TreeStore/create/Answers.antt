@@ -1,9 +1,10 @@
-use Rattle.std.proofs.Common.{◌≡◌, ◌∙◌, ℕ, ◌+◌, List, [], length, Option, Some, sym, ap, subst}
+use Rattle.std.proofs.Common.{◌≡◌, ◌∙◌, ℕ, ◌+◌, List, [], length, Option, Some, refl, sym, ap, subst}
 use Rattle.std.specs.Option.{unwrap_or}
 use Rattle.gd_disk.specs.Moments.{shown}
 use Rattle.tree_journal.specs.Crashes.{MakesJournal, disk_in}
 use Rattle.tree_journal.specs.Views.{View as Journal}
-use Rattle.tree_store.specs.Groups.{IsHeadOf, MakesGroup}
+use Rattle.group_records.specs.Records.{IsHeadOf}
+use Rattle.tree_store.specs.Groups.{MakesGroup}
 use Rattle.tree_store.proofs.MakeLemmas.{gave_back, head_alone, untouched, journal_alone, head_appended}
 use Rattle.tree_store.proofs.stores.TreeStore.create.Goals as goal
 
@@ -51,7 +52,7 @@ returns-in-Ok-append-clause-read g c file is now shows =
     let at : c.to_end.new.self.at ≡ 14 + length made =
     ap (λ (journal : Journal g.row.D.Denot). journal.at) c.to_end.ensures
     ∙ ap (λ (end : Option ℕ). unwrap_or end c.append.new.self.at) (c.in-Ok-append.ensures.end 9 nine) in
-    (made, [], c.in-Ok-append.ensures.named now new, (there, sym at), is_head, cc)
+    (made, [], c.in-Ok-append.ensures.named now new, (there, sym at), is_head, refl)
 
 pub returns-in-Ok-append-clause-moments : goal.returns-in-Ok-append-clause-moments
 returns-in-Ok-append-clause-moments g c file is =

@@ -1,8 +1,8 @@
 use Rattle.std.proofs.Common.{◌≡◌, ℕ, List, sym, subst}
 use Rattle.std.proofs.lemmas.Result.{IfOk-weaker}
 use Rattle.group_records.specs.declared.batches.Stored.{Stored}
+use Rattle.group_records.specs.Records.{IsBatchOf}
 use Rattle.group_records.specs.Texts.{batch_text}
-use Rattle.tree_store.specs.Groups.{IsBatchOf}
 use Rattle.tree_store.proofs.stores.TreeStore.make_record.Goals as goal
 
 pub returns-clause-read : goal.returns-clause-read
