@@ -11,7 +11,7 @@ use Rattle.gd_edges.specs.declared.signers.Signer.{Ghosts as SignerGhosts}
 use Rattle.group_terms.specs.Names.{Name}
 use Rattle.group_terms.specs.declared.changes.Change.{Change}
 use Rattle.group_terms.specs.declared.changes.Change.TheVariants.{In, Out}
-use Rattle.group_values.specs.Values.{Kept, Made, batches_made}
+use Rattle.group_values.specs.Values.{Made, batches_made}
 use Rattle.key_tree.specs.Present.{Present}
 use Rattle.group_model.specs.Refusals.{why_no_join, why_no_leave}
 use Rattle.group_model.specs.Servers.{GivesRefusal, IsJoin, IsLeave, IsStoring, MayHave, Server}

@@ -1,10 +1,10 @@
 -- A group that takes in a batch that is due.
-use Rattle.std.proofs.Common.{◌≡◌, ◌∙◌, ℕ, zero, suc, false, Option, None, Some, replicate, ◌+◌, ◌<◌, ◌^◌, List, [], ◌∷◌, ◌++◌, length, refl, sym, ap, subst}
+use Rattle.std.proofs.Common.{◌≡◌, ◌∙◌, ℕ, zero, suc, false, Option, None, Some, replicate, ◌+◌, ◌^◌, List, [], ◌∷◌, ◌++◌, length, refl, sym, ap, subst}
 use Rattle.std.specs.List.{list_any}
 use Rattle.std.proofs.lemmas.List.Elements.{All-push}
 use Rattle.std.specs.Prelude.{MatchBool}
 use Rattle.gd_edges.specs.declared.signers.Signer.{Ghosts as SignerGhosts}
-use Rattle.group_values.specs.Values.{Kept, KeepsLast, Made, batches_made, ids_of}
+use Rattle.group_values.specs.Values.{KeepsLast, Made, batches_made, ids_of}
 use Rattle.group_keys.specs.Drawn.{AreDrawn}
 use Rattle.key_tree.specs.Present.{IsTreeAfter, Present, StandsFor}
 use Rattle.group_model.specs.Drawn.{drawn_at}

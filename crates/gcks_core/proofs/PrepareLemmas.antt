@@ -8,7 +8,7 @@ use Rattle.gd_wire.specs.Readings.{octet_at}
 use Rattle.group_terms.specs.declared.changes.Change.{Change}
 use Rattle.group_terms.specs.declared.values.BatchValues.{BatchValues}
 use Rattle.group_values.specs.Drawing.{blocks_for, nodes_drawn, place_after, values_drawn, with_high_bit}
-use Rattle.group_values.specs.Values.{Kept, Made, batches_made, ids_of}
+use Rattle.group_values.specs.Values.{Made, batches_made, ids_of}
 use Rattle.group_model.specs.Drawn.{drawn_at}
 use Rattle.key_tree.specs.Present.{Present}
 use Rattle.group_model.specs.Refusals.{why_no_batch}

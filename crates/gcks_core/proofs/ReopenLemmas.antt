@@ -1,5 +1,5 @@
 -- A core whose journal is opened again.
-use Rattle.std.proofs.Common.{◌≡◌, ◌∙◌, inl, ℕ, false, List, [], ◌∷◌, ◌++◌, map, Option, None, refl, sym, ap, subst, arith}
+use Rattle.std.proofs.Common.{◌≡◌, ◌∙◌, inl, ℕ, false, List, [], map, Option, None, refl, sym, ap, subst, arith}
 use Rattle.std.specs.Prelude.{is_some}
 use Rattle.std.proofs.lemmas.List.Sums.{count_by-le-length}
 use Rattle.gd_disk.specs.Disks.{Knows}
@@ -8,7 +8,7 @@ use Rattle.gd_disk.specs.declared.disks.Disk.{Ghosts}
 use Rattle.gd_edges.specs.declared.draws.Draws.{Ghosts as DrawGhosts}
 use Rattle.gd_edges.specs.declared.signers.Signer.{Ghosts as SignerGhosts}
 use Rattle.group_terms.specs.declared.changes.Change.{Change}
-use Rattle.group_values.specs.Values.{Kept, Made}
+use Rattle.group_values.specs.Values.{Made}
 use Rattle.group_model.specs.Places.{Fits, Holders}
 use Rattle.key_tree.specs.Present.{Present}
 use Rattle.group_model.specs.Servers.{MayHave, Server, opened_server, reopened}

@@ -1,16 +1,15 @@
 -- What was read of a journal, batch after batch.
 -- What was read so far is one record with the first store in it (`IsReading`), and each way out of the loop takes its fields.
-use Rattle.std.proofs.Common.{◌≡◌, ◌∙◌, ◌+◌, ◌^◌, ℕ, false, List, [], ◌∷◌, ◌++◌, length, map, Option, None, Some, refl, sym, ap, subst}
+use Rattle.std.proofs.Common.{◌≡◌, ◌∙◌, ◌+◌, ◌^◌, false, List, [], ◌∷◌, ◌++◌, length, Option, None, Some, refl, sym, subst}
 use Rattle.std.proofs.lemmas.List.Elements.{All-nil, All-push}
 use Rattle.std.specs.List.{All}
 use Rattle.gd_disk.specs.Disks.{Knows}
 use Rattle.gd_disk.specs.Moments.{shown, Keeps, LeavesOnly}
 use Rattle.gd_disk.specs.declared.disks.Disk.{Ghosts}
-use Rattle.group_values.specs.Values.{Kept, KeepsLast, Made, batches_made}
+use Rattle.group_values.specs.Values.{KeepsLast, Made, batches_made}
 use Rattle.key_tree.specs.Marks.{IsMarkedFor}
 use Rattle.key_tree.specs.Present.{Present, StandsFor}
 use Rattle.group_pushes.specs.Fits.{MadeFits}
-use Rattle.group_records.specs.declared.batches.Stored.{Stored}
 use Rattle.group_records.specs.declared.heads.Head.{Head}
 use Rattle.tree_store.specs.declared.dues.Due.{Due}
 use Rattle.tree_store.specs.Groups.{IsDueAfter, IsGroupTo, made_of}

@@ -73,7 +73,7 @@ pub(crate) fn read_again<D: Disk, G: Signer>(
     ensures no_other { IfErr result (λ why. why ≡ Closed → ⊥) }
     ensures reads { OnlyReads D.Disk (result ≡ Err DiskFault) store.old.disk store.new.disk }
 {
-    store.reopen(alloc)?;
+    store.reopen()?;
     read_all(alloc, store, signer)
 }
 

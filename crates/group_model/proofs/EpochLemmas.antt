@@ -1,22 +1,19 @@
 -- The holders and last changes of an epoch, and what one batch more does to them.
-use Rattle.std.proofs.Common.{◌≡◌, ℕ, zero, suc, ◌+◌, ◌/◌, ◌^◌, ◌<◌, ◌≤◌, Bool, true, false, cond, not, eqb, ltb, ◌&&◌, List, [], ◌∷◌, ◌++◌, Option, Some, None, length, take, get_or, replicate, sym, refl, ap, ◌∙◌, arith, inl, inr}
-use Rattle.std.specs.List.{fold, list_any, position, position_or_len, enumerate_from, zip}
+use Rattle.std.proofs.Common.{◌≡◌, ℕ, zero, suc, ◌+◌, ◌^◌, ◌<◌, ◌≤◌, true, false, cond, not, ltb, List, [], ◌∷◌, ◌++◌, Option, Some, None, length, take, get_or, replicate, sym, refl, ap, ◌∙◌, arith}
+use Rattle.std.specs.List.{fold, position, position_or_len}
 use Rattle.std.specs.Option.{option_map}
-use Rattle.std.proofs.lemmas.Bool.{cases_lt, or_cases, and_right, eq-eqb, eqb-true, ne_eqb, le-ltb, false_from_ne_true}
-use Rattle.std.proofs.lemmas.List.{length-map, length-set, length-replicate, take-append-le, take_all, get_or_past, get_or-replicate}
+use Rattle.std.proofs.lemmas.Bool.{eq-eqb, ne_eqb, le-ltb}
+use Rattle.std.proofs.lemmas.List.{length-map, length-set, length-replicate, take-append-le, take_all, get_or-replicate}
 use Rattle.std.proofs.lemmas.List.Elements.{All-replicate}
 use Rattle.std.proofs.lemmas.List.Folds.{list_any_none}
 use Rattle.std.proofs.lemmas.List.FromFn.{get_or-map-range_with_len, length-map-range_with_len, fill_by_all}
 use Rattle.std.proofs.lemmas.List.Folds.{prefix_len-replicate}
-use Rattle.std.proofs.lemmas.Slice.Zip.{length-zip}
-use Rattle.std.proofs.lemmas.Grind.{pow_more}
 use Rattle.std.proofs.Math.Pow.{pow_pos}
 use Rattle.group_terms.specs.Changes.{leavers, joiners}
 use Rattle.group_terms.specs.Names.{Name}
-use Rattle.group_terms.specs.Positions.{is_below, some_leaf_below}
 use Rattle.group_terms.specs.declared.changes.Change.{Change}
 use Rattle.group_model.specs.Places.{Holders, no_holders, is_held_by, is_member, place_in, vacated, placed, holders_after, holders_of, holders_at, Fits, FitInTurn}
-use Rattle.group_model.specs.Fresh.{is_same_holder, changed_leaves, is_fresh, last_change}
+use Rattle.group_model.specs.Fresh.{is_fresh, last_change}
 use Rattle.group_model.specs.Private.Trees.{is_made_in, StandsAt, HasShape}
 use Rattle.group_model.specs.LastChanges.{changes_at}
 use Rattle.group_model.specs.declared.trees.Tree.{Tree}

@@ -11,7 +11,7 @@ use Rattle.group_model.specs.Fresh.{changed_leaves, last_change}
 use Rattle.group_model.specs.LastChanges.{changes_at}
 use Rattle.group_model.specs.Private.Trees.{StandsAt}
 use Rattle.group_model.specs.LastChanges.{renewed_at, renewed}
-use Rattle.group_model.proofs.EpochLemmas.{fold-append_one, holders_at-append, last_change-append, get_or-changes_at, length-changes_at, changes_at-first}
+use Rattle.group_model.proofs.EpochLemmas.{fold-append_one, last_change-append, get_or-changes_at, length-changes_at, changes_at-first}
 
 -- functions that agree below n make one list of the numbers below n
 map-range_agree : {X : Type 0} (f g : ℕ → X) (n : ℕ) (d : X) → ((v : ℕ) → v < n → f v ≡ g v) → map f (range_with_len 0 n) ≡ map g (range_with_len 0 n)

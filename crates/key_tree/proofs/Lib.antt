@@ -4,6 +4,7 @@ pub mod ComingLemmas
 pub mod DrawLemmas
 pub mod FewLemmas
 pub mod FoundLemmas
+pub mod GrowingLemmas
 pub mod InstalledLemmas
 pub mod JoinedLemmas
 pub mod LeafLemmas

@@ -1,9 +1,10 @@
 -- What a batch makes of the leaves.
 use Rattle.std.proofs.Common.{◌≡◌, ℕ, ◌+◌, ◌-◌, ◌^◌, ◌<◌, ◌≤◌, true, false, eqb, List, ◌++◌, None, length, map, drop, get_or, sym, ap, subst, ◌∙◌, arith}
 use Rattle.std.specs.Prelude.{is_none, is_some, reverse}
+use Rattle.std.proofs.Math.Seq.{drop-append_seam}
 use Rattle.std.specs.List.{All, IsDistinct, filter, range_with_len}
 use Rattle.std.specs.List.Sorted.{IsPermutation}
-use Rattle.std.proofs.lemmas.List.{get_or-map, length-map}
+use Rattle.std.proofs.lemmas.List.{get_or-map, length-append, length-map}
 use Rattle.std.proofs.lemmas.List.Elements.{All-append, All-weaker, filter_map-append}
 use Rattle.std.proofs.lemmas.List.Sorted.{All-permutation}
 use Rattle.group_terms.specs.Changes.{leavers, joiners}
@@ -47,8 +48,9 @@ module _ (before : Holders) (batch : List Change) (fits : Fits before batch) (se
   fewer_left = omega (arith, ap length seats_are, members_left before (leavers batch) (leavers_once batch fits.once))
 
   module _ (depth : ℕ) (long : length before ≡ 2 ^ depth) (places : List ℕ) (same : IsPermutation (places_of seats) places) (vacant : Vacant) (v : IsVacant vacant) (left_are : vacant.left ≡ places)
-      (came : List Seat)
-      (taken : (left : Holders) → IsLeft before left (map is_none before) places → (came ≡ placements left (joiners batch)) × IsTaken before left (seated left came) vacant.from (places_of came)) where
+      (all came : List Seat) (came_are : came ≡ drop (length seats) all)
+      (taken : (left : Holders) → IsLeft before left (map is_none before) places
+      → (all ≡ seats ++ placements left (joiners batch)) × IsTaken before left (seated left (placements left (joiners batch))) vacant.from (places_of (placements left (joiners batch)))) where
     abbrev left : Holders
     left = seated before (vacancies before (leavers batch))
 
@@ -58,8 +60,20 @@ module _ (before : Holders) (batch : List Change) (fits : Fits before batch) (se
     order_vacant : IsPermutation (left_by before (leavers batch)) vacant.left
     order_vacant = subst (IsPermutation (left_by before (leavers batch))) (sym left_are) order
 
+    once_all : (all ≡ seats ++ placements left (joiners batch)) × IsTaken before left (seated left (placements left (joiners batch))) vacant.from (places_of (placements left (joiners batch)))
+    once_all = taken left (is_left before (leavers batch) places order)
+
+    those : came ≡ placements left (joiners batch)
+    those = came_are ∙ ap (drop (length seats)) once_all.0 ∙ drop-append_seam seats (placements left (joiners batch))
+
     both : (came ≡ placements left (joiners batch)) × IsTaken before left (seated left came) vacant.from (places_of came)
-    both = taken left (is_left before (leavers batch) places order)
+    both = (those, subst (λ l. IsTaken before left (seated left l) vacant.from (places_of l)) (sym those) once_all.1)
+
+    pub no_fewer : length seats ≤ length all
+    no_fewer = omega (arith, ap length once_all.0, length-append seats (placements left (joiners batch)))
+
+    all_are : all ≡ seats ++ came
+    all_are = once_all.0 ∙ ap (λ l. seats ++ l) (sym those)
 
     pub within_came : All (λ (seat : Seat). seat.place < length before) came
     within_came = of_places (λ place. place < length before) came both.1.within
@@ -70,20 +84,21 @@ module _ (before : Holders) (batch : List Change) (fits : Fits before batch) (se
     now_is : (all : List Seat) → all ≡ seats ++ came → seated before all ≡ seated left came
     now_is all is = ap (seated before) (is ∙ ap (λ l. l ++ came) seats_are) ∙ seated_append before (vacancies before (leavers batch)) came
 
-    pub seating_is : (seating : Seating) → seating.seats ≡ seats ++ came → seating.joined ≡ leaves_taken (length before) came
+    pub seating_is : (seating : Seating) → seating.seats ≡ all → seating.joined ≡ leaves_taken (length before) came
         → seating.leaves ≡ reverse (map (changed_leaf (length before) true) (places_of came) ++ map (changed_leaf (length before) false) (drop vacant.passed vacant.left))
         → seating.members ≡ member_count before - length seats + length came
         → IsSeating depth before batch seating
-    seating_is seating all joined leaves members =
-        let now = now_is seating.seats all in
+    seating_is seating seats_then joined leaves members =
+        let whole : seating.seats ≡ seats ++ came = seats_then ∙ all_are in
+        let now = now_is seating.seats whole in
         record {
-          seats = all ∙ (λ i. seats_are i ++ both.0 i);
-          within = subst (All (λ (seat : Seat). seat.place < length before)) (sym all)
+          seats = whole ∙ (λ i. seats_are i ++ both.0 i);
+          within = subst (All (λ (seat : Seat). seat.place < length before)) (sym whole)
               (All-append (λ (seat : Seat). seat.place < length before) seats came (of_places (λ place. place < length before) seats within_left) within_came);
           joined = joined
               ∙ ap (λ l. l ++ leaves_taken (length before) came) (sym (ap (leaves_taken (length before)) seats_are ∙ none_taken (length before) before (leavers batch)))
               ∙ sym (filter_map-append (leaf_taken (length before)) seats came)
-              ∙ (λ i. leaves_taken (long i) (sym all i));
+              ∙ (λ i. leaves_taken (long i) (sym whole i));
           leaves = leaves
               ∙ (λ i. reverse (map (changed_leaf (long i) true) (places_of came) ++ map (changed_leaf (long i) false) (drop vacant.passed vacant.left)))
               ∙ ap reverse (changed_are depth before long (leavers batch) vacant v order_vacant came both.1)

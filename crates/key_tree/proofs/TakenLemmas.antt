@@ -40,6 +40,19 @@ no_position None none = refl
 no_position (Some i) none = absurd (false≢true (sym none))
 
 module _ (before left : Holders) (free : List Bool) (places : List ℕ) (h : IsLeft before left free places) where
+  -- before anybody came
+  pub none_taken_yet : (from : ℕ) → from ≡ 0 → IsTaken before left left from []
+  none_taken_yet from first = record {
+    len = h.len;
+    free = λ i low. sym (ap (λ b. b && is_none (get_or left i None)) (le-leb from i (omega (arith, first))));
+    others = λ i among. refl;
+    changed = λ i among. absurd (false≢true among);
+    rises = tt;
+    below = λ k d low. absurd (omega (arith, low));
+    within = λ k d low. absurd (omega (arith, low));
+    members = omega arith;
+  }
+
   module _ (now : Holders) (from : ℕ) (came : List ℕ) (t : IsTaken before left now from came) where
     -- below the lowest vacant leaf each leaf has somebody
     none_free : (bound : ℕ) → ((i : ℕ) → from ≤ i → i < bound → is_vacant free places i ≡ false) → (i : ℕ) → i < length before → i < bound → is_none (get_or now i None) ≡ false
@@ -125,28 +138,31 @@ module _ (before left : Holders) (free : List Bool) (places : List ℕ) (h : IsL
           some_not (Some name) none = absurd (false≢true none)
 
   -- the same of the seats
-  module _ (seats : List Seat) (from : ℕ) (t : IsTaken before left (seated left seats) from (places_of seats)) (m : Name) where
-    abbrev now_with : List Seat → Type 0
-    now_with new = new ≡ seats ++ placements (seated left seats) (m ∷ [])
+  module _ (came : List Seat) (from : ℕ) (t : IsTaken before left (seated left came) from (places_of came)) (m : Name) where
+    abbrev found : List Seat
+    found = placements (seated left came) (m ∷ [])
 
-    pub one_comes : (place : ℕ) (new : List Seat) → new ≡ seats ++ record { place = place; holder = Some m } ∷ [] → is_member before m ≡ false
-        → IsLowestFrom (is_vacant free places) from (Some place)
-        → (now_with new) × (IsTaken before left (seated left new) (place + 1) (places_of new))
-    one_comes place new is stranger lowest =
+    abbrev taken_with : List Seat → ℕ → Type 0
+    taken_with now next = IsTaken before left (seated left now) next (places_of now)
+
+    pub one_comes : (place : ℕ) → is_member before m ≡ false → IsLowestFrom (is_vacant free places) from (Some place)
+        → (found ≡ record { place = place; holder = Some m } ∷ []) × taken_with (came ++ found) (place + 1)
+    one_comes place stranger lowest =
         let seat : Seat = record { place = place; holder = Some m } in
-        let at = at_place (seated left seats) from (places_of seats) t place lowest in
-        let then : set (seated left seats) place (Some m) ≡ seated left new = sym (ap (seated left) is ∙ seated_more left seats seat) in
-        let all : places_of seats ++ place ∷ [] ≡ places_of new = sym (ap places_of is ∙ map-append (λ (seat : Seat). seat.place) seats (seat ∷ [])) in (
-          is ∙ ap (λ found. seats ++ cons_option (option_map (λ i. record { place = i; holder = Some m }) found) []) (sym at),
-          subst (λ now. IsTaken before left now (place + 1) (places_of new)) then
-              (subst (IsTaken before left (set (seated left seats) place (Some m)) (place + 1)) all (taken_more (seated left seats) from (places_of seats) t place lowest m stranger)),
+        let at = at_place (seated left came) from (places_of came) t place lowest in
+        let is : found ≡ seat ∷ [] = ap (λ found. cons_option (option_map (λ i. record { place = i; holder = Some m }) found) []) at in
+        let then : set (seated left came) place (Some m) ≡ seated left (came ++ seat ∷ []) = sym (seated_more left came seat) in
+        let all : places_of came ++ place ∷ [] ≡ places_of (came ++ seat ∷ []) = sym (map-append (λ (seat : Seat). seat.place) came (seat ∷ [])) in (
+          is,
+          subst (λ l. taken_with (came ++ l) (place + 1)) (sym is)
+              (subst (λ now. IsTaken before left now (place + 1) (places_of (came ++ seat ∷ []))) then
+              (subst (IsTaken before left (set (seated left came) place (Some m)) (place + 1)) all (taken_more (seated left came) from (places_of came) t place lowest m stranger))),
         )
 
-    pub none_comes : (new : List Seat) (later : ℕ) → new ≡ seats → later ≡ from → IsLowestFrom (is_vacant free places) from None
-        → (now_with new) × (IsTaken before left (seated left new) later (places_of new))
-    none_comes new later is same none =
-        let at = full (seated left seats) from (places_of seats) t none in (
-          is ∙ sym (ap (λ found. seats ++ cons_option (option_map (λ i. record { place = i; holder = Some m }) found) []) at ∙ append-nil seats),
-          subst (λ seats. IsTaken before left (seated left seats) later (places_of seats)) (sym is)
-              (subst (λ n. IsTaken before left (seated left seats) n (places_of seats)) (sym same) t),
+    pub none_comes : IsLowestFrom (is_vacant free places) from None → (found ≡ []) × taken_with (came ++ found) from
+    none_comes none =
+        let is : found ≡ [] =
+        ap (λ found. cons_option (option_map (λ i. record { place = i; holder = Some m }) found) []) (full (seated left came) from (places_of came) t none) in (
+          is,
+          subst (λ l. taken_with l from) (sym (ap (λ l. came ++ l) is ∙ append-nil came)) t,
         )

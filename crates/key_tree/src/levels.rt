@@ -1,17 +1,16 @@
 //! The walk from the leaves that change hands up to the root, level by level. Each level falls: the right one of two siblings comes first.
-ghost use Rattle.std.specs.Prelude.{◌≡◌, ◌+◌, ◌^◌, ◌<◌, ◌≤◌, ◌++◌, ◌∷◌, [], ℕ, List as Items, reverse, IfOk, IfSome, None};
+ghost use Rattle.std.specs.Prelude.{◌≡◌, ◌+◌, ◌^◌, ◌<◌, ◌≤◌, ◌++◌, ◌∷◌, [], ℕ, List as Items, length, take, drop, reverse, IfOk, IfSome, OnOk, None};
 ghost use Rattle.std.specs.List.{All};
 ghost use Rattle.key_tree.specs.declared.marks.Renewed.{Renewed};
 ghost use Rattle.key_tree.specs.Private.Levels.{IsBelowRoot, above, above_one, joined, left_alone, levels, sibling, top};
 
 use crate::marks::Renewed;
 use group_terms::{LeafMarks, List, NoMemory};
-use std::alloc::Global;
 use tree_leaves::position;
 
-/// The positions that a batch renews, rising, where these leaves change hands and `held` are those that somebody has before it.
+/// The positions that a batch renews, rising, where these leaves change hands and `held` are those that somebody has before it. The list of the leaves grows
+/// to that of all of them: it takes no memory where it has room for a path for each leaf.
 pub(crate) fn all_levels(
-    alloc: Global,
     depth: u8,
     held: &LeafMarks,
     leaves: List<Renewed>,
@@ -22,14 +21,16 @@ pub(crate) fn all_levels(
     requires to { All (λ (leaf : Renewed). leaf.id < 2 ^ (depth + 1)) leaves }
     ensures { IfOk result (λ renewed. renewed ≡ reverse (levels held.now depth leaves)) }
 {
-    let paths = leaves.len().saturating_mul(usize::from(depth));
-    let mut renewed = List::with_room(alloc, paths.saturating_add(1))?;
-    let mut level = leaves;
+    let mut renewed = leaves;
+    let mut first = 0;
     for _ in 0..depth {
-        renewed.extend(level.as_slice())?;
-        level = level_above(alloc, held, level.as_slice())?;
+        let next = renewed.len();
+        add_above(held, first, &mut renewed)?;
+        first = next;
     }
-    renewed.push(root(held, level.as_slice()))?;
+    let root = root(held, &renewed.as_slice()[first..]);
+    renewed.truncate(first);
+    renewed.push(root)?;
     renewed.as_mut_slice().reverse();
     Ok(renewed)
 }
@@ -44,25 +45,23 @@ fn root(held: &LeafMarks, level: &[Renewed]) -> Renewed
     }
 }
 
-/// The positions above those of a level.
-fn level_above(
-    alloc: Global,
-    held: &LeafMarks,
-    level: &[Renewed],
-) -> Result<List<Renewed>, NoMemory>
+/// Adds the positions above those of the level that begins at a place and goes to the end.
+fn add_above(held: &LeafMarks, first: usize, positions: &mut List<Renewed>) -> Result<(), NoMemory>
     requires not_deep { held.now.depth ≤ 9 }
-    requires below { All (IsBelowRoot held.now.depth) level.now }
-    ensures { IfOk result (λ positions. positions ≡ above held.now None level.now) }
+    requires within { first ≤ length positions.old }
+    requires below { All (IsBelowRoot held.now.depth) (drop first positions.old) }
+    ensures { OnOk result (positions.new ≡ positions.old ++ above held.now None (drop first positions.old)) }
 {
-    let mut positions = List::with_room(alloc, level.len())?;
+    let end = positions.len();
     let mut waiting = None;
-    for next in level {
-        waiting = go_on(held, waiting, *next, &mut positions)?;
+    for place in first..end {
+        let next = positions.as_slice()[place];
+        waiting = go_on(held, waiting, next, positions)?;
     }
     if let Some(one) = waiting {
         positions.push(above_one(held, one))?;
     }
-    Ok(positions)
+    Ok(())
 }
 
 /// Adds the position above one that came before, if there is one; answers what is left to wait for its sibling.
@@ -78,6 +77,7 @@ fn go_on(
     ensures above { IfOk result (λ waits. (rest : Items Renewed) →
         positions.new ++ above held.now waits rest ≡ positions.old ++ above held.now waiting (next ∷ rest)) }
     ensures waits { IfOk result (λ waits. IfSome waits (IsBelowRoot held.now.depth)) }
+    ensures begins { IfOk result (λ waits. take (length positions.old) positions.new ≡ positions.old) }
 {
     let Some(one) = waiting else {
         return Ok(Some(next));

@@ -93,7 +93,7 @@ fn work_out(
         leaves,
         members,
     } = seat_all(alloc, depth, holders, index, free, held.marked(), batch)?;
-    let renewed = all_levels(alloc, depth, held, leaves)?;
+    let renewed = all_levels(depth, held, leaves)?;
     let drawn = drawn(alloc, renewed.as_slice())?;
     Ok(Outcome {
         members,

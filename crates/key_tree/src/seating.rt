@@ -1,5 +1,5 @@
 //! What a batch makes of the leaves.
-ghost use Rattle.std.specs.Prelude.{◌≡◌, ◌+◌, ◌^◌, ◌<◌, ◌≤◌, ◌++◌, false, true, length, map, reverse, is_none, IfOk, OnOk};
+ghost use Rattle.std.specs.Prelude.{◌≡◌, ◌+◌, ◌^◌, ◌<◌, ◌≤◌, ◌++◌, false, true, length, drop, map, reverse, is_none, IfOk, OnOk};
 ghost use Rattle.std.specs.List.{All, count_by};
 ghost use Rattle.group_terms.specs.LeafMarks.{Marked as LeafMarked};
 ghost use Rattle.group_model.specs.Indexes.{IsIndexOf};
@@ -49,11 +49,12 @@ pub(crate) fn seat_all(
 {
     let mut seats = leave_all(alloc, holders, index, batch)?;
     let mut vacant = Vacant::new(places(alloc, seats.as_slice())?);
-    let came = take_all(alloc, depth, free, batch, &mut vacant)?;
-    let leaves = changed_leaves(alloc, holders.len(), came.as_slice(), vacant.rest())?;
-    let joined = leaves_of(alloc, holders.len(), came.as_slice())?;
-    let members = members - seats.len() + came.len();
-    seats.extend(came.as_slice())?;
+    let left = seats.len();
+    take_all(depth, free, batch, &mut vacant, &mut seats)?;
+    let came = from_place(seats.as_slice(), left);
+    let leaves = changed_leaves(alloc, depth, holders.len(), came, vacant.rest())?;
+    let joined = leaves_of(alloc, holders.len(), came)?;
+    let members = members - left + came.len();
     Ok(Seating {
         seats,
         joined,
@@ -62,10 +63,19 @@ pub(crate) fn seat_all(
     })
 }
 
+/// The leaves that change hands from one of them on.
+fn from_place(seats: &[Seat], place: usize) -> &[Seat]
+    requires { place ≤ length seats.now }
+    ensures { result.now ≡ drop place seats.now }
+{
+    &seats[place..]
+}
+
 /// The leaves that change hands, falling: those that somebody gets, and then those that were left and that nobody gets. The lowest leaf of the tree is the
-/// first one.
+/// first one. The list has room for the paths from them to the root.
 fn changed_leaves(
     alloc: Global,
+    depth: u8,
     first: usize,
     taken: &[Seat],
     left: &[usize],
@@ -76,11 +86,19 @@ fn changed_leaves(
     requires left { All (λ place. place < first) left.now }
     ensures { IfOk result (λ leaves. leaves ≡ reverse (map (changed_leaf first true) (places_of taken.now) ++ map (changed_leaf first false) left.now)) }
 {
-    let mut leaves = List::with_room(alloc, taken.len().saturating_add(left.len()))?;
+    let mut leaves = List::with_room(alloc, most_renewed(depth, taken.len(), left.len()))?;
     add_taken(first, taken, &mut leaves)?;
     add_left(first, left, &mut leaves)?;
     leaves.as_mut_slice().reverse();
     Ok(leaves)
+}
+
+/// No batch that changes so many leaves renews more positions.
+fn most_renewed(depth: u8, taken: usize, left: usize) -> usize {
+    let paths = taken
+        .saturating_add(left)
+        .saturating_mul(usize::from(depth));
+    paths.saturating_add(1)
 }
 
 /// Adds the leaves that somebody gets.

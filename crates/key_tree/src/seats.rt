@@ -1,5 +1,5 @@
 //! Leaves that change hands with a batch.
-ghost use Rattle.std.specs.Prelude.{◌≡◌, ◌^◌, ◌<◌, ◌≤◌, [], ◌∷◌, ◌++◌, length, nat_eq, false, IfOk, OnOk};
+ghost use Rattle.std.specs.Prelude.{◌≡◌, ◌^◌, ◌<◌, ◌≤◌, [], ◌∷◌, ◌++◌, List as Items, length, nat_eq, false, IfOk, OnOk};
 ghost use Rattle.std.specs.List.{All, IsDistinct, list_any};
 ghost use Rattle.std.specs.List.Sorted.{IsPermutation};
 ghost use Rattle.group_terms.specs.Changes.{leavers, joiners};
@@ -18,7 +18,7 @@ use std::alloc::Global;
 use tree_leaves::holders::Holder;
 use tree_leaves::position;
 
-/// The leaves that those leave who go out with a batch, in its order.
+/// The leaves that those leave who go out with a batch, in its order. The list has room for those of the joiners too.
 pub(crate) fn leave_all(
     alloc: Global,
     holders: &[Holder],
@@ -73,14 +73,14 @@ pub(crate) fn places(alloc: Global, seats: &[Seat]) -> Result<List<usize>, NoMem
     Ok(places)
 }
 
-/// The leaves that those get who come in with a batch, in its order: each the lowest one that is free then.
+/// Adds the leaves that those get who come in with a batch, in its order: each the lowest one that is free then.
 pub(crate) fn take_all(
-    alloc: Global,
     depth: u8,
     free: &LeafMarks,
     batch: &[Change],
     vacant: &mut Vacant,
-) -> Result<List<Seat>, NoMemory>
+    seats: &mut List<Seat>,
+) -> Result<(), NoMemory>
     requires not_deep { depth ≤ 9 }
     requires same { free.now.depth ≡ depth }
     requires leaves { length free.now.leaves ≡ 2 ^ depth }
@@ -89,15 +89,15 @@ pub(crate) fn take_all(
     ensures vacant { IsVacant vacant.new }
     ensures left { vacant.new.left ≡ vacant.old.left }
     ensures taken { (before left : Holders) → IsLeft before left free.now.leaves vacant.old.left → list_any (is_member before) (joiners batch.now) ≡ false →
-        IfOk result (λ seats. (seats ≡ placements left (joiners batch.now)) × IsTaken before left (seated left seats) vacant.new.from (places_of seats)) }
+        let came = placements left (joiners batch.now) in
+        OnOk result ((seats.new ≡ seats.old ++ came) × IsTaken before left (seated left came) vacant.new.from (places_of came)) }
 {
-    let mut seats = List::with_room(alloc, batch.len())?;
     for change in batch {
         if let Change::In { member } = change {
-            take(depth, free, member, vacant, &mut seats)?;
+            take(depth, free, member, vacant, seats)?;
         }
     }
-    Ok(seats)
+    Ok(())
 }
 
 /// Who comes in gets the lowest free leaf.
@@ -114,10 +114,10 @@ fn take(
     requires vacant { IsVacant vacant.old }
     ensures vacant { IsVacant vacant.new }
     ensures left { vacant.new.left ≡ vacant.old.left }
-    ensures taken { (before left : Holders) → IsLeft before left free.now.leaves vacant.old.left → is_member before member.now ≡ false →
-        IsTaken before left (seated left seats.old) vacant.old.from (places_of seats.old) →
-        OnOk result ((seats.new ≡ seats.old ++ placements (seated left seats.old) (member.now ∷ [])) ×
-        IsTaken before left (seated left seats.new) vacant.new.from (places_of seats.new)) }
+    ensures taken { (before left : Holders) (came : Items Seat) → IsLeft before left free.now.leaves vacant.old.left → is_member before member.now ≡ false →
+        IsTaken before left (seated left came) vacant.old.from (places_of came) →
+        let found = placements (seated left came) (member.now ∷ []) in
+        OnOk result ((seats.new ≡ seats.old ++ found) × IsTaken before left (seated left (came ++ found)) vacant.new.from (places_of (came ++ found))) }
 {
     match vacant.next(depth, free) {
         Some(place) => {

@@ -1,15 +1,13 @@
 -- What a batch encrypts is what the list says of its epoch.
 -- `wraps_up` puts the first position's part last, since the loop counts down.
-use Rattle.std.proofs.Common.{◌≡◌, ℕ, zero, suc, ◌+◌, ◌-◌, ◌*◌, ◌^◌, ◌<◌, ◌≤◌, Bool, true, false, cond, ◌||◌, List, [], ◌∷◌, ◌++◌, None, Some, length, get_or, refl, sym, ap, ◌∙◌, subst, arith, inl, inr, append_assoc}
-use Rattle.std.proofs.Math.Dec.{eqb}
+use Rattle.std.proofs.Common.{◌≡◌, ℕ, zero, suc, ◌+◌, ◌-◌, ◌*◌, ◌^◌, ◌<◌, ◌≤◌, Bool, true, false, cond, List, [], ◌∷◌, ◌++◌, None, length, get_or, refl, sym, ap, ◌∙◌, subst, arith, inl, inr, append_assoc}
 use Rattle.std.proofs.lemmas.Bool.{cases_Bool, lt-ltb, le-ltb}
 use Rattle.std.proofs.lemmas.Grind.{pow_more}
 use Rattle.std.proofs.lemmas.List.{append-nil, length-append}
-use Rattle.std.proofs.lemmas.List.FromFn.{get_or-map-range_with_len}
 use Rattle.std.specs.Prelude.{nat_lt}
 use Rattle.std.specs.List.{flat_map, filter, range_with_len}
 use Rattle.std.specs.Option.{unwrap_or}
-use Rattle.group_terms.specs.Positions.{some_leaf_below, marks_of}
+use Rattle.group_terms.specs.Positions.{some_leaf_below}
 use Rattle.group_terms.specs.declared.changes.Change.{Change}
 use Rattle.group_terms.specs.declared.keys.KeyName.TheVariants.{Node, Traffic}
 use Rattle.group_terms.specs.declared.keys.Wrap.{Wrap}
@@ -19,7 +17,6 @@ use Rattle.group_model.specs.Places.{Holders, holders_at}
 use Rattle.key_tree.specs.Present.{Present, StandsFor}
 use Rattle.group_model.specs.LastChanges.{changes_at}
 use Rattle.key_tree.specs.Private.Draws.{is_renewed, renewed_from}
-use Rattle.group_model.specs.LastChanges.{renewed_at}
 use Rattle.rekey_plan.specs.Private.Plans.{new_wrap, child_wrap, inner_wraps, wraps_up}
 use Rattle.tree_leaves.specs.Unchanged.{unchanged_holders}
 use Rattle.group_model.specs.Stayed.{kept_leaves, stayed_at}

@@ -1,11 +1,12 @@
 //! For how many positions a batch draws values, and how many encryptions between positions it has.
 ghost use Rattle.std.specs.Prelude.{◌≤◌};
+ghost use Rattle.key_tree.specs.Marks.{IsReady};
 
 use crate::lists::name;
+use crate::trees::{install, prepared};
 use gd_edges::ChaChaDraws;
-use group_terms::{Batch, Change, KeyName, MOST_CHANGES, Wrap};
-use group_values::draw_values;
-use key_tree::KeyTree;
+use group_terms::{Batch, Change, KeyName, MOST_CHANGES, NoMemory, Wrap};
+use key_tree::{KeyTree, Marked};
 use rekey_plan::plan;
 use std::alloc::Global;
 
@@ -48,11 +49,9 @@ fn batches_have_their_counts(rt: HostRuntime) {
 fn are_counted(alloc: Global) -> bool {
     let mut holds = true;
     for depth in 1..=9 {
-        holds &= is_counted(alloc, &removal(depth)) == Some(true);
+        holds &= is_counted(alloc, &removal(depth));
     }
-    holds
-        & (is_counted(alloc, &EACH_16TH) == Some(true))
-        & (is_counted(alloc, &NOBODY) == Some(true))
+    holds & is_counted(alloc, &EACH_16TH) & is_counted(alloc, &NOBODY)
 }
 
 /// One member goes out of a full tree. Each position above its leaf has a new key, encrypted under both children's keys, the lowest under the other leaf's alone.
@@ -70,50 +69,43 @@ fn removal(depth: u8) -> Case
     }
 }
 
-fn is_counted(alloc: Global, case: &Case) -> Option<bool> {
+fn is_counted(alloc: Global, case: &Case) -> bool {
     if case.depth < 1 || case.depth > 9 {
-        return None;
+        return false;
     }
-    let mut tree = KeyTree::new(alloc, case.depth).ok()?;
-    let is_full = fill(alloc, &mut tree, case.members).is_some();
-    let counts = counts_of(alloc, &tree, &leavers(case));
-    drop(tree);
-    Some(is_full & (counts? == (case.drawn, case.wraps)))
+    match KeyTree::new(alloc, case.depth) {
+        Ok(mut tree) => has_counts_once_full(alloc, &mut tree, case),
+        Err(NoMemory) => false,
+    }
+}
+
+fn has_counts_once_full(alloc: Global, tree: &mut KeyTree, case: &Case) -> bool {
+    let is_full = fill(alloc, tree, case.members);
+    is_full & has_counts(alloc, tree, case)
 }
 
 /// Lets so many members in, batch after batch.
-fn fill(alloc: Global, tree: &mut KeyTree, members: u64) -> Option<()> {
+fn fill(alloc: Global, tree: &mut KeyTree, members: u64) -> bool {
     let mut draws = ChaChaDraws::new(1, 0);
     let mut batch = Batch::new();
+    let mut holds = true;
     for number in 0..members {
         if batch.changes().len() == MOST_CHANGES {
-            take_in(alloc, tree, &batch, &mut draws)?;
+            holds &= take_in(alloc, tree, &batch, &mut draws);
             batch = Batch::new();
         }
         batch.push(Change::In {
             member: name(number),
         });
     }
-    take_in(alloc, tree, &batch, &mut draws)
+    holds & take_in(alloc, tree, &batch, &mut draws)
 }
 
-pub(crate) fn take_in(
-    alloc: Global,
-    tree: &mut KeyTree,
-    batch: &Batch,
-    draws: &mut ChaChaDraws,
-) -> Option<()> {
-    if !tree.fits(batch) {
-        return None;
+fn take_in(alloc: Global, tree: &mut KeyTree, batch: &Batch, draws: &mut ChaChaDraws) -> bool {
+    match prepared(alloc, tree, batch) {
+        Some(marked) => install(alloc, tree, marked, draws),
+        None => false,
     }
-    let Ok(Some(marked)) = tree.prepare(alloc, batch, u32::MAX) else {
-        return None;
-    };
-    let Ok(values) = draw_values(alloc, draws, marked.drawn()) else {
-        return None;
-    };
-    tree.install(marked, &values);
-    Some(())
 }
 
 /// The batch with which members go out.
@@ -129,14 +121,25 @@ fn leavers(case: &Case) -> Batch {
     batch
 }
 
-/// The positions for which a batch draws values, and its encryptions between positions.
-fn counts_of(alloc: Global, tree: &KeyTree, batch: &Batch) -> Option<(usize, usize)> {
-    if !tree.fits(batch) {
-        return None;
+/// Whether the batch of a case has its counts.
+fn has_counts(alloc: Global, tree: &KeyTree, case: &Case) -> bool {
+    match prepared(alloc, tree, &leavers(case)) {
+        Some(marked) => {
+            (marked.drawn().len() == case.drawn)
+                & (count_wraps(alloc, tree, &marked) == Some(case.wraps))
+        }
+        None => false,
     }
-    let marked = tree.prepare(alloc, batch, u32::MAX).ok()??;
-    let wraps = plan(alloc, tree, &marked).ok()?;
-    Some((marked.drawn().len(), between(wraps.as_slice())))
+}
+
+/// How many encryptions between positions a batch has.
+fn count_wraps(alloc: Global, tree: &KeyTree, marked: &Marked) -> Option<usize>
+    requires { IsReady tree.now marked.now }
+{
+    match plan(alloc, tree, marked) {
+        Ok(wraps) => Some(between(wraps.as_slice())),
+        Err(NoMemory) => None,
+    }
 }
 
 fn between(wraps: &[Wrap]) -> usize {

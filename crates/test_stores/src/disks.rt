@@ -86,7 +86,8 @@ const TWO_WRITES: Case = Case {
     ],
 };
 
-static CASES: [Case; 13] = [
+/// What a loss of power leaves.
+static LOSSES: [Case; 7] = [
     TWO_WRITES,
     // The same two writes, synced.
     Case {
@@ -173,6 +174,10 @@ static CASES: [Case; 13] = [
         ],
         left: &[(0, b"abcdef"), (1, b"abc"), (8, b"abcdef")],
     },
+];
+
+/// Calls that fail, and what is left then.
+static FAULTS: [Case; 6] = [
     // The file does not open at first: the next call tries again.
     Case {
         most: 100,
@@ -260,20 +265,39 @@ static CASES: [Case; 13] = [
 
 #[test]
 fn disks_fail_and_keep_as_they_should(rt: HostRuntime) {
-    assert!(rt; are_cases(rt.alloc()) & are_drawn(rt.alloc(), &TWO_WRITES));
+    assert!(rt; are_kept(rt.alloc()) & are_failed(rt.alloc()) & are_drawn(rt.alloc(), &TWO_WRITES));
 }
 
-fn are_cases(alloc: Global) -> bool {
+fn are_kept(alloc: Global) -> bool {
     let mut holds = true;
-    for case in &CASES {
-        for (choice, image) in case.left {
-            match left(alloc, case, *choice) {
-                Some(disk) => holds &= disk.image() == *image,
-                None => holds = false,
-            }
-        }
+    for case in &LOSSES {
+        holds &= is_case(alloc, case);
     }
     holds
+}
+
+fn are_failed(alloc: Global) -> bool {
+    let mut holds = true;
+    for case in &FAULTS {
+        holds &= is_case(alloc, case);
+    }
+    holds
+}
+
+fn is_case(alloc: Global, case: &Case) -> bool {
+    let mut holds = true;
+    for (choice, image) in case.left {
+        holds &= leaves(alloc, case, *choice, image);
+    }
+    holds
+}
+
+/// Whether a loss of power leaves this.
+fn leaves(alloc: Global, case: &Case, choice: u64, image: &[u8]) -> bool {
+    match left(alloc, case, choice) {
+        Some(disk) => disk.image() == image,
+        None => false,
+    }
 }
 
 /// What is left after the calls of a case, if they go as they should.
@@ -286,15 +310,23 @@ fn left(alloc: Global, case: &Case, choice: u64) -> Option<MemDisk> {
 
 /// Whether two losses of power that draw octets leave what lies between the two writes, and of these different octets.
 fn are_drawn(alloc: Global, case: &Case) -> bool {
-    match (left(alloc, case, 7), left(alloc, case, 15)) {
-        (Some(one), Some(other)) => {
-            let (one, other) = (one.image(), other.image());
-            keeps_between(one) & keeps_between(other) & (one != other)
-        }
+    match (drawn(alloc, case, 7), drawn(alloc, case, 15)) {
+        (Some(one), Some(other)) => one != other,
         _ => false,
     }
 }
 
-fn keeps_between(image: &[u8]) -> bool {
-    image.len() == 8 && image[2] == b'c' && image[3] == b'd'
+/// The octets around those that lie between the two writes, if a loss of power leaves these.
+fn drawn(alloc: Global, case: &Case, choice: u64) -> Option<[u8; 6]> {
+    match left(alloc, case, choice) {
+        Some(disk) => around(disk.image()),
+        None => None,
+    }
+}
+
+fn around(image: &[u8]) -> Option<[u8; 6]> {
+    match image {
+        [a, b, b'c', b'd', w, x, y, z] => Some([*a, *b, *w, *x, *y, *z]),
+        _ => None,
+    }
 }

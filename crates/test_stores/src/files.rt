@@ -1,6 +1,10 @@
 //! Disks in files of the operating system.
+ghost use Rattle.std.specs.Prelude.{◌≡◌, None};
+ghost use Rattle.gd_disk.specs.Moments.{shown};
+
 use crate::disks::{Asked, Call, go};
 use file_disks::FileDisk;
+use gd_disk::Disk;
 use std::alloc::Global;
 use std::fs;
 
@@ -33,60 +37,63 @@ const NEVER_OPENS: Asked = &[
 
 const TAKES_NOTHING: Asked = &[(Call::Write(0, b"abc"), false)];
 
-/// A disk in the file at each path goes so, one after another: devices, a folder that is not there, and a folder in place of a file.
-static CASES: [(&str, Asked); 7] = [
-    (PATH, WRITES),
-    (PATH, READS),
-    ("/dev/null", NEVER_OPENS),
-    ("no_such_folder/disk", NEVER_OPENS),
-    ("no_such_folder/disk", TAKES_NOTHING),
-    (".", TAKES_NOTHING),
-    ("/dev/full", TAKES_NOTHING),
+/// The other disk has its file again.
+const FREE: Asked = &[(Call::Write(0, b"xy"), true), (Call::Sync, true)];
+
+/// A path, what is asked of a disk in its file, then of another one in the shared file, and then of the first one again.
+type Case = (&'static str, Asked, Asked, Asked);
+
+/// One after another: devices, a folder that is not there, a folder in place of a file, and last the shared file: the other disk is refused as long as the
+/// first one has it.
+static CASES: [Case; 8] = [
+    (PATH, WRITES, &[], &[]),
+    (PATH, READS, &[], &[]),
+    ("/dev/null", NEVER_OPENS, &[], &[]),
+    ("no_such_folder/disk", NEVER_OPENS, &[], &[]),
+    ("no_such_folder/disk", TAKES_NOTHING, &[], &[]),
+    (".", TAKES_NOTHING, &[], &[]),
+    ("/dev/full", TAKES_NOTHING, &[], &[]),
+    (
+        SHARED,
+        WRITES,
+        NEVER_OPENS,
+        &[(Call::Read(0, 5, b"abXYe---"), true)],
+    ),
 ];
 
 #[test]
 fn disks_in_files_go_as_they_should(rt: HostRuntime) {
     let _ = fs::remove_dir_all(&rt, FOLDER);
     let is_made = fs::create_dir(&rt, FOLDER).is_ok();
-    let go = are_cases(rt.alloc(), &rt) & is_refused(rt.alloc(), &rt);
+    let go = are_cases(rt.alloc(), &rt);
     let is_removed = fs::remove_dir_all(&rt, FOLDER).is_ok();
     assert!(rt; is_made & go & is_removed);
 }
 
+/// Each case goes as it should, and the other disk after them.
 fn are_cases(alloc: Global, rt: &HostRuntime) -> bool {
-    let mut holds = true;
-    for (path, asked) in &CASES {
-        match FileDisk::new(alloc, rt, path) {
-            Ok(mut disk) => holds &= go(&mut disk, asked),
-            Err(_) => holds = false,
-        }
-    }
-    holds
-}
-
-/// Whether a second disk is refused as long as a first one has the file, and no longer.
-fn is_refused(alloc: Global, rt: &HostRuntime) -> bool {
     match FileDisk::new(alloc, rt, SHARED) {
-        Ok(mut second) => {
-            let has_first = has_first(alloc, rt, &mut second);
-            let goes = go(
-                &mut second,
-                &[(Call::Write(0, b"xy"), true), (Call::Sync, true)],
-            );
-            has_first & goes
-        }
+        Ok(mut other) => all_go(alloc, rt, &mut other) & go(&mut other, FREE),
         Err(_) => false,
     }
 }
 
-fn has_first(alloc: Global, rt: &HostRuntime, second: &mut FileDisk<HostRuntime>) -> bool {
-    match FileDisk::new(alloc, rt, SHARED) {
-        Ok(mut first) => {
-            let is_written = go(&mut first, WRITES);
-            let never_opens = go(second, NEVER_OPENS);
-            let is_read = go(&mut first, &[(Call::Read(0, 5, b"abXYe---"), true)]);
-            is_written & never_opens & is_read
-        }
+fn all_go<D: Disk>(alloc: Global, rt: &HostRuntime, other: &mut D) -> bool
+    requires { (any : D) → shown D.Disk any ≡ None }
+{
+    let mut holds = true;
+    for case in &CASES {
+        holds &= is_case(alloc, rt, case, other);
+    }
+    holds
+}
+
+fn is_case<D: Disk>(alloc: Global, rt: &HostRuntime, case: &Case, other: &mut D) -> bool
+    requires { (any : D) → shown D.Disk any ≡ None }
+{
+    let (path, before, others, after) = case;
+    match FileDisk::new(alloc, rt, path) {
+        Ok(mut disk) => go(&mut disk, before) & go(other, others) & go(&mut disk, after),
         Err(_) => false,
     }
 }

@@ -4,7 +4,7 @@ ghost use Rattle.std.specs.Prelude.{◌≤◌, length, IsSome};
 use crate::unseen::{UnseenDisk, after_crash, holding};
 use group_terms::Octets;
 use std::alloc::Global;
-use tree_journal::JournalRefusal;
+use tree_journal::{FormatRefusal, JournalRefusal};
 
 type Journal = tree_journal::Journal<UnseenDisk>;
 
@@ -50,8 +50,8 @@ const SECOND: Call = Call::Read(Ok(true), b"", 24);
 const BOTH: &[Call] = &[FIRST, SECOND, Call::Read(Ok(false), b"", 24)];
 
 /// The octets of a file and the calls of its disk that fail, what is asked of the journal on it, and what of the journal that is opened after a loss of
-/// power. The octets are written by the first call; the opening syncs folder and file, and reads the beginning by the fourth one. Each record takes two
-/// reads, of which the other one finds the end.
+/// power. The octets are written by the first call; the opening syncs folder and file, and reads the beginning by the fourth one. The first record takes two
+/// reads, of which the other one finds the end, and the records after it none.
 type Case = (
     &'static [u8],
     &'static [u64],
@@ -59,7 +59,7 @@ type Case = (
     &'static [Call],
 );
 
-static CASES: [Case; 6] = [
+static CASES: [Case; 7] = [
     // A fault at a read closes the journal, and loses nothing.
     (
         TWO,
@@ -71,15 +71,26 @@ static CASES: [Case; 6] = [
         BOTH,
     ),
     (
-        TWO,
+        ONE_ALONE,
         &[7],
+        &[AB, Call::Read(Err(JournalRefusal::DiskFault), b"ab", 16)],
+        &[AB, NO_SECOND],
+    ),
+    // The first read gives both records and the end.
+    (TWO, &[7], BOTH, BOTH),
+    // A journal that is opened again reads the file anew.
+    (
+        FIRST_ALONE,
+        &[9],
         &[
             FIRST,
-            Call::Read(Err(JournalRefusal::DiskFault), b"first", 19),
+            LAST,
+            Call::Close,
+            Call::Reopen,
+            Call::Read(Err(JournalRefusal::DiskFault), b"first", 9),
         ],
-        BOTH,
+        &[FIRST, LAST],
     ),
-    (TWO, &[9], &[FIRST, SECOND], BOTH),
     // A closed journal is opened again at its first record.
     (
         FIRST_ALONE,
@@ -134,36 +145,38 @@ fn journals_go_as_they_should(rt: HostRuntime) {
 
 fn are_cases(alloc: Global) -> bool {
     let mut holds = true;
-    for (image, calls, asked, left) in &CASES {
-        for choice in 0..8 {
-            holds &= is_case(alloc, image, calls, asked, choice, left).is_some();
-        }
+    for case in &CASES {
+        holds &= is_case(alloc, case);
     }
     holds
 }
 
-/// What a loss of power leaves of a case, if all goes as it should.
-fn is_case(
-    alloc: Global,
-    image: &[u8],
-    calls: &[u64],
-    asked: &[Call],
-    choice: u64,
-    left: &[Call],
-) -> Option<UnseenDisk> {
-    let disk = goes(alloc, holding(alloc, calls, image)?, asked)?;
-    goes(alloc, after_crash(alloc, disk, choice)?, left)
+/// With each kind of a loss of power.
+fn is_case(alloc: Global, case: &Case) -> bool {
+    let mut holds = true;
+    for choice in 0..8 {
+        holds &= is_left(alloc, case, choice) == Some(true);
+    }
+    holds
 }
 
-/// A disk after the journal on it was opened, and these calls of it made, if they go as they should.
-fn goes(alloc: Global, disk: UnseenDisk, asked: &[Call]) -> Option<UnseenDisk> {
+/// Whether all goes as it should, and does so after a loss of power.
+fn is_left(alloc: Global, case: &Case, choice: u64) -> Option<bool> {
+    let (image, calls, asked, left) = case;
+    let (goes_on, disk) = goes(alloc, holding(alloc, calls, image)?, asked);
+    let (is_left, disk) = goes(alloc, after_crash(alloc, disk, choice)?, left);
+    drop(disk);
+    Some(goes_on & is_left)
+}
+
+/// Whether the journal on a disk is opened, and these calls of it go as they should; and the disk.
+fn goes(alloc: Global, disk: UnseenDisk, asked: &[Call]) -> (bool, UnseenDisk) {
     match Journal::open(alloc, disk) {
         Ok(mut journal) => {
             let goes = all_go(alloc, &mut journal, asked);
-            let disk = journal.into_disk();
-            if goes { Some(disk) } else { None }
+            (goes, journal.into_disk())
         }
-        Err(_) => None,
+        Err(FormatRefusal { disk, .. }) => (false, disk),
     }
 }
 
@@ -171,14 +184,14 @@ fn all_go(alloc: Global, journal: &mut Journal, asked: &[Call]) -> bool {
     let mut body = Octets::new(alloc);
     let mut holds = true;
     for call in asked {
-        holds &= is_answered(alloc, journal, &mut body, call);
+        holds &= is_answered(journal, &mut body, call);
     }
     holds
 }
 
-fn is_answered(alloc: Global, journal: &mut Journal, body: &mut Octets, call: &Call) -> bool {
+fn is_answered(journal: &mut Journal, body: &mut Octets, call: &Call) -> bool {
     match call {
-        Call::Read(answer, octets, place) => is_read(alloc, journal, body, *answer, octets, *place),
+        Call::Read(answer, octets, place) => is_read(journal, body, *answer, octets, *place),
         Call::Place(place) => journal.place() == *place,
         Call::Forget => {
             body.clear();
@@ -198,30 +211,34 @@ fn is_answered(alloc: Global, journal: &mut Journal, body: &mut Octets, call: &C
 
 /// Whether a read answers this, the body is this then, and reading goes on there.
 fn is_read(
-    alloc: Global,
     journal: &mut Journal,
     body: &mut Octets,
     answer: Result<bool, JournalRefusal>,
     octets: &[u8],
     place: u64,
 ) -> bool {
-    (journal.read_next(alloc, body) == answer)
-        & (body.as_slice() == octets)
-        & (journal.place() == place)
+    (journal.read_next(body) == answer) & (body.as_slice() == octets) & (journal.place() == place)
 }
 
 /// Whether a body is read as it was appended to a new journal.
 fn reads_back(alloc: Global, body: &[u8]) -> Option<bool>
     requires { length body.now ≤ 65536 }
 {
-    let disk = holding(alloc, &[], b"")?;
+    let (is_read, disk) = reads_back_on(alloc, holding(alloc, &[], b"")?, body);
+    drop(disk);
+    Some(is_read)
+}
+
+/// The same of a new journal on a disk; and the disk.
+fn reads_back_on(alloc: Global, disk: UnseenDisk, body: &[u8]) -> (bool, UnseenDisk)
+    requires { length body.now ≤ 65536 }
+{
     match Journal::format(alloc, disk) {
         Ok(mut journal) => {
             let is_read = is_read_back(alloc, &mut journal, body);
-            drop(journal);
-            Some(is_read)
+            (is_read, journal.into_disk())
         }
-        Err(_) => None,
+        Err(FormatRefusal { disk, .. }) => (false, disk),
     }
 }
 
@@ -231,5 +248,5 @@ fn is_read_back(alloc: Global, journal: &mut Journal, long: &[u8]) -> bool
 {
     let mut body = Octets::new(alloc);
     let is_appended = journal.append(long).is_ok();
-    is_appended & is_read(alloc, journal, &mut body, Ok(true), long, 65_550)
+    is_appended & is_read(journal, &mut body, Ok(true), long, 65_550)
 }

@@ -22,4 +22,6 @@ mod records;
 #[cfg(test)]
 mod stores;
 #[cfg(test)]
+mod trees;
+#[cfg(test)]
 mod unseen;

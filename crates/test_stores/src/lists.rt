@@ -5,7 +5,7 @@ use crate::records::push_next;
 use crate::stores::{head_of, look, on_new};
 use crate::unseen::holding;
 use gd_edges::ChaChaDraws;
-use group_terms::{Batch, Change, List, MOST_CHANGES, MemberName, Octets};
+use group_terms::{Batch, Change, List, MOST_CHANGES, MemberName, NoMemory, Octets};
 use key_tree::KeyTree;
 use std::alloc::Global;
 
@@ -26,7 +26,7 @@ fn are_read_as_stored(alloc: Global) -> bool {
 fn is_read_as_stored(alloc: Global, seed: u64) -> Option<bool> {
     let depth = 1 + (seed % 9) as u8;
     let mut records = List::new(alloc);
-    let are_drawn = push_some(alloc, depth, seed, &mut records).is_some();
+    let are_drawn = push_some(alloc, depth, seed, &mut records);
     let is_kept = is_kept(alloc, depth, records.as_slice());
     drop(records);
     Some(are_drawn & is_kept?)
@@ -42,19 +42,27 @@ fn is_kept(alloc: Global, depth: u8, records: &[Octets]) -> Option<bool> {
     Some((stored == all) & (left == all))
 }
 
-/// Appends the records of 1 to 40 batches, each of them due after those before it.
-fn push_some(alloc: Global, depth: u8, seed: u64, records: &mut List<Octets>) -> Option<()>
+/// Appends the records of the batches of a seed for a tree of this depth.
+fn push_some(alloc: Global, depth: u8, seed: u64, records: &mut List<Octets>) -> bool
     requires shallow { 1 ≤ depth }
     requires not_deep { depth ≤ 9 }
 {
-    let mut tree = KeyTree::new(alloc, depth).ok()?;
+    match KeyTree::new(alloc, depth) {
+        Ok(mut tree) => push_batches(alloc, &mut tree, seed, records),
+        Err(NoMemory) => false,
+    }
+}
+
+/// Appends the records of 1 to 40 batches, each of them due after those before it.
+fn push_batches(alloc: Global, tree: &mut KeyTree, seed: u64, records: &mut List<Octets>) -> bool {
     let mut numbers = Numbers { state: seed };
     let mut draws = ChaChaDraws::new(seed, 0);
+    let mut holds = true;
     for _ in 0..1 + numbers.below(40) {
-        let batch = some_batch(&tree, &mut numbers);
-        push_next(alloc, &mut tree, &batch, &mut draws, records)?;
+        let batch = some_batch(tree, &mut numbers);
+        holds &= push_next(alloc, tree, &batch, &mut draws, records);
     }
-    Some(())
+    holds
 }
 
 /// A batch that fits after those for which a tree stands, out of twice as many names as it has leaves.

@@ -13,8 +13,8 @@ const STEPS: u64 = 3;
 /// write and a sync.
 const CALLS: u64 = 28;
 
-/// Opening it and reading three batches: a sync, the beginning, the head, the batches and the end, each in pieces of a hundred octets.
-const OPENING: u64 = 30;
+/// Opening it and reading three batches: a sync, the beginning, and all that comes after it, in pieces of a hundred octets up to one that finds the end.
+const OPENING: u64 = 9;
 
 /// Eight kinds of crash, with the file in its folder or not where that was not synced.
 const CHOICES: u64 = 16;
@@ -26,7 +26,7 @@ fn stores_keep_what_was_acknowledged(rt: HostRuntime) {
 
 fn all_hold(alloc: Global) -> bool {
     let mut records = List::new(alloc);
-    let are_made = push_three(alloc, &mut records).is_some();
+    let are_made = push_three(alloc, &mut records);
     let all_hold = all_hold_of(alloc, &head_of(2), records.as_slice());
     drop(records);
     are_made & all_hold
@@ -35,7 +35,9 @@ fn all_hold(alloc: Global) -> bool {
 /// With each loss of power, and with none; a failure of the last call is seen, and none of a later one.
 fn all_hold_of(alloc: Global, head: &Head, records: &[Octets]) -> bool {
     let mut holds = (are_stored(alloc, head, records, CALLS) == Some(false))
-        & (are_stored(alloc, head, records, CALLS + 1) == Some(true));
+        & (are_stored(alloc, head, records, CALLS + 1) == Some(true))
+        & (are_found(alloc, head, records, CALLS + OPENING) == Some(false))
+        & (are_found(alloc, head, records, CALLS + OPENING + 1) == Some(true));
     for choice in 0..CHOICES {
         holds &= are_kept(alloc, head, records, choice) & are_opened(alloc, head, records, choice);
     }
@@ -85,6 +87,15 @@ fn are_stored(alloc: Global, head: &Head, records: &[Octets], call: u64) -> Opti
     let (stored, disk) = on_new(alloc, disk, head, records, false);
     drop(disk);
     Some(stored == Some(records.len()))
+}
+
+/// Whether all batches are found by another disk of the file where this call fails.
+fn are_found(alloc: Global, head: &Head, records: &[Octets], call: u64) -> Option<bool> {
+    let disk = UnseenDisk::planned(alloc, 100, false, &[], &[call])?;
+    let (_, disk) = on_new(alloc, disk, head, records, false);
+    let (found, disk) = look(alloc, disk.used_again()?, head, records);
+    drop(disk);
+    Some(found == Some(records.len()))
 }
 
 /// At each call of an opening that fails.

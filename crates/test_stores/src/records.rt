@@ -1,7 +1,10 @@
 //! Records of batches that are due.
+ghost use Rattle.key_tree.specs.Marks.{IsReady};
+
 use crate::stores::Store;
+use crate::trees::prepared;
 use gd_edges::ChaChaDraws;
-use group_terms::{Batch, BatchValues, Change, List, MOST_CHANGES, MemberName, Octets};
+use group_terms::{Batch, BatchValues, Change, List, MOST_CHANGES, MemberName, NoMemory, Octets};
 use group_values::draw_values;
 use key_tree::{KeyTree, Marked};
 use std::alloc::Global;
@@ -13,19 +16,45 @@ pub(crate) fn push_next(
     batch: &Batch,
     draws: &mut ChaChaDraws,
     records: &mut List<Octets>,
-) -> Option<()> {
-    if !tree.fits(batch) {
-        return None;
+) -> bool {
+    match prepared(alloc, tree, batch) {
+        Some(marked) => push_drawn(alloc, tree, batch, marked, draws, records),
+        None => false,
     }
-    let Ok(Some(marked)) = tree.prepare(alloc, batch, u32::MAX) else {
-        return None;
-    };
-    let Ok(values) = draw_values(alloc, draws, marked.drawn()) else {
-        return None;
-    };
-    let record = record_of(alloc, batch, &marked, &values);
-    tree.install(marked, &values);
-    records.push(record?).ok()
+}
+
+/// The same of a batch that was prepared.
+fn push_drawn(
+    alloc: Global,
+    tree: &mut KeyTree,
+    batch: &Batch,
+    marked: Marked,
+    draws: &mut ChaChaDraws,
+    records: &mut List<Octets>,
+) -> bool
+    requires { IsReady tree.old marked }
+{
+    match draw_values(alloc, draws, marked.drawn()) {
+        Ok(values) => {
+            let is_pushed = push_record(alloc, batch, &marked, &values, records);
+            tree.install(marked, &values);
+            is_pushed
+        }
+        Err(NoMemory) => false,
+    }
+}
+
+fn push_record(
+    alloc: Global,
+    batch: &Batch,
+    marked: &Marked,
+    values: &BatchValues,
+    records: &mut List<Octets>,
+) -> bool {
+    match record_of(alloc, batch, marked, values) {
+        Some(record) => records.push(record).is_ok(),
+        None => false,
+    }
 }
 
 fn record_of(
@@ -44,19 +73,21 @@ fn record_of(
 static CHANGES: [(bool, &[u8]); 3] = [(true, b"abc"), (false, b"b"), (false, b"c")];
 
 /// Appends the records of these batches.
-pub(crate) fn push_three(alloc: Global, records: &mut List<Octets>) -> Option<()> {
-    let mut tree = KeyTree::new(alloc, 2).ok()?;
-    let mut draws = ChaChaDraws::new(1, 0);
-    for (comes_in, letters) in &CHANGES {
-        push_next(
-            alloc,
-            &mut tree,
-            &batch_of(*comes_in, letters),
-            &mut draws,
-            records,
-        )?;
+pub(crate) fn push_three(alloc: Global, records: &mut List<Octets>) -> bool {
+    match KeyTree::new(alloc, 2) {
+        Ok(mut tree) => push_changes(alloc, &mut tree, records),
+        Err(NoMemory) => false,
     }
-    Some(())
+}
+
+fn push_changes(alloc: Global, tree: &mut KeyTree, records: &mut List<Octets>) -> bool {
+    let mut draws = ChaChaDraws::new(1, 0);
+    let mut holds = true;
+    for (comes_in, letters) in &CHANGES {
+        let batch = batch_of(*comes_in, letters);
+        holds &= push_next(alloc, tree, &batch, &mut draws, records);
+    }
+    holds
 }
 
 /// The batch with which these come in or go out, each of whom has a letter as the name.

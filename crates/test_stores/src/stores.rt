@@ -73,7 +73,7 @@ fn stored(alloc: Global, store: &mut Store, records: &[Octets], goes_on: bool) -
     requires { IsSome store.old.end }
 {
     let count = stored_on(store, records);
-    if !goes_on || count >= records.len() || reopened(alloc, store).is_some() {
+    if !goes_on || count >= records.len() || reopened(store).is_some() {
         return count;
     }
     match found(alloc, store, records) {
@@ -109,8 +109,8 @@ fn commit(store: &mut Store, record: &Octets) -> bool
 }
 
 /// Opens a store again, of which nothing more is said; why that is refused, if it is.
-fn reopened(alloc: Global, store: &mut Store) -> Option<JournalRefusal> {
-    store.reopen(alloc).err()
+fn reopened(store: &mut Store) -> Option<JournalRefusal> {
+    store.reopen().err()
 }
 
 /// Reads the next batch; whether there is one.

@@ -133,7 +133,14 @@ pub(crate) fn after_crash(alloc: Global, disk: UnseenDisk, choice: u64) -> Optio
 
 /// A disk with these octets that fails at these calls. To write them is the first one.
 pub(crate) fn holding(alloc: Global, calls: &[u64], octets: &[u8]) -> Option<UnseenDisk> {
-    let mut disk = UnseenDisk::planned(alloc, usize::MAX, false, &[], calls)?;
-    let is_written = disk.write_at(0, octets).is_ok();
-    if is_written { Some(disk) } else { None }
+    let disk = UnseenDisk::planned(alloc, usize::MAX, false, &[], calls)?;
+    written(disk, octets)
+}
+
+/// A disk after these octets were written to it.
+fn written(mut disk: UnseenDisk, octets: &[u8]) -> Option<UnseenDisk> {
+    match disk.write_at(0, octets) {
+        Ok(()) => Some(disk),
+        Err(Failed) => None,
+    }
 }

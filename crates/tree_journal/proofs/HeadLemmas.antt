@@ -1,12 +1,12 @@
 -- What the octets at a commit mark say of the records from there on.
-use Rattle.std.proofs.Common.{◌≡◌, ◌≢◌, ◌∙◌, inl, inr, ℕ, zero, suc, ◌+◌, ◌-◌, ◌≤◌, ◌<◌, List, [], ◌∷◌, ◌++◌, length, min, take, drop, Option, Some, None, Result, Ok, Err, Bool, true, false, refl, sym, ap, subst, arith, length-take, length-drop}
-use Rattle.std.proofs.lemmas.Bool.{le-leb, lt-leb, eq-eqb, eqb-true, false≢true, cases_lt}
-use Rattle.std.proofs.lemmas.List.{append-nil, drop-drop, drop-take, drop_all, take-take, take_all, take_min}
+use Rattle.std.proofs.Common.{◌≡◌, ◌≢◌, ◌∙◌, inl, inr, ℕ, zero, suc, ◌+◌, ◌-◌, ◌≤◌, ◌<◌, List, [], ◌∷◌, length, min, take, drop, Option, Some, None, Result, Ok, Err, Bool, true, false, refl, sym, ap, subst, arith, length-take, length-drop}
+use Rattle.std.proofs.lemmas.Bool.{le-leb, lt-leb, eq-eqb, eqb-true, false≢true, leb-true, cases_lt}
+use Rattle.std.proofs.lemmas.List.{drop-drop, drop-take, take-take, take_min}
 use Rattle.std.proofs.Math.Dec.{leb}
 use Rattle.std.specs.Prelude.{if◌then◌else◌, ◌==◌, ◌&&◌, OnErr}
 use Rattle.byteorder.specs.Endian.{big_from}
 use Rattle.byteorder.specs.Numbers.{big_from-take}
-use Rattle.tree_journal.specs.Private.Found.{IsShutAt, near_octets}
+use Rattle.tree_journal.specs.Private.Found.{IsShutAt}
 use Rattle.journal_gates.specs.Heads.{head_in}
 use Rattle.journal_gates.specs.Heads.{most_octets}
 use Rattle.tree_journal.specs.Records.{records_from, bodies_from, body_next, record_then, IsRecordAt}
@@ -96,12 +96,6 @@ cut_read (suc steps) at size (gate ∷ rest) is missing =
     ((λ i. if leb 4 (length rest) && (leb found most_octets && none i) then Some (take found (drop 4 rest)) else None)
     ∙ not_whole (leb 4 (length rest)) (leb found most_octets) (take found (drop 4 rest)))
 
-shut_gate : (rest : List ℕ) → Shut ≡ head_in (take 5 rest) → (gate : ℕ) × (behind : List ℕ) × (rest ≡ gate ∷ behind) × (gate ≢ 1)
-shut_gate [] is = absurd (cc is)
-shut_gate (gate ∷ rest) is =
-    let shut = chosen_shut (gate == 1) (leb 4 (length rest)) (leb (big_from 0 4 rest) most_octets) (big_from 0 4 rest) (is ∙ head_at gate rest) in
-    (gate, rest, refl, λ same. false≢true (sym shut ∙ eq-eqb gate 1 same))
-
 whole_body : (size : ℕ) (rest : List ℕ) → leb 4 (length rest) ≡ true → leb (big_from 0 4 rest) most_octets ≡ true → size ≡ big_from 0 4 rest
     → leb size (length rest - 4) ≡ true → body_next rest ≡ Some (take size (drop 4 rest))
 whole_body size rest long short is there =
@@ -126,9 +120,6 @@ abbrev pub body_at : List ℕ → ℕ → ℕ → Option (List ℕ)
 body_at file at size = if leb size (length file - (at + 5)) then Some (take size (drop (at + 5) file)) else None
 
 module _ (file : List ℕ) (at : ℕ) (head : Head) (is : head ≡ head_in (take 5 (drop at file))) where
-  pub found_end : head ≡ Shut → IsShutAt file at
-  found_end shut = shut_gate (drop at file) (sym shut ∙ is)
-
   pub found_nothing : head ≡ Broken → bodies_from file at ≡ Err at
   found_nothing broken = broken_read (length file) at (drop at file) (sym broken ∙ is)
 
@@ -148,46 +139,81 @@ module _ (file : List ℕ) (at : ℕ) (head : Head) (is : head ≡ head_in (take
   pub found_whole : (size : ℕ) → head ≡ Open size → leb size (length file - (at + 5)) ≡ true → IsRecordAt file at (take size (drop (at + 5) file))
   found_whole size opens there = open_record file at size (drop at file) refl (sym opens ∙ is) there
 
--- The first octets from a place on are enough for the commit mark and the length, and for a record that ends within them.
-module _ (file octets : List ℕ) (at : ℕ) (is : octets ≡ take near_octets (drop at file)) where
-  pub near_head : (n : ℕ) → n ≡ min (length octets) 5 → take n octets ≡ take 5 (drop at file)
-  near_head n few =
-      let same : n ≡ min 5 (length octets) = omega (arith, few) in
-      ap (λ k. take k octets) same ∙ take_min 5 octets ∙ ap (take 5) is ∙ take-take 5 near_octets (drop at file) (omega arith)
+-- a set commit mark, and a length
+open_long : (l : List ℕ) (size : ℕ) → Open size ≡ head_in l → 5 ≤ length l
+open_long [] size is = absurd (cc is)
+open_long (gate ∷ rest) size is =
+    let parts = chosen_open (gate == 1) (leb 4 (length rest)) (leb (big_from 0 4 rest) most_octets) (big_from 0 4 rest) size is in
+    omega (arith, leb-true 4 (length rest) parts.1)
 
-  pub near_there : (size : ℕ) → 5 + size ≤ length octets → leb size (length file - (at + 5)) ≡ true
-  near_there size whole = le-leb size (length file - (at + 5)) (omega (arith, whole, ap length is, length-take near_octets (drop at file), length-drop at file))
+shut_front : (l : List ℕ) → Shut ≡ head_in l → (gate : ℕ) × (behind : List ℕ) × (l ≡ gate ∷ behind) × (gate ≢ 1)
+shut_front [] is = absurd (cc is)
+shut_front (gate ∷ rest) is =
+    let shut = chosen_shut (gate == 1) (leb 4 (length rest)) (leb (big_from 0 4 rest) most_octets) (big_from 0 4 rest) is in
+    (gate, rest, refl, λ same. false≢true (sym shut ∙ eq-eqb gate 1 same))
 
-  pub near_body : (size : ℕ) → 5 + size ≤ length octets → Some (take (5 + size - 5) (drop 5 octets)) ≡ body_at file at size
-  near_body size whole =
+first_kept : (k n : ℕ) (rest : List ℕ) (gate : ℕ) (behind : List ℕ) → take k (take n rest) ≡ gate ∷ behind → (more : List ℕ) × (rest ≡ gate ∷ more)
+first_kept zero n rest gate behind is = absurd (cc is)
+first_kept (suc k) zero rest gate behind is = absurd (cc is)
+first_kept (suc k) (suc n) [] gate behind is = absurd (cc is)
+first_kept (suc k) (suc n) (first ∷ more) gate behind is = (more, ap (λ (g : ℕ). g ∷ more) (cc is))
+
+-- so many octets from a place on
+module _ (file octets : List ℕ) (at n : ℕ) (is : octets ≡ take n (drop at file)) where
+  pub seen_few : length octets ≤ n
+  seen_few = omega (arith, ap length is, length-take n (drop at file))
+
+  pub seen_end : (k : ℕ) → Shut ≡ head_in (take k octets) → IsShutAt file at
+  seen_end k shut =
+      let front = shut_front (take k octets) shut in
+      let kept = first_kept k n (drop at file) front.0 front.1 (sym (ap (take k) is) ∙ front.2) in
+      (front.0, kept.0, kept.1, front.3)
+
+  -- five of them are enough for a commit mark and a length
+  pub seen_head : 5 ≤ n → (k : ℕ) → k ≡ min (length octets) 5 → take k octets ≡ take 5 (drop at file)
+  seen_head five k few =
+      let same : k ≡ min 5 (length octets) = omega (arith, few) in
+      ap (λ k. take k octets) same ∙ take_min 5 octets ∙ ap (take 5) is ∙ take-take 5 n (drop at file) five
+
+  pub seen_long : (k size : ℕ) → Open size ≡ head_in (take k octets) → 5 ≤ length octets
+  seen_long k size opens = omega (arith, open_long (take k octets) size opens, length-take k octets)
+
+  pub seen_there : (size : ℕ) → 5 + size ≤ length octets → leb size (length file - (at + 5)) ≡ true
+  seen_there size whole = le-leb size (length file - (at + 5)) (omega (arith, whole, ap length is, length-take n (drop at file), length-drop at file))
+
+  pub seen_body : (size : ℕ) → 5 + size ≤ length octets → Some (take (5 + size - 5) (drop 5 octets)) ≡ body_at file at size
+  seen_body size whole =
+      let more : n ≡ 5 + (n - 5) = omega (arith, whole, seen_few) in
       let alone : 5 + size - 5 ≡ size = omega arith in
-      let long : size ≤ 2043 = omega (arith, whole, ap length is, length-take near_octets (drop at file)) in
-      let cut : drop 5 octets ≡ take 2043 (drop (at + 5) file) = ap (drop 5) is ∙ drop-take 5 2043 (drop at file) ∙ ap (take 2043) (drop-drop 5 at file) in
-      ap Some ((λ i. take (alone i) (cut i)) ∙ take-take size 2043 (drop (at + 5) file) long)
-      ∙ sym (ap (λ there. if there then Some (take size (drop (at + 5) file)) else None) (near_there size whole))
+      let long : size ≤ n - 5 = omega (arith, whole, seen_few) in
+      let cut : drop 5 octets ≡ take (n - 5) (drop (at + 5) file) =
+      ap (drop 5) (is ∙ ap (λ k. take k (drop at file)) more) ∙ drop-take 5 (n - 5) (drop at file) ∙ ap (take (n - 5)) (drop-drop 5 at file) in
+      ap Some ((λ i. take (alone i) (cut i)) ∙ take-take size (n - 5) (drop (at + 5) file) long)
+      ∙ sym (ap (λ there. if there then Some (take size (drop (at + 5) file)) else None) (seen_there size whole))
 
--- As many octets of a body as are there are all of it, or the record is cut.
-module _ (file octets : List ℕ) (at size : ℕ) (is : octets ≡ take size (drop (at + 5) file)) where
-  pub begun_cut : length octets < size → None ≡ body_at file at size
-  begun_cut fewer =
-      let missing = lt-leb size (length file - (at + 5)) (omega (arith, fewer, ap length is, length-take size (drop (at + 5) file), length-drop (at + 5) file)) in
+  -- where they are as many as a record has, or all that are left, one that is longer is cut
+  pub seen_cut : (size : ℕ) → 5 + size ≤ n → 5 ≤ length octets → length octets < 5 + size → None ≡ body_at file at size
+  seen_cut size most long fewer =
+      let missing = lt-leb size (length file - (at + 5)) (omega (arith, most, long, fewer, ap length is, length-take n (drop at file), length-drop at file)) in
       sym (ap (λ there. if there then Some (take size (drop (at + 5) file)) else None) missing)
 
-  pub begun_there : size ≤ length octets → leb size (length file - (at + 5)) ≡ true
-  begun_there whole = le-leb size (length file - (at + 5)) (omega (arith, whole, ap length is, length-take size (drop (at + 5) file), length-drop (at + 5) file))
+-- What was read ahead of a file, from a place on.
+module _ (file room : List ℕ) where
+  pub kept_few : (n m at : ℕ) → take n room ≡ take m (drop at file) → n ≤ m → take n room ≡ take n (drop at file)
+  kept_few n m at is few = sym (take-take n n room (omega arith)) ∙ ap (take n) is ∙ take-take n m (drop at file) few
 
-  pub begun_body : size ≤ length octets → Some (take size octets) ≡ body_at file at size
-  begun_body whole =
-      ap Some (ap (take size) is ∙ take-take size size (drop (at + 5) file) (omega arith))
-      ∙ sym (ap (λ there. if there then Some (take size (drop (at + 5) file)) else None) (begun_there whole))
+  pub further_on : (count from at : ℕ) → take count room ≡ take count (drop from file) → from ≤ at → at - from < count
+      → take (count - (at - from)) (drop (at - from) room) ≡ take (count - (at - from)) (drop at file)
+  further_on count from at is before within =
+      let gone = at - from in
+      let left = count - gone in
+      let parts : count ≡ gone + left = omega (arith, within) in
+      let place : from + gone ≡ at = omega (arith, before) in
+      sym (drop-take gone left room) ∙ ap (λ k. drop gone (take k room)) (sym parts) ∙ ap (drop gone) is
+      ∙ ap (λ k. drop gone (take k (drop from file))) parts ∙ drop-take gone left (drop from file)
+      ∙ ap (take left) (drop-drop gone from file ∙ ap (λ k. drop k file) place)
 
 -- what holds anyway holds where a call fails
 pub on_error : {A E : Type 0} (answer : Result A E) (P : Type 0) → P → OnErr answer P
 on_error (Ok value) P holds = tt
 on_error (Err why) P holds = holds
-
--- a room of which all was written over
-pub room_after : (old new : List ℕ) → length new ≡ length old → take (length old) (new ++ drop (length new) old) ≡ new
-room_after old new same =
-    let nothing : drop (length new) old ≡ [] = drop_all (length new) old (omega (arith, same)) in
-    ap (λ rest. take (length old) (new ++ rest)) nothing ∙ ap (take (length old)) (append-nil new) ∙ take_all (length old) new (omega (arith, same))

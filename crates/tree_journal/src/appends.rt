@@ -7,7 +7,7 @@ ghost use Rattle.tree_journal.specs.Private.Fronts.{IsLast, IsReached, Stands};
 ghost use Rattle.tree_journal.specs.Records.{AreRecordsFrom, IsRecordAt, records, record_text, bodies_from, is_named};
 ghost use Rattle.tree_journal.specs.declared.refusals.JournalRefusal.TheVariants.{Closed, DiskFault};
 
-use crate::journals::Journal;
+use crate::journals::{Ahead, Journal};
 use crate::refusals::JournalRefusal;
 use byteorder::{BigEndian, ByteOrder};
 use gd_disk::{Disk, Failed};
@@ -56,6 +56,7 @@ impl<D: Disk> Journal<D> {
             return Err(JournalRefusal::Closed);
         }
         let gate = self.end.unwrap();
+        self.ahead = Ahead::NONE;
         match write_record(&mut self.disk, gate, self.piece.as_mut_slice(), body) {
             Ok(()) => {
                 self.end = Some(gate + 5 + body.len() as u64);

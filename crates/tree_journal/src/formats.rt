@@ -6,7 +6,7 @@ ghost use Rattle.tree_journal.specs.Crashes.{disk_in, FoundFault, Opens, IsCutOf
 ghost use Rattle.tree_journal.specs.Records.{records, bodies_from, is_named, front_text};
 ghost use Rattle.tree_journal.specs.declared.refusals.JournalRefusal.TheVariants.{DiskFault, NotAJournal, NoMemory as OutOfMemory};
 
-use crate::journals::{FIRST, Journal, room};
+use crate::journals::{Ahead, FIRST, Journal, room};
 use crate::reads::read_front;
 use crate::refusals::{FormatRefusal, JournalRefusal};
 use gd_disk::{Disk, Failed, a_crash_may_leave_nothing_or_all};
@@ -47,6 +47,7 @@ impl<D: Disk> Journal<D> {
                 at: FIRST,
                 end: Some(FIRST),
                 piece,
+                ahead: Ahead::NONE,
             }),
             Err(Failed) => Err(FormatRefusal {
                 why: JournalRefusal::DiskFault,
@@ -80,6 +81,7 @@ impl<D: Disk> Journal<D> {
             at: FIRST,
             end: None,
             piece,
+            ahead: Ahead::NONE,
         };
         match journal.reopen() {
             Ok(()) => Ok(journal),
@@ -106,6 +108,7 @@ impl<D: Disk> Journal<D> {
         ensures reads { OnlyReads D.Disk (result ≡ Err DiskFault) self.old.disk self.new.disk }
     {
         self.closed = true;
+        self.ahead = Ahead::NONE;
         match read_name(&mut self.disk, self.piece.as_mut_slice()) {
             Ok(true) => {
                 self.closed = false;

@@ -11,8 +11,8 @@ use journal_gates::MOST;
 use std::alloc::Global;
 use std::marker::Model;
 
-/// A piece that is written at once: a length, a body and a clear commit mark.
-const PIECE: usize = 4 + MOST + 1;
+/// A piece that is written at once: a length, a body and a clear commit mark. A commit mark, a length and a body are as many octets.
+pub(crate) const PIECE: usize = 4 + MOST + 1;
 
 /// The place of the first record's commit mark: after a commit mark and eight octets.
 pub(crate) const FIRST: u64 = 9;
@@ -26,19 +26,37 @@ pub struct Journal<D: Disk> {
     pub(crate) at: u64,
     /// The place of the clear commit mark, once it was found.
     pub(crate) end: Option<u64>,
-    /// Room in which a piece is put together: as many octets as the longest has.
+    /// Room in which a piece is put together, or read: as many octets as the longest has.
     pub(crate) piece: Octets,
+    /// Which octets of the file are at the front of the room.
+    pub(crate) ahead: Ahead,
+}
+
+/// Octets of a file that were read ahead: so many from a place on.
+#[derive(Clone, Copy)]
+pub(crate) struct Ahead {
+    pub(crate) at: u64,
+    pub(crate) count: usize,
+}
+
+impl Ahead {
+    /// Nothing was read ahead.
+    pub(crate) const NONE: Ahead = Ahead { at: 0, count: 0 };
 }
 
 impl<D: Disk> Model for Journal<D> {
     ghost use Rattle.std.specs.Prelude.{◌≡◌, ◌≤◌, ◌+◌, ◌^◌, length, false, IfSome};
+    ghost use Rattle.gd_disk.specs.Disks.{Knows};
+    ghost use Rattle.gd_disk.specs.Moments.{shown};
+    ghost use Rattle.tree_journal.specs.Private.Found.{IsAhead};
     ghost use Rattle.tree_journal.specs.Private.Fronts.{Stands};
     ghost use Rattle.tree_journal.specs.Views.{View};
 
     ghost Value = { View D };
 
     ghost invariant = { λ journal. (length journal.piece ≡ 65541) × (journal.at ≤ 2 ^ 62 + 65541) ×
-        IfSome journal.end (λ end. end ≤ 2 ^ 62) × (journal.closed ≡ false → Stands D.Disk journal.disk journal.at journal.end) };
+        IfSome journal.end (λ end. end ≤ 2 ^ 62) × (journal.closed ≡ false → Stands D.Disk journal.disk journal.at journal.end) ×
+        (journal.ahead.count ≤ 65541) × Knows (shown D.Disk journal.disk) (IsAhead journal.piece journal.ahead) };
 
     ghost view = { λ journal. record { disk = journal.disk; closed = journal.closed; at = journal.at; end = journal.end } };
 }

@@ -1,46 +1,33 @@
 //! Reading the records.
-ghost use Rattle.std.specs.Prelude.{◌≡◌, ◌<◌, ◌≤◌, ◌^◌, ◌+◌, ◌∷◌, [], ℕ, List, length, min, nat_le, ◌-◌, ◌⊎◌, if◌then◌else◌, take, drop, true, false, None, Some, IsTrue, Ok, Err, IsErr, IfSome, IfOk, IfErr, OnErr};
+ghost use Rattle.std.specs.Prelude.{◌≡◌, ◌<◌, ◌≤◌, ◌^◌, ◌+◌, ◌∷◌, [], ℕ, List, length, min, nat_le, ◌-◌, ◌⊎◌, if◌then◌else◌, take, drop, true, false, None, Some, IsTrue, Ok, Err, IsErr, IfSome, IfOk, IfErr, OnOk, OnErr};
 ghost use Rattle.gd_disk.specs.Disks.{Knows};
 ghost use Rattle.gd_disk.specs.Moments.{shown, LeavesOnly, OnlyReads, ReportsFaults};
-ghost use Rattle.tree_journal.specs.Private.Found.{IsFound, IsNear, IsShort, IsShortRecord, near_octets};
-ghost use Rattle.journal_gates.specs.Heads.{head_in};
+ghost use Rattle.tree_journal.specs.Private.Found.{IsAhead, IsFound, IsSeen};
 ghost use Rattle.tree_journal.specs.Records.{IsRecordAt, bodies_from, with_front};
 ghost use Rattle.tree_journal.specs.declared.reads.Found.TheVariants.{Record, Nothing};
-ghost use Rattle.journal_gates.specs.declared.heads.Head.TheVariants.{Open};
-ghost use Rattle.tree_journal.specs.declared.reads.Near.TheVariants.{Whole};
 ghost use Rattle.tree_journal.specs.declared.refusals.JournalRefusal.TheVariants.{Closed, DiskFault, NotAJournal, NoMemory as OutOfMemory};
 
-use crate::journals::Journal;
+use crate::journals::{Ahead, Journal, PIECE};
 use crate::refusals::JournalRefusal;
 use gd_disk::{Disk, Failed};
 use group_terms::{NoMemory, Octets};
 use journal_gates::{Head, head_in};
-use std::alloc::Global;
 
 /// A commit mark and a length.
 const HEAD: usize = 5;
 
-/// How many octets are read first. Most records end within them.
-const NEAR: usize = 2048;
+/// No file has octets from this place on.
+const FAR: u64 = 1 << 62;
 
 /// What is at a place of a file.
-#[derive(Drop)]
+#[derive(Clone, Copy)]
 pub(crate) enum Found {
     /// A set commit mark, and a whole record.
-    Record { body: Octets },
+    Record,
     /// A clear commit mark.
     End,
-    /// Neither.
+    /// Neither; or too few octets were looked at.
     Nothing,
-}
-
-/// What the first octets at a place of a file show of what is there.
-#[derive(Drop)]
-pub(crate) enum Near {
-    /// All of it.
-    Whole { found: Found },
-    /// That there is a set commit mark, and that `size` octets are due after it and the length, of which some are further on.
-    Begun { size: usize },
 }
 
 impl<D: Disk> Journal<D> {
@@ -49,7 +36,7 @@ impl<D: Disk> Journal<D> {
     ///
     /// `Closed` after a fault of the disk, `DiskFault`, `NoMemory` for the body, and `NotAJournal` at a commit mark that is missing, or at a
     /// set one that no whole record follows.
-    pub fn read_next(&mut self, alloc: Global, body: &mut Octets) -> Result<bool, JournalRefusal>
+    pub fn read_next(&mut self, body: &mut Octets) -> Result<bool, JournalRefusal>
         ensures whole { result ≡ Ok true → Knows (shown D.Disk self.old.disk) (λ file. IsRecordAt file self.old.at body.new) }
         ensures ahead { result ≡ Ok true → Knows (shown D.Disk self.old.disk)
             (λ file. bodies_from file self.old.at ≡ with_front (body.new ∷ []) (bodies_from file self.new.at)) }
@@ -73,7 +60,7 @@ impl<D: Disk> Journal<D> {
         ensures goes_on { (result ≡ Err DiskFault → ⊥) → self.new.closed ≡ self.old.closed }
         ensures disk { ReportsFaults D.Disk (result ≡ Err DiskFault) self.old.disk self.new.disk }
     {
-        if !self.peek(alloc, body)? {
+        if !self.peek(body)? {
             return Ok(false);
         }
         self.pass(body.as_slice());
@@ -81,7 +68,7 @@ impl<D: Disk> Journal<D> {
     }
 
     /// Like `read_next`, but does not advance.
-    pub fn peek(&mut self, alloc: Global, body: &mut Octets) -> Result<bool, JournalRefusal>
+    pub fn peek(&mut self, body: &mut Octets) -> Result<bool, JournalRefusal>
         ensures whole { result ≡ Ok true → Knows (shown D.Disk self.old.disk) (λ file. IsRecordAt file self.old.at body.new) }
         ensures ended { result ≡ Ok false → Knows (shown D.Disk self.old.disk) (λ file. bodies_from file self.old.at ≡ Ok []) }
         ensures broken { IfErr result (λ why. (at : ℕ) → why ≡ NotAJournal at →
@@ -106,11 +93,8 @@ impl<D: Disk> Journal<D> {
         if self.closed {
             return Err(JournalRefusal::Closed);
         }
-        match self.next(alloc)? {
-            Found::Record { body: octets } => {
-                *body = octets;
-                Ok(true)
-            }
+        match self.next(body)? {
+            Found::Record => Ok(true),
             Found::End => {
                 self.end = Some(self.at);
                 Ok(false)
@@ -131,13 +115,14 @@ impl<D: Disk> Journal<D> {
         self.at += (HEAD + body.len()) as u64;
     }
 
-    /// What is at the place where reading goes on, which stays.
-    fn next(&mut self, alloc: Global) -> Result<Found, JournalRefusal>
+    /// What is at the place where reading goes on, which stays; the body of a record is put in place of the one before.
+    fn next(&mut self, body: &mut Octets) -> Result<Found, JournalRefusal>
         requires { self.old.closed ≡ false }
-        ensures found { IfOk result (λ found. Knows (shown D.Disk self.old.disk) (λ file. IsFound file self.old.at found)) }
+        ensures found { IfOk result (λ found. Knows (shown D.Disk self.old.disk) (λ file. IsFound file self.old.at body.new found)) }
         ensures memory { result ≡ Err OutOfMemory → Knows (shown D.Disk self.old.disk)
             (λ file. (body : List ℕ) × IsRecordAt file self.old.at body) }
-        ensures short { IfOk result (λ found. (body : List ℕ) → found ≡ Record body → length body ≤ 65536) }
+        ensures short { result ≡ Ok Record → length body.new ≤ 65536 }
+        ensures kept { (result ≡ Ok Record → ⊥) → body.new ≡ body.old }
         ensures far { 2 ^ 62 ≤ self.old.at → IfOk result (λ found. found ≡ Nothing) }
         ensures same { shown D.Disk self.new.disk ≡ shown D.Disk self.old.disk }
         ensures any_moment { Knows (shown D.Disk self.old.disk) (λ file. LeavesOnly D.Disk self.old.disk self.new.disk (λ c. c ≡ file)) }
@@ -146,7 +131,13 @@ impl<D: Disk> Journal<D> {
         ensures no_other { IfErr result (λ why. (why ≡ DiskFault) ⊎ (why ≡ OutOfMemory)) }
         ensures disk { ReportsFaults D.Disk (result ≡ Err DiskFault) self.old.disk self.new.disk }
     {
-        let found = found_at(alloc, &mut self.disk, self.at, self.piece.as_mut_slice());
+        let found = found_at(
+            &mut self.disk,
+            self.at,
+            self.piece.as_mut_slice(),
+            &mut self.ahead,
+            body,
+        );
         if matches!(found, Err(JournalRefusal::DiskFault)) {
             self.closed = true;
         }
@@ -154,112 +145,132 @@ impl<D: Disk> Journal<D> {
     }
 }
 
-/// What is at a place of a file, by the octets that are read into a room: `DiskFault`, and `NoMemory` for a body.
+/// What is at a place of a file, by what was read ahead into a room, or else by what is read from there on: `DiskFault`, and `NoMemory` for a body.
 fn found_at<D: Disk>(
-    alloc: Global,
     disk: &mut D,
     at: u64,
     room: &mut [u8],
+    ahead: &mut Ahead,
+    body: &mut Octets,
 ) -> Result<Found, JournalRefusal>
-    requires near { at ≤ 2 ^ 62 + 65541 }
     requires room { length room.old ≡ 65541 }
-    ensures found { IfOk result (λ found. Knows (shown D.Disk disk.old) (λ file. IsFound file at found)) }
+    requires count { ahead.old.count ≤ 65541 }
+    requires ahead { Knows (shown D.Disk disk.old) (IsAhead room.old ahead.old) }
+    ensures found { IfOk result (λ found. Knows (shown D.Disk disk.old) (λ file. IsFound file at body.new found)) }
     ensures memory { result ≡ Err OutOfMemory → Knows (shown D.Disk disk.old) (λ file. (body : List ℕ) × IsRecordAt file at body) }
-    ensures short { IfOk result IsShortRecord }
+    ensures short { result ≡ Ok Record → length body.new ≤ 65536 }
+    ensures kept { (result ≡ Ok Record → ⊥) → body.new ≡ body.old }
     ensures far { 2 ^ 62 ≤ at → IfOk result (λ found. found ≡ Nothing) }
-    ensures crash { Knows (shown D.Disk disk.old) (λ _. (c : List ℕ) → D.may_leave disk.new c → D.may_leave disk.old c) }
     ensures no_other { IfErr result (λ why. (why ≡ DiskFault) ⊎ (why ≡ OutOfMemory)) }
     ensures reads { OnlyReads D.Disk (result ≡ Err DiskFault) disk.old disk.new }
     ensures size { length room.new ≡ length room.old }
+    ensures count { ahead.new.count ≤ 65541 }
+    ensures ahead { Knows (shown D.Disk disk.old) (IsAhead room.new ahead.new) }
 {
-    match near_at(alloc, disk, at, room)? {
-        Near::Whole { found } => Ok(found),
-        Near::Begun { size } => begun_at(alloc, disk, at, room, size),
+    match found_ahead(room, *ahead, at, body)? {
+        Found::Record => Ok(Found::Record),
+        Found::End => Ok(Found::End),
+        Found::Nothing => found_further(disk, at, room, ahead, body),
     }
 }
 
-/// What the first octets there show.
-fn near_at<D: Disk>(
-    alloc: Global,
+/// What is at a place, by what is read from there on.
+fn found_further<D: Disk>(
     disk: &mut D,
     at: u64,
     room: &mut [u8],
-) -> Result<Near, JournalRefusal>
-    requires { length room.old ≡ 65541 }
-    ensures near { IfOk result (λ near. Knows (shown D.Disk disk.old) (λ file. IsNear file at near)) }
-    ensures memory { result ≡ Err OutOfMemory → Knows (shown D.Disk disk.old) (λ file. (body : List ℕ) × IsRecordAt file at body) }
-    ensures short { IfOk result IsShort }
-    ensures far { 2 ^ 62 ≤ at → IfOk result (λ near. near ≡ Whole Nothing) }
-    ensures crash { Knows (shown D.Disk disk.old) (λ _. (c : List ℕ) → D.may_leave disk.new c → D.may_leave disk.old c) }
-    ensures no_other { IfErr result (λ why. (why ≡ DiskFault) ⊎ (why ≡ OutOfMemory)) }
-    ensures reads { OnlyReads D.Disk (result ≡ Err DiskFault) disk.old disk.new }
-    ensures size { length room.new ≡ length room.old }
-{
-    let count = read_front(disk, at, room, NEAR)?;
-    Ok(near_in(alloc, &room[..count])?)
-}
-
-/// What is at a set commit mark after which `size` octets are due, of which some may be missing.
-fn begun_at<D: Disk>(
-    alloc: Global,
-    disk: &mut D,
-    at: u64,
-    room: &mut [u8],
-    size: usize,
+    ahead: &mut Ahead,
+    body: &mut Octets,
 ) -> Result<Found, JournalRefusal>
-    requires near { at ≤ 2 ^ 62 + 65541 }
-    requires room { length room.old ≡ 65541 }
-    requires short { size ≤ 65536 }
-    requires begun { Knows (shown D.Disk disk.old) (λ file. head_in (take 5 (drop at file)) ≡ Open size) }
-    ensures found { IfOk result (λ found. Knows (shown D.Disk disk.old) (λ file. IsFound file at found)) }
+    requires { length room.old ≡ 65541 }
+    ensures found { IfOk result (λ found. Knows (shown D.Disk disk.old) (λ file. IsFound file at body.new found)) }
     ensures memory { result ≡ Err OutOfMemory → Knows (shown D.Disk disk.old) (λ file. (body : List ℕ) × IsRecordAt file at body) }
-    ensures short { IfOk result IsShortRecord }
-    ensures crash { Knows (shown D.Disk disk.old) (λ _. (c : List ℕ) → D.may_leave disk.new c → D.may_leave disk.old c) }
+    ensures short { result ≡ Ok Record → length body.new ≤ 65536 }
+    ensures kept { (result ≡ Ok Record → ⊥) → body.new ≡ body.old }
+    ensures far { 2 ^ 62 ≤ at → IfOk result (λ found. found ≡ Nothing) }
     ensures no_other { IfErr result (λ why. (why ≡ DiskFault) ⊎ (why ≡ OutOfMemory)) }
     ensures reads { OnlyReads D.Disk (result ≡ Err DiskFault) disk.old disk.new }
     ensures size { length room.new ≡ length room.old }
+    ensures count { ahead.new.count ≤ 65541 }
+    ensures ahead { Knows (shown D.Disk disk.old) (IsAhead room.new ahead.new) }
 {
-    let count = read_front(disk, at + HEAD as u64, room, size)?;
-    Ok(begun_in(alloc, &room[..count], size)?)
+    let count = read_ahead(disk, at, room, ahead)?;
+    Ok(found_in(&room[..count], body)?)
 }
 
-/// The record of a body of which these octets are there; `NoMemory` where there is none for all of them.
-fn begun_in(alloc: Global, octets: &[u8], size: usize) -> Result<Found, NoMemory>
-    requires { size ≤ 65536 }
-    ensures found { (file : List ℕ) (at : ℕ) → head_in (take 5 (drop at file)) ≡ Open size → octets.now ≡ take size (drop (at + 5) file) →
-        IfOk result (IsFound file at) }
-    ensures memory { (file : List ℕ) (at : ℕ) → head_in (take 5 (drop at file)) ≡ Open size → octets.now ≡ take size (drop (at + 5) file) →
-        OnErr result ((body : List ℕ) × IsRecordAt file at body) }
-    ensures short { IfOk result IsShortRecord }
+/// What is at a place, if what was read ahead shows it.
+fn found_ahead(room: &[u8], ahead: Ahead, at: u64, body: &mut Octets) -> Result<Found, NoMemory>
+    requires count { ahead.count ≤ length room.now }
+    ensures seen { (file : List ℕ) → IsAhead room.now ahead file → IfOk result (IsSeen file at body.new) }
+    ensures memory { (file : List ℕ) → IsAhead room.now ahead file → OnErr result ((body : List ℕ) × IsRecordAt file at body) }
+    ensures short { result ≡ Ok Record → length body.new ≤ 65536 }
+    ensures kept { (result ≡ Ok Record → ⊥) → body.new ≡ body.old }
+    ensures far { 2 ^ 62 ≤ at → result ≡ Ok Nothing }
 {
-    if octets.len() < size {
+    if at < ahead.at || at >= FAR {
         return Ok(Found::Nothing);
     }
-    let body = Octets::copy_of(alloc, &octets[..size])?;
-    Ok(Found::Record { body })
+    let from = at - ahead.at;
+    if from >= ahead.count as u64 {
+        return Ok(Found::Nothing);
+    }
+    found_in(&room[from as usize..ahead.count], body)
 }
 
-/// What the first octets at a commit mark show of what is there; `NoMemory` where there is none for a record.
-fn near_in(alloc: Global, octets: &[u8]) -> Result<Near, NoMemory>
-    ensures near { (file : List ℕ) (at : ℕ) → octets.now ≡ take near_octets (drop at file) → IfOk result (IsNear file at) }
-    ensures memory { (file : List ℕ) (at : ℕ) → octets.now ≡ take near_octets (drop at file) →
+/// Reads octets from a place on to the front of a room, until it is full or the file ends, and says how many.
+fn read_ahead<D: Disk>(
+    disk: &mut D,
+    at: u64,
+    room: &mut [u8],
+    ahead: &mut Ahead,
+) -> Result<usize, Failed>
+    requires { length room.old ≡ 65541 }
+    ensures octets { IfOk result (λ n. Knows (shown D.Disk disk.old) (λ file. take n room.new ≡ take 65541 (drop at file))) }
+    ensures far { 2 ^ 62 ≤ at → IfOk result (λ n. n ≡ 0) }
+    ensures reads { OnlyReads D.Disk (IsErr result) disk.old disk.new }
+    ensures size { length room.new ≡ length room.old }
+    ensures within { IfOk result (λ n. n ≤ 65541) }
+    ensures count { ahead.new.count ≤ 65541 }
+    ensures ahead { Knows (shown D.Disk disk.old) (IsAhead room.new ahead.new) }
+{
+    *ahead = Ahead::NONE;
+    let count = read_front(disk, at, room, PIECE)?;
+    *ahead = Ahead { at, count };
+    Ok(count)
+}
+
+/// What the first octets at a commit mark show of what is there; `NoMemory` where there is none for a body.
+fn found_in(octets: &[u8], body: &mut Octets) -> Result<Found, NoMemory>
+    ensures seen { (file : List ℕ) (at n : ℕ) → octets.now ≡ take n (drop at file) → IfOk result (IsSeen file at body.new) }
+    ensures found { (file : List ℕ) (at : ℕ) → octets.now ≡ take 65541 (drop at file) → IfOk result (IsFound file at body.new) }
+    ensures memory { (file : List ℕ) (at n : ℕ) → octets.now ≡ take n (drop at file) →
         OnErr result ((body : List ℕ) × IsRecordAt file at body) }
-    ensures short { IfOk result IsShort }
-    ensures none { length octets.now ≡ 0 → IfOk result (λ near. near ≡ Whole Nothing) }
+    ensures short { result ≡ Ok Record → length body.new ≤ 65536 }
+    ensures kept { (result ≡ Ok Record → ⊥) → body.new ≡ body.old }
+    ensures none { length octets.now ≡ 0 → result ≡ Ok Nothing }
 {
     let size = match head_in(&octets[..octets.len().min(HEAD)]) {
         Head::Open { size } => size,
-        Head::Shut => return Ok(Near::Whole { found: Found::End }),
-        Head::Broken => return Ok(Near::Whole {
-            found: Found::Nothing,
-        }),
+        Head::Shut => return Ok(Found::End),
+        Head::Broken => return Ok(Found::Nothing),
     };
     if octets.len() < HEAD + size {
-        return Ok(Near::Begun { size });
+        return Ok(Found::Nothing);
     }
-    let body = Octets::copy_of(alloc, &octets[HEAD..HEAD + size])?;
-    let found = Found::Record { body };
-    Ok(Near::Whole { found })
+    replace(body, &octets[HEAD..HEAD + size])?;
+    Ok(Found::Record)
+}
+
+/// Puts octets in place of those of a text, which is as it was if out of memory for them.
+fn replace(text: &mut Octets, octets: &[u8]) -> Result<(), NoMemory>
+    ensures ok { OnOk result (text.new ≡ octets.now) }
+    ensures err { OnErr result (text.new ≡ text.old) }
+{
+    text.extend(octets)?;
+    let (front, _) = text.as_mut_slice().split_at_mut(octets.len());
+    front.copy_from_slice(octets);
+    text.truncate(octets.len());
+    Ok(())
 }
 
 /// Reads octets from a place on to the front of a room, as many as are there but not more than `size`, and says how many.
@@ -274,7 +285,6 @@ pub(crate) fn read_front<D: Disk>(
     ensures count { IfOk result (λ n. n ≤ size) }
     ensures far { 2 ^ 62 ≤ at → IfOk result (λ n. n ≡ 0) }
     ensures whole { IfOk result (λ n. Knows (shown D.Disk disk.old) (λ file. n ≡ min size (length file - at))) }
-    ensures crash { Knows (shown D.Disk disk.old) (λ _. (c : List ℕ) → D.may_leave disk.new c → D.may_leave disk.old c) }
     ensures reads { OnlyReads D.Disk (IsErr result) disk.old disk.new }
     ensures size { length room.new ≡ length room.old }
 {

@@ -1,8 +1,8 @@
 -- What is known of the next record of a file, and what was read so far.
 -- A tree stands for batches and keeps their values apart from each other (`IsTreeAfter`, `KeepsLast`).
-use Rattle.std.proofs.Common.{◌≡◌, ◌∙◌, inr, ℕ, ◌+◌, ◌^◌, List, [], ◌∷◌, ◌++◌, length, map, Option, None, Some, refl, sym, ap, subst}
+use Rattle.std.proofs.Common.{◌≡◌, ◌∙◌, inr, ℕ, ◌+◌, ◌^◌, List, [], ◌∷◌, ◌++◌, length, map, Option, None, Some, false, true, refl, sym, subst}
+use Rattle.std.specs.Prelude.{is_some}
 use Rattle.std.proofs.lemmas.List.{map-append}
-use Rattle.group_terms.specs.declared.changes.Change.{Change}
 use Rattle.group_values.specs.Values.{KeepsLast}
 use Rattle.key_tree.specs.Present.{IsTreeAfter, Present, StandsFor}
 use Rattle.group_records.specs.declared.batches.Stored.{Stored}
@@ -11,7 +11,7 @@ use Rattle.group_records.specs.Records.{Record, a_head, a_batch, IsReadAs}
 use Rattle.tree_journal.specs.Records.{IsRecordAt}
 use Rattle.tree_store.specs.declared.dues.Due.{Due}
 use Rattle.tree_store.specs.Groups.{IsAfter, IsDue, IsDueAfter, IsGroupTo, HasNoneAt, batches_of, made_of}
-use Rattle.tree_store.specs.Private.Dues.{IsInstallable, IsNext}
+use Rattle.tree_store.specs.Private.Dues.{IsNext}
 use Rattle.tree_store.specs.Views.{ReadSoFar}
 use Rattle.tree_store.specs.Replays.{IsDueIn, IsLastOf, IsReadAfter, IsReplayOf, IsTreeOf}
 use Rattle.tree_store.proofs.GroupLemmas.{group_then}
@@ -42,10 +42,14 @@ module _ (file : List ℕ) (head : Head) (tree : Present) (body : List ℕ) (at 
         subst (IsReadAfter head list next) (sym is)
         (record { tree = made; due = due; last = refl; replayed = record { before = list; tree = made; last = (due, refl) } })
 
--- a tree can take it in
-pub installable : (body : List ℕ) (tree now : Present) (limit : ℕ) (next : Due) → tree ≡ now → IsNext body tree limit (Some next) → IsInstallable now next
-installable body tree now limit next same found =
-    subst (λ (t : Present). IsInstallable t next) same (record { ready = found.1.0.ready; drawn = found.1.1 })
+-- whether there is a last batch
+pub some_last : (last : Option Due) → true ≡ is_some last → (next : Due) × (last ≡ Some next)
+some_last None is = absurd (cc is)
+some_last (Some next) is = (next, refl)
+
+pub no_last : (last : Option Due) → false ≡ is_some last → last ≡ None
+no_last None is = refl
+no_last (Some next) is = absurd (cc is)
 
 -- once the last batch is in the tree
 module _ (head : Head) (tree now : Present) (before : List Stored) (next : Due) (made : IsTreeOf head tree before) (due : IsDueIn head tree before next) where

@@ -1,9 +1,9 @@
 //! Whether a batch that was stored is due.
-ghost use Rattle.std.specs.Prelude.{◌≡◌, ◌≤◌, ◌↔◌, length, IsTrue, IfOk};
+ghost use Rattle.std.specs.Prelude.{◌≡◌, ◌↔◌, IsTrue, IfOk};
 ghost use Rattle.group_values.specs.Values.{ids_of};
-ghost use Rattle.tree_store.specs.Private.Dues.{IsFollowed, IsNext};
+ghost use Rattle.tree_store.specs.Private.Dues.{IsFollowed};
 
-use group_records::{RecordFault, Stored, read_batch};
+use group_records::Stored;
 use group_terms::{Drawn, LkhId, NoMemory};
 use key_tree::{KeyTree, Marked};
 use std::alloc::Global;
@@ -15,30 +15,8 @@ pub struct Due {
     pub marked: Marked,
 }
 
-/// The batch of a record, and what it makes of a tree; `None` where the record is not that of a batch that is due after those for which the tree stands.
-/// `NoMemory` if out of memory for it.
-pub(crate) fn next_in(
-    alloc: Global,
-    body: &[u8],
-    tree: &KeyTree,
-    limit: u32,
-) -> Result<Option<Due>, NoMemory>
-    requires { length body.now ≤ 65536 }
-    ensures { IfOk result (IsNext body.now tree.now limit) }
-{
-    let stored = match read_batch(alloc, body) {
-        Ok(stored) => stored,
-        Err(RecordFault::NoMemory) => return Err(NoMemory),
-        Err(RecordFault::Malformed { .. }) => return Ok(None),
-    };
-    match marked_due(alloc, tree, &stored, limit)? {
-        Some(marked) => Ok(Some(Due { stored, marked })),
-        None => Ok(None),
-    }
-}
-
 /// What a batch makes of a tree, if it is due after those for which the tree stands; `None` where it is not. `NoMemory` if out of memory for that.
-fn marked_due(
+pub(crate) fn marked_due(
     alloc: Global,
     tree: &KeyTree,
     stored: &Stored,

@@ -75,7 +75,7 @@ impl<D: Disk> TreeStore<D> {
     {
         let mut journal = Journal::open(alloc, disk)?;
         let mut body = Octets::new(alloc);
-        match read_first(alloc, &mut journal, &mut body) {
+        match read_first(&mut journal, &mut body) {
             Ok(head) => Ok(TreeStore {
                 journal,
                 head,
@@ -92,7 +92,7 @@ impl<D: Disk> TreeStore<D> {
     ///
     /// `NoMemory` if out of memory for its head, `DiskFault` if the disk failed, and `NotAJournal` at 0 or 9 where the file has no head of a group.
     /// After a refusal the store is closed, until it is opened again.
-    pub fn reopen(&mut self, alloc: Global) -> Result<(), JournalRefusal>
+    pub fn reopen(&mut self) -> Result<(), JournalRefusal>
         ensures read { OnOk result (Knows (shown D.Disk self.old.disk) (λ file. IsGroupTo file self.new.head [] self.new.at)) }
         ensures began { OnOk result ((self.new.closed ≡ false) × (self.new.end ≡ None)) }
         ensures broken { IfErr result (λ why. (at : ℕ) → why ≡ NotAJournal at →
@@ -106,7 +106,7 @@ impl<D: Disk> TreeStore<D> {
         ensures reads { OnlyReads D.Disk (result ≡ Err DiskFault) self.old.disk self.new.disk }
     {
         self.journal.reopen()?;
-        match read_first(alloc, &mut self.journal, &mut self.body) {
+        match read_first(&mut self.journal, &mut self.body) {
             Ok(head) => {
                 self.head = head;
                 Ok(())
@@ -134,11 +134,7 @@ fn head_record(alloc: Global, head: &Head) -> Result<Octets, NoMemory>
 
 /// Reads the head, which is the first record. `NoMemory` if out of memory for that, `DiskFault` if the disk failed, and `NotAJournal` at 9 where there is
 /// no head.
-fn read_first<D: Disk>(
-    alloc: Global,
-    journal: &mut Journal<D>,
-    body: &mut Octets,
-) -> Result<Head, JournalRefusal>
+fn read_first<D: Disk>(journal: &mut Journal<D>, body: &mut Octets) -> Result<Head, JournalRefusal>
     requires began { journal.old ≡ record { disk = journal.old.disk; closed = false; at = 9; end = None } }
     ensures read { IfOk result (λ head. Knows (shown D.Disk journal.old.disk) (λ file. IsGroupTo file head [] journal.new.at)) }
     ensures shallow { IfOk result (λ head. 1 ≤ head.depth) }
@@ -155,7 +151,7 @@ fn read_first<D: Disk>(
 {
     journal.prove_at_rest();
     let at = journal.place();
-    if !journal.read_next(alloc, body)? {
+    if !journal.read_next(body)? {
         return Err(JournalRefusal::NotAJournal { at });
     }
     match head_in(body.as_slice()) {

@@ -9,7 +9,6 @@ ghost use Rattle.tree_store.specs.declared.dues.Due.{Due};
 ghost use Rattle.tree_store.specs.Groups.{IsGroup, IsGroupTo, HasNoneAt};
 ghost use Rattle.tree_store.specs.Replays.{IsReadAfter, IsReplayOf};
 
-use crate::dues::next_in;
 use crate::replays::Replay;
 use crate::stores::TreeStore;
 use gd_disk::Disk;
@@ -53,17 +52,15 @@ impl<D: Disk> TreeStore<D> {
     {
         records_are_the_next_ones();
         a_read_batch_has_a_high_spi();
-        if !self.journal.peek(alloc, &mut self.body)? {
+        if !self.journal.peek(&mut self.body)? {
             return Ok(false);
         }
         replay.settle();
         let at = self.journal.place();
-        let Some(next) = next_in(alloc, self.body.as_slice(), replay.tree(), self.head.limit)?
-        else {
+        if !replay.go_on(alloc, self.body.as_slice(), self.head.limit)? {
             return Err(JournalRefusal::NotAJournal { at });
-        };
+        }
         self.journal.pass(self.body.as_slice());
-        replay.keep(next);
         Ok(true)
     }
 }

@@ -1,12 +1,12 @@
 //! What was read of a store.
-ghost use Rattle.std.specs.Prelude.{◌≡◌, ◌≤◌, [], List, None, Some, IfOk, option_copied};
+ghost use Rattle.std.specs.Prelude.{◌≡◌, ◌≤◌, [], List, length, None, is_some, IfOk, OnErr, option_copied};
 ghost use Rattle.group_records.specs.declared.batches.Stored.{Stored};
 ghost use Rattle.group_records.specs.declared.heads.Head.{Head};
-ghost use Rattle.tree_store.specs.Private.Dues.{IsInstallable};
+ghost use Rattle.tree_store.specs.Private.Dues.{IsNext};
 ghost use Rattle.tree_store.specs.Replays.{IsReplayOf, IsTreeOf};
 
-use crate::dues::Due;
-use group_records::Head;
+use crate::dues::{Due, marked_due};
+use group_records::{Head, RecordFault, read_batch};
 use group_terms::NoMemory;
 use key_tree::KeyTree;
 use std::alloc::Global;
@@ -60,13 +60,6 @@ impl Replay {
         (tree, last)
     }
 
-    /// The tree.
-    pub(crate) fn tree(&self) -> &KeyTree
-        ensures { result.now ≡ self.now.tree }
-    {
-        &self.tree
-    }
-
     /// Puts the last batch into the tree, if it is not there yet.
     pub(crate) fn settle(&mut self)
         ensures tree { (head : Head) (list : List Stored) → IsReplayOf head self.old list → IsTreeOf head self.new.tree list }
@@ -81,11 +74,26 @@ impl Replay {
         }
     }
 
-    /// Goes on with the next batch, the last one from now on.
-    pub(crate) fn keep(&mut self, next: Due)
-        requires { IsInstallable self.old.tree next }
-        ensures { self.new ≡ record self.old { last = Some next } }
+    /// Goes on with the batch of a record, the last one from now on, and says whether it is due after those of the tree. `NoMemory` if out of memory for it.
+    pub(crate) fn go_on(&mut self, alloc: Global, body: &[u8], limit: u32) -> Result<bool, NoMemory>
+        requires few { length body.now ≤ 65536 }
+        requires settled { self.old.last ≡ None }
+        ensures next { IfOk result (λ _. IsNext body.now self.old.tree limit self.new.last) }
+        ensures due { IfOk result (λ is_due. is_due ≡ is_some self.new.last) }
+        ensures tree { self.new.tree ≡ self.old.tree }
+        ensures same { OnErr result (self.new ≡ self.old) }
     {
-        self.last = Some(next);
+        let stored = match read_batch(alloc, body) {
+            Ok(stored) => stored,
+            Err(RecordFault::NoMemory) => return Err(NoMemory),
+            Err(RecordFault::Malformed { .. }) => return Ok(false),
+        };
+        match marked_due(alloc, &self.tree, &stored, limit)? {
+            Some(marked) => {
+                self.last = Some(Due { stored, marked });
+                Ok(true)
+            }
+            None => Ok(false),
+        }
     }
 }

@@ -32,7 +32,7 @@ fn read_sizes(
 ) -> Result<(), JournalRefusal> {
     text.add(" records");
     let mut body = Octets::new(alloc);
-    while journal.read_next(alloc, &mut body)? {
+    while journal.read_next(&mut body)? {
         text.add_numbers(&[body.len() as u64]);
     }
     Ok(())

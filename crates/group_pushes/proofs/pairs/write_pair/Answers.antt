@@ -1,11 +1,11 @@
-use Rattle.std.proofs.Common.{◌≡◌, ◌-◌, ◌+◌, ◌^◌, ◌∙◌, List, All, length, ap, arith, subst, sym}
+use Rattle.std.proofs.Common.{◌≡◌, ◌-◌, ◌+◌, ◌^◌, ◌∙◌, List, length, ap, subst, sym}
 use Rattle.group_terms.specs.declared.keys.Wrap.{Wrap}
 use Rattle.group_model.specs.Wraps.{IsBetween}
 use Rattle.group_model.specs.declared.entries.PushPair.{PushPair}
 use Rattle.push_msg.specs.declared.writers.PushHead.{PushHead}
 use Rattle.push_msg.specs.Texts.{IsPushText, membership_push, traffic_push}
 use Rattle.group_pushes.specs.Private.Jobs.{AreArraysAfter}
-use Rattle.group_pushes.proofs.PairLemmas.{Laws, a_pair, front_within, no_pair, root_low, wraps_are}
+use Rattle.group_pushes.proofs.PairLemmas.{Laws, a_pair, front_within, no_pair, wraps_are}
 use Rattle.group_pushes.proofs.pairs.write_pair.Goals as goal
 
 pub returns-in_default : goal.returns-in_default

@@ -1,9 +1,9 @@
-use Rattle.std.proofs.Common.{◌≡◌, ◌++◌, false, drop}
+use Rattle.std.proofs.Common.{◌≡◌, false, drop}
 use Rattle.std.specs.List.{list_any}
 use Rattle.group_terms.specs.Changes.{joiners}
 use Rattle.group_model.specs.Places.{Holders, is_member}
-use Rattle.key_tree.specs.Marks.{seated}
-use Rattle.key_tree.specs.Private.Seats.{IsLeft, IsTaken, IsVacant, placements, places_of}
+use Rattle.key_tree.specs.Private.Seats.{IsLeft, IsVacant, placements}
+use Rattle.key_tree.proofs.ComingLemmas.{GoesOn}
 use Rattle.key_tree.proofs.seats.take_all.Given as goal
 
 -- those so far and those that the others get are those that all get; and no other was a member
@@ -12,7 +12,5 @@ invariant-loop-change l = record {
   vacant : IsVacant l.vacant;
   left : l.vacant.left ≡ l.fn.vacant.left;
   taken : (before left : Holders) → IsLeft before left l.free.leaves l.fn.vacant.left → list_any (is_member before) (joiners l.batch) ≡ false
-      → (list_any (is_member before) (joiners (drop l.change-index l.batch)) ≡ false)
-      × (l.seats ++ placements (seated left l.seats) (joiners (drop l.change-index l.batch)) ≡ placements left (joiners l.batch))
-      × IsTaken before left (seated left l.seats) l.vacant.from (places_of l.seats);
+      → GoesOn before left (placements left (joiners l.batch)) l.fn.seats (drop l.change-index l.batch) l.seats l.vacant.from;
 }

@@ -1,4 +1,4 @@
-use Rattle.std.proofs.Common.{inl, arith}
+use Rattle.std.proofs.Common.{inl, refl, arith}
 use Rattle.gd_disk.specs.MomentLaws.{started}
 use Rattle.tree_journal.specs.Crashes.{IsCutOf}
 use Rattle.tree_journal.proofs.BeginLemmas.{begun_stands, not_begun}
@@ -11,6 +11,8 @@ invariant_of-result g c =
       omega arith,
       omega arith,
       λ goes. begun_stands g.D.Disk c.args.disk c.begin_file.new.disk c.begin_file.ensures.disk.keeps begun.octets begun.durable,
+      omega arith,
+      λ file is. refl,
     )
 
 pub returns-in_default-clause-moments : goal.returns-in_default-clause-moments

@@ -16,6 +16,8 @@ invariant_of-self g c =
       c.self.invariant.2,
       λ goes. moved g.D.Disk inside.disk inside.at inside.end (c.self.invariant.3 goes) c.args.body.now (λ file is.
           subst (λ (k : ℕ). IsRecordAt file k c.args.body.now) (sym at) (c.requires.there file (sym shows ∙ is))),
+      c.self.invariant.4,
+      c.self.invariant.5,
     )
 
 pub returns-clause-ahead : goal.returns-clause-ahead

@@ -10,7 +10,7 @@ pub invariant_of-self : goal.invariant_of-self
 invariant_of-self g c =
     let inside = c.self-2.inside in
     let now = c.args.self.now in
-    let next = c.in_ok-octets.ensures in
+    let next = c.in_ok-next.ensures in
     let at : inside.at ≡ now.at = ap (λ (journal : View g.row.D.Denot). journal.at) (c.self-2.view_is ∙ next.ok (λ no. cc no)) in
     let disk : inside.disk ≡ c.next.new.self.disk = ap (λ (journal : View g.row.D.Denot). journal.disk) c.self-2.view_is in
     let shows : shown g.D.Disk inside.disk ≡ shown g.D.Disk now.disk = ap (shown g.D.Disk) disk ∙ next.same in
@@ -22,5 +22,7 @@ invariant_of-self g c =
       c.self-2.invariant.1,
       omega (arith, at, near),
       λ goes. ended g.D.Disk inside.disk inside.at inside.end (c.self-2.invariant.3 goes) (λ file is.
-          subst (λ (k : ℕ). IsShutAt file k) (sym at) (subst (IsFound file now.at) c.in-End.is (next.found file (sym shows ∙ is)))),
+          subst (λ (k : ℕ). IsShutAt file k) (sym at) (subst (IsFound file now.at c.next.new.body) c.in-End.is (next.found file (sym shows ∙ is)))),
+      c.self-2.invariant.4,
+      c.self-2.invariant.5,
     )

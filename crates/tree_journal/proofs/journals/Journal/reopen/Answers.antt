@@ -1,4 +1,4 @@
-use Rattle.std.proofs.Common.{◌∙◌, ◌++◌, length, drop, sym, ap, arith, length-append, length-take}
+use Rattle.std.proofs.Common.{◌∙◌, ◌++◌, length, drop, sym, ap, refl, arith, length-append, length-take}
 use Rattle.tree_journal.proofs.BeginLemmas.{opened_stands}
 use Rattle.tree_journal.proofs.journals.Journal.reopen.Goals as goal
 
@@ -14,4 +14,6 @@ invariant_of-self g c =
       tt,
       λ goes. opened_stands g.D.Disk c.self.inside.disk c.read_name.new.disk read.reads.same
           (λ file is. sym c.in-Ok-true.field-0-test ∙ read.named file is) read.durable,
+      omega arith,
+      λ file is. refl,
     )

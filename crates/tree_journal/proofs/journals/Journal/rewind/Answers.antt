@@ -8,4 +8,6 @@ invariant_of-self g c = (
   omega arith,
   c.self.invariant.2,
   λ goes. rewound g.D.Disk c.self.inside.disk c.self.inside.at c.self.inside.end (c.self.invariant.3 goes),
+  c.self.invariant.4,
+  c.self.invariant.5,
 )

@@ -10,4 +10,6 @@ invariant_of-self g c =
       omega (arith, near),
       c.self.invariant.2,
       λ goes. at_end g.D.Disk inside.disk inside.at inside.end (c.self.invariant.3 goes) c.in-Some.end c.in-Some.is,
+      c.self.invariant.4,
+      c.self.invariant.5,
     )
